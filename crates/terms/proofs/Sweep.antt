@@ -1,0 +1,29 @@
+-- The sweep leaves normal terms as they are, and filling reads only the variables that occur. By induction on the term. Assumes nothing.
+use mathlib.Core.Path.{_≡_, refl, ap, ap₂}
+use mathlib.Core.Bool.{not}
+use mathlib.Core.Logic.{inl, inr}
+use Prim.Native.Nat.{ℕ}
+use lib.Dec.{T}
+use Rattle.terms.specs.Term.{Term, app, lam, loc, con, var, Normal, Occurs, redex, isAbstraction, isEta}
+use Rattle.terms.specs.Sweep.{sweep, contract, fill}
+use Rattle.terms.proofs.Tests.{false-of}
+
+pub contract-app : (f a : Term) → T (not (isAbstraction f)) → contract (app f a) ≡ app f a
+contract-app f a h = rw (false-of (isAbstraction f) h)
+
+pub contract-lam : (b : Term) → T (not (isEta b)) → contract (lam b) ≡ lam b
+contract-lam b h = rw (false-of (isEta b) h)
+
+pub sweep-normal : (t : Term) → Normal t → sweep t ≡ t
+sweep-normal (app f a) h = rw (sweep-normal f (h .1), sweep-normal a (h .2)) (contract-app f a (h .0))
+sweep-normal (lam b) h = rw (sweep-normal b (h .1)) (contract-lam b (h .0))
+sweep-normal (loc n) h = refl
+sweep-normal (con n) h = refl
+sweep-normal (var n) h = refl
+
+pub fill-same : (φ ψ : ℕ → Term) (p : Term) → ((i : ℕ) → Occurs i p → φ i ≡ ψ i) → fill φ p ≡ fill ψ p
+fill-same φ ψ (app f a) h = ap₂ app (fill-same φ ψ f (λ i o. h i (inl o))) (fill-same φ ψ a (λ i o. h i (inr o)))
+fill-same φ ψ (lam b) h = ap lam (fill-same φ ψ b h)
+fill-same φ ψ (loc n) h = refl
+fill-same φ ψ (con n) h = refl
+fill-same φ ψ (var n) h = h n refl

@@ -1,0 +1,199 @@
+-- Tables: a term is known from its records and from its bytes, the order of the bytes is the order of the records, and good records have
+-- variables in range. By induction on the term, for any way of writing a record that loses nothing. Assumes nothing.
+use mathlib.Core.Path.{_≡_, refl, sym, ap, ap₂, _∙_, subst}
+use mathlib.Core.Bool.{Bool, true, false, _&&_}
+use mathlib.Core.List.{List, [], _∷_, _++_, append-assoc, append-nil}
+use mathlib.Core.Logic.{_⊎_, inl, inr, _↔_}
+use Prim.Native.Nat.{ℕ, suc, _+_, _*_, _/_, _%_, _≤_, _<_}
+use native.Mathlib.Omega.{arith}
+use native.Mathlib.Nat.{div-add-mod'}
+use native.Mathlib.Decide.{decLt}
+use lib.Dec.{T, ltb}
+use lib.ListN.{length, getD, drop, length-append}
+use borrow.Author.Tests.{ltb-true}
+use Rattle.terms.specs.Term.{Term, app, lam, loc, con, var, size, Below}
+use Rattle.terms.specs.Table.{bytes, preorder, encode, goodRecords}
+use Rattle.terms.specs.Listing.{Lexicographic, records}
+
+-- the kind of a term's first record
+abbrev pub kind : Term → ℕ
+kind (app f a) = 0
+kind (lam b) = 1
+kind (loc n) = 2
+kind (con n) = 3
+kind (var n) = 4
+
+-- its number
+abbrev pub number : Term → ℕ
+number (app f a) = 0
+number (lam b) = 0
+number (loc n) = n
+number (con n) = n
+number (var n) = n
+
+-- a way of writing records that loses nothing
+pub record Lossless (w : ℕ → ℕ → List ℕ → List ℕ) : Type 0 where
+  pub more : (k n : ℕ) (r s : List ℕ) → w k n r ++ s ≡ w k n (r ++ s)
+  pub inj : (k m n l : ℕ) (r s : List ℕ) → w k n r ≡ w m l s → (k ≡ m) × (n ≡ l) × (r ≡ s)
+
+module _ (w : ℕ → ℕ → List ℕ → List ℕ) (lossless : Lossless w) where
+  -- the records behind the first
+  abbrev behind : Term → List ℕ
+  behind (app f a) = preorder w f ++ preorder w a
+  behind (lam b) = preorder w b
+  behind (loc n) = []
+  behind (con n) = []
+  behind (var n) = []
+
+  first : (t : Term) (r : List ℕ) → preorder w t ++ r ≡ w (kind t) (number t) (behind t ++ r)
+  first (app f a) r = lossless .more 0 0 (behind (app f a)) r
+  first (lam b) r = lossless .more 1 0 (behind (lam b)) r
+  first (loc n) r = lossless .more 2 n [] r
+  first (con n) r = lossless .more 3 n [] r
+  first (var n) r = lossless .more 4 n [] r
+
+  next : (s t : Term) (r q : List ℕ) → preorder w s ++ r ≡ preorder w t ++ q → (kind s ≡ kind t) × (number s ≡ number t) × (behind s ++ r ≡ behind t ++ q)
+  next s t r q p = lossless .inj (kind s) (kind t) (number s) (number t) (behind s ++ r) (behind t ++ q) (sym (first s r) ∙ p ∙ first t q)
+
+  -- a term is known from its records, whatever follows them
+  preorder-inj : (s t : Term) (r q : List ℕ) → preorder w s ++ r ≡ preorder w t ++ q → (s ≡ t) × (r ≡ q)
+  preorder-inj (app f a) (app g b) r q p =
+      let e = next (app f a) (app g b) r q p .2 in
+      let u = preorder-inj f g (preorder w a ++ r) (preorder w b ++ q) (sym (append-assoc (preorder w f) (preorder w a) r) ∙ e ∙ append-assoc (preorder w g) (preorder w b) q) in
+      let v = preorder-inj a b r q (u .1) in
+      (ap₂ app (u .0) (v .0), v .1)
+  preorder-inj (app f a) (lam c) r q p = absurd (omega (arith, next (app f a) (lam c) r q p .0))
+  preorder-inj (app f a) (loc m) r q p = absurd (omega (arith, next (app f a) (loc m) r q p .0))
+  preorder-inj (app f a) (con m) r q p = absurd (omega (arith, next (app f a) (con m) r q p .0))
+  preorder-inj (app f a) (var m) r q p = absurd (omega (arith, next (app f a) (var m) r q p .0))
+  preorder-inj (lam b) (app g a) r q p = absurd (omega (arith, next (lam b) (app g a) r q p .0))
+  preorder-inj (lam b) (lam c) r q p = let u = preorder-inj b c r q (next (lam b) (lam c) r q p .2) in (ap lam (u .0), u .1)
+  preorder-inj (lam b) (loc m) r q p = absurd (omega (arith, next (lam b) (loc m) r q p .0))
+  preorder-inj (lam b) (con m) r q p = absurd (omega (arith, next (lam b) (con m) r q p .0))
+  preorder-inj (lam b) (var m) r q p = absurd (omega (arith, next (lam b) (var m) r q p .0))
+  preorder-inj (loc n) (app g b) r q p = absurd (omega (arith, next (loc n) (app g b) r q p .0))
+  preorder-inj (loc n) (lam c) r q p = absurd (omega (arith, next (loc n) (lam c) r q p .0))
+  preorder-inj (loc n) (loc m) r q p = let u = next (loc n) (loc m) r q p in (ap loc (u .1), u .2)
+  preorder-inj (loc n) (con m) r q p = absurd (omega (arith, next (loc n) (con m) r q p .0))
+  preorder-inj (loc n) (var m) r q p = absurd (omega (arith, next (loc n) (var m) r q p .0))
+  preorder-inj (con n) (app g b) r q p = absurd (omega (arith, next (con n) (app g b) r q p .0))
+  preorder-inj (con n) (lam c) r q p = absurd (omega (arith, next (con n) (lam c) r q p .0))
+  preorder-inj (con n) (loc m) r q p = absurd (omega (arith, next (con n) (loc m) r q p .0))
+  preorder-inj (con n) (con m) r q p = let u = next (con n) (con m) r q p in (ap con (u .1), u .2)
+  preorder-inj (con n) (var m) r q p = absurd (omega (arith, next (con n) (var m) r q p .0))
+  preorder-inj (var n) (app g b) r q p = absurd (omega (arith, next (var n) (app g b) r q p .0))
+  preorder-inj (var n) (lam c) r q p = absurd (omega (arith, next (var n) (lam c) r q p .0))
+  preorder-inj (var n) (loc m) r q p = absurd (omega (arith, next (var n) (loc m) r q p .0))
+  preorder-inj (var n) (con m) r q p = absurd (omega (arith, next (var n) (con m) r q p .0))
+  preorder-inj (var n) (var m) r q p = let u = next (var n) (var m) r q p in (ap var (u .1), u .2)
+
+  preorder-one : (s t : Term) → preorder w s ≡ preorder w t → s ≡ t
+  preorder-one s t p = preorder-inj s t [] [] (append-nil (preorder w s) ∙ p ∙ sym (append-nil (preorder w t))) .0
+
+pub records-inj : (s t : Term) → records s ≡ records t → s ≡ t
+records-inj s t p =
+    preorder-one (λ k n rest. k ∷ n ∷ rest)
+    (record { more = λ k n r s. refl; inj = λ k m n l r s e. (ap (λ x. getD x 0 0) e, ap (λ x. getD x 1 0) e, ap (drop 2) e) }) s t p
+
+-- a number is known from its two bytes
+pub word-inj : (n l : ℕ) → n / 256 ≡ l / 256 → n % 256 ≡ l % 256 → n ≡ l
+word-inj n l h g = sym (div-add-mod' n 256) ∙ ap₂ (λ x y. x * 256 + y) h g ∙ div-add-mod' l 256
+
+bytes-lossless : Lossless bytes
+bytes-lossless = record {
+  more = λ k n r s. refl;
+  inj = λ k m n l r s e. (ap (λ x. getD x 0 0) e, word-inj n l (ap (λ x. getD x 2 0) e) (ap (λ x. getD x 3 0) e), ap (drop 4) e);
+}
+
+pub encode-inj : (s t : Term) (r q : List ℕ) → encode s ++ r ≡ encode t ++ q → (s ≡ t) × (r ≡ q)
+encode-inj s t r q p = preorder-inj bytes bytes-lossless s t r q p
+
+pub encode-one : (s t : Term) → encode s ≡ encode t → s ≡ t
+encode-one s t p = preorder-one bytes bytes-lossless s t p
+
+pub encode-length : (t : Term) → length (encode t) ≡ 4 * size t
+encode-length (app f a) = omega (arith, length-append (encode f) (encode a), encode-length f, encode-length a)
+encode-length (lam b) = omega (arith, encode-length b)
+encode-length (loc n) = omega arith
+encode-length (con n) = omega arith
+encode-length (var n) = omega arith
+
+-- the bytes of records
+abbrev wide : List ℕ → List ℕ
+wide [] = []
+wide (k ∷ []) = k ∷ []
+wide (k ∷ n ∷ r) = bytes k n (wide r)
+
+wide-append : (t : Term) (r : List ℕ) → encode t ++ wide r ≡ wide (records t ++ r)
+wide-append (app f a) r =
+    ap (bytes 0 0) (append-assoc (encode f) (encode a) (wide r) ∙ ap (encode f ++_) (wide-append a r) ∙ wide-append f (records a ++ r)
+    ∙ ap wide (sym (append-assoc (records f) (records a) r)))
+wide-append (lam b) r = ap (bytes 1 0) (wide-append b r)
+wide-append (loc n) r = refl
+wide-append (con n) r = refl
+wide-append (var n) r = refl
+
+wide-records : (t : Term) → encode t ≡ wide (records t)
+wide-records t = sym (append-nil (encode t)) ∙ wide-append t [] ∙ ap wide (append-nil (records t))
+
+wide-less : (l m : List ℕ) → Lexicographic _<_ (wide l) (wide m) → Lexicographic _<_ l m
+wide-less [] [] h = h
+wide-less [] (y ∷ []) h = tt
+wide-less [] (y ∷ n ∷ m) h = tt
+wide-less (x ∷ []) [] h = h
+wide-less (x ∷ n ∷ l) [] h = h
+wide-less (x ∷ []) (y ∷ []) h = h
+wide-less (x ∷ []) (y ∷ n ∷ m) (inl h) = inl h
+wide-less (x ∷ []) (y ∷ n ∷ m) (inr h) = inr (h .0, tt)
+wide-less (x ∷ n ∷ l) (y ∷ []) (inl h) = inl h
+wide-less (x ∷ n ∷ l) (y ∷ []) (inr h) = inr (h .0, h .1)
+wide-less (x ∷ n ∷ l) (y ∷ k ∷ m) (inl h) = inl h
+wide-less (x ∷ n ∷ l) (y ∷ k ∷ m) (inr (e, inl h)) = absurd (omega arith)
+wide-less (x ∷ n ∷ l) (y ∷ k ∷ m) (inr (e, inr (z, inl h))) = inr (e, inl (omega arith))
+wide-less (x ∷ n ∷ l) (y ∷ k ∷ m) (inr (e, inr (z, inr (f, inl h)))) = inr (e, inl (omega arith))
+wide-less (x ∷ n ∷ l) (y ∷ k ∷ m) (inr (e, inr (z, inr (f, inr (g, h))))) = inr (e, inr (omega arith, wide-less l m h))
+
+word-less : (n k : ℕ) (A : Type 0) → n < k → (n / 256 < k / 256) ⊎ ((n / 256 ≡ k / 256) × ((n % 256 < k % 256) ⊎ A))
+word-less n k A h = go (decLt (n / 256) (k / 256))
+  where
+    go : Dec (n / 256 < k / 256) → (n / 256 < k / 256) ⊎ ((n / 256 ≡ k / 256) × ((n % 256 < k % 256) ⊎ A))
+    go (yes p) = inl p
+    go (no p) = inr (omega arith, inl (omega arith))
+
+less-wide : (l m : List ℕ) → Lexicographic _<_ l m → Lexicographic _<_ (wide l) (wide m)
+less-wide [] [] h = h
+less-wide [] (y ∷ []) h = tt
+less-wide [] (y ∷ n ∷ m) h = tt
+less-wide (x ∷ []) [] h = h
+less-wide (x ∷ n ∷ l) [] h = h
+less-wide (x ∷ []) (y ∷ []) h = h
+less-wide (x ∷ []) (y ∷ n ∷ m) (inl h) = inl h
+less-wide (x ∷ []) (y ∷ n ∷ m) (inr h) = inr (h .0, tt)
+less-wide (x ∷ n ∷ l) (y ∷ []) (inl h) = inl h
+less-wide (x ∷ n ∷ l) (y ∷ []) (inr h) = inr (h .0, h .1)
+less-wide (x ∷ n ∷ l) (y ∷ k ∷ m) (inl h) = inl h
+less-wide (x ∷ n ∷ l) (y ∷ k ∷ m) (inr (e, inl h)) = inr (e, inr (refl, word-less n k ((n % 256 ≡ k % 256) × Lexicographic _<_ (wide l) (wide m)) h))
+less-wide (x ∷ n ∷ l) (y ∷ k ∷ m) (inr (e, inr (f, h))) = inr (e, inr (refl, inr (ap (_/ 256) f, inr (ap (_% 256) f, less-wide l m h))))
+
+-- "by kind and then number, which is the order of their bytes"
+pub order-bytes : (v w : Term) → Lexicographic _<_ (records v) (records w) ↔ Lexicographic _<_ (encode v) (encode w)
+order-bytes v w =
+    (λ h. rw (wide-records v, wide-records w) (less-wide (records v) (records w) h), λ h. wide-less (records v) (records w) (rw (wide-records v, wide-records w) at h))
+
+and-split : (a b : Bool) → a && b ≡ true → (a ≡ true) × (b ≡ true)
+and-split true b e = (refl, e)
+and-split false b e = absurd (subst T (sym e) tt)
+
+-- good records have variables in range
+pub good-below : (v : ℕ) (t : Term) (r : List ℕ) → goodRecords v (encode t ++ r) ≡ true → Below v t × (goodRecords v r ≡ true)
+good-below v (app f a) r h =
+    let x = good-below v f (encode a ++ r) (rw (append-assoc (encode f) (encode a) r) at h) in
+    let y = good-below v a r (x .1) in
+    ((x .0, y .0), y .1)
+good-below v (lam b) r h = good-below v b r h
+good-below v (loc n) r h = (tt, h)
+good-below v (con n) r h = (tt, h)
+good-below v (var n) r h =
+    let p = and-split (ltb (n / 256 * 256 + n % 256) v) (goodRecords v r) h in
+    let q = ltb-true (n / 256 * 256 + n % 256) v (p .0) in
+    (rw (div-add-mod' n 256) at q, p .1)

@@ -1,0 +1,30 @@
+-- The figures of document 01, each in this one place.
+--   variables       "variable, number 0 to 7": how many there are
+--   constants       "constant, number 0 to 65,535": how many there are
+--   patternRecords  "Sizes: pattern and right side 1 to 32 records"
+--   recipeRecords   "recipe 1 to 96"
+--   valueRecords    "value 1 to 160"
+--   sweptRecords    "the swept form of some part [..] is above 256 records"
+--   tableBytes      "above 65,536 bytes": the most that a line, value or output table has, and what the work area has
+use Prim.Native.Nat.{ℕ}
+
+abbrev pub variables : ℕ
+variables = 8
+
+abbrev pub constants : ℕ
+constants = 65536
+
+abbrev pub patternRecords : ℕ
+patternRecords = 32
+
+abbrev pub recipeRecords : ℕ
+recipeRecords = 96
+
+abbrev pub valueRecords : ℕ
+valueRecords = 160
+
+abbrev pub sweptRecords : ℕ
+sweptRecords = 256
+
+abbrev pub tableBytes : ℕ
+tableBytes = 65536

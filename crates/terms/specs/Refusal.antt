@@ -1,0 +1,80 @@
+-- The causes of refusal, as document 01's table in the section "Operations" has them, each with its number and its place in the order.
+--   Row              a refusal number, and its cause
+--   Refused rows k   "Each is given when its cause holds and no earlier one does": k is the number of the first row whose cause holds
+--   Passed rows      no row's cause holds
+--   pattern l        the rows 1 to 3 of a table for a pattern or a right side
+--   recipe l         the rows 4 to 7 of a table for a recipe
+--   BadTable, BadLine, BadArea   the lengths that row 8 refuses
+--   listing, assignment, swept, output, unmatched   the rows 9 and 10, 11, 12, 13 and 14
+use mathlib.Core.Path.{_≡_}
+use mathlib.Core.Bool.{Bool, false}
+use mathlib.Core.List.{List, [], _∷_}
+use mathlib.Core.Logic.{_⊎_}
+use Prim.Native.Nat.{ℕ, _*_, _%_, _<_}
+use lib.ListN.{length}
+use Rattle.terms.specs.Figures.{variables, patternRecords, recipeRecords, sweptRecords, tableBytes}
+use Rattle.terms.specs.Term.{Term, size, Normal}
+use Rattle.terms.specs.Table.{goodRecords, IsTable}
+use Rattle.terms.specs.Sweep.{sweep, largest}
+use Rattle.terms.specs.Listing.{Line}
+use Rattle.terms.specs.Layout.{Stored, valuesRecords}
+
+abbrev pub Row : Type 1
+Row = ℕ × Type 0
+
+abbrev pub Refused : List Row → ℕ → Type 0
+Refused [] k = ⊥
+Refused (r ∷ rows) k = (r .1 × (k ≡ r .0)) ⊎ (¬ (r .1) × Refused rows k)
+
+abbrev pub Passed : List Row → Type 0
+Passed [] = Unit {0}
+Passed (r ∷ rows) = ¬ (r .1) × Passed rows
+
+-- "length 0, above 128 bytes, or no multiple of 4", for most records
+abbrev pub BadLength : ℕ → List ℕ → Type 0
+BadLength most l = (length l ≡ 0) ⊎ ((4 * most < length l) ⊎ ¬ (length l % 4 ≡ 0))
+
+-- "It isn't one tree, or a local lacks a binder"
+abbrev pub NoTerm : List ℕ → Type 0
+NoTerm l = (t : Term) → ¬ IsTable l t
+
+abbrev pub pattern : List ℕ → List Row
+pattern l = (1, BadLength patternRecords l) ∷ (2, goodRecords variables l ≡ false) ∷ (3, NoTerm l) ∷ []
+
+-- "Recipe not normal"
+abbrev pub recipe : List ℕ → List Row
+recipe l =
+    (4, BadLength recipeRecords l) ∷ (5, goodRecords 0 l ≡ false) ∷ (6, NoTerm l) ∷ (7, (t : Term) → IsTable l t → ¬ Normal t) ∷ []
+
+-- "no multiple of 32 or above 65,536 bytes", "no multiple of 4 or above 65,536": a table of places of so many bytes
+abbrev pub BadTable : ℕ → List ℕ → Type 0
+BadTable place l = (tableBytes < length l) ⊎ ¬ (length l % place ≡ 0)
+
+-- "32 exactly for an assignment"
+abbrev pub BadLine : List ℕ → Type 0
+BadLine l = ¬ (length l ≡ 4 * variables)
+
+-- "work area not 65,536"
+abbrev pub BadArea : List ℕ → Type 0
+BadArea l = ¬ (length l ≡ tableBytes)
+
+-- "the full listing needs more lines than are lent"; "Lines suffice, the values need more records than lent"
+abbrev pub listing : ℕ → ℕ → List Line → List Row
+listing lines records ls = (9, lines < length ls) ∷ (10, records < valuesRecords ls) ∷ []
+
+-- "A variable that occurs is open or has a count of 0, or its value runs past its table, is above 160 records, not one tree, not closed,
+-- not normal, or holds a bad record or a variable", for the variables that S has, a line l and a value table s
+abbrev pub assignment : (ℕ → Type 0) → List ℕ → List ℕ → List Row
+assignment S l s = (11, (i : ℕ) × S i × ((v : Term) → ¬ Stored l s i v)) ∷ []
+
+-- "The swept form of some part of the filled pattern is above 256 records", for the filled pattern t
+abbrev pub swept : Term → List Row
+swept t = (12, sweptRecords < largest t) ∷ []
+
+-- "Output table shorter than the swept form", for the swept form t
+abbrev pub output : List ℕ → Term → List Row
+output l t = (13, length l < 4 * size t) ∷ []
+
+-- "Rewrite: the assignment isn't a match of left", for the filled left side p and the recipe t
+abbrev pub unmatched : Term → Term → List Row
+unmatched p t = (14, ¬ (sweep p ≡ t)) ∷ []
