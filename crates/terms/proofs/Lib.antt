@@ -3,5 +3,8 @@ pub mod Members
 pub mod Shift
 pub mod Substitute
 pub mod Sweep
+pub mod Contracted
+pub mod Locals
 pub mod Table
 pub mod Order
+pub mod Refusal

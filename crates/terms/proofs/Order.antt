@@ -7,9 +7,10 @@ use mathlib.Core.Logic.{_⊎_, inl, inr, ⊎-elim}
 use Prim.Native.Nat.{ℕ, suc, _≤_, _<_}
 use native.Mathlib.Omega.{arith}
 use native.Mathlib.Decide.{decLt}
+use lib.Dec.{lit<}
 use lib.ListN.{length, getD, drop}
 use Rattle.terms.specs.Term.{Term}
-use Rattle.terms.specs.Listing.{In, Line, Lexicographic, records, rank, Before, Less, Rising}
+use Rattle.terms.specs.Listing.{In, Line, Lexicographic, rank, Before, Less, Rising}
 use Rattle.terms.proofs.Members.{Distinct}
 use Rattle.terms.proofs.Table.{records-inj}
 
@@ -69,6 +70,10 @@ rank-inj none none p = refl
 rank-inj none (some w) p = absurd (omega (arith, ap (λ l. getD l 0 0) p))
 rank-inj (some v) none p = absurd (omega (arith, ap (λ l. getD l 0 0) p))
 rank-inj (some v) (some w) p = ap some (records-inj v w (ap (drop 1) p))
+
+-- "Open comes before assigned."
+pub before-open : (v : Term) → Before none (some v)
+before-open v = inl (lit< tt)
 
 before-irrefl : (o : Option Term) → Before o o → ⊥
 before-irrefl o h = lexicographic-irrefl _<_ ℕ-irrefl ℕ-trans (rank o) h
@@ -146,6 +151,9 @@ rising-insert l (m ∷ ms) u = rising-place l m ms (insert l ms) (order l m) u (
 pub rising-sort : (ls : List Line) → Rising (sort ls)
 rising-sort [] = tt
 rising-sort (l ∷ ls) = rising-insert l (sort ls) (rising-sort ls)
+
+pub sort-distinct : (ls : List Line) → Distinct (sort ls)
+sort-distinct ls = rising-distinct (sort ls) (rising-sort ls)
 
 pub sort-in : (x : Line) (ls : List Line) → In x (sort ls) → In x ls
 sort-in x [] p = p

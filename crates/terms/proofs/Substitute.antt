@@ -1,14 +1,14 @@
 -- Substitution: what it leaves as it was, and what it puts in. By induction on the term. Assumes nothing.
 use mathlib.Core.Path.{_≡_, refl, sym, ap, ap₂, _∙_, subst}
-use mathlib.Core.Bool.{true, false, not, cond, _||_}
+use mathlib.Core.Bool.{true, false, cond, _||_}
 use mathlib.Core.Logic.{⊎-elim}
 use Prim.Native.Nat.{ℕ, suc, _+_, _-_, _≤_, _<_}
 use native.Mathlib.Omega.{arith}
-use lib.Dec.{T, ltb, eqb}
+use lib.Dec.{T, T-not, not-T, ltb, eqb}
 use borrow.Author.Tests.{ne-eqb, lt-ltb, le-ltb, eqb-false, eqb-true, eq-eqb}
 use Rattle.terms.specs.Term.{Term, app, lam, loc, con, var, Normal, size, shift, unshift, substitute, uses, isEta, isAbstraction, isInnermost}
 use Rattle.terms.proofs.Tests.{by-ltb, by-eqb, eqb-same, or-false, or-true}
-use Rattle.terms.proofs.Shift.{unshift-shift, shift-unshift, unused-shift, uses-below, uses-above, normal-shift, size-shift}
+use Rattle.terms.proofs.Shift.{unshift-shift, unused-shift, uses-below, uses-above, normal-shift, size-shift}
 
 -- the three cases of a local
 pub by-substitute : (P : Term → Type 0) (k : ℕ) (e : Term) (n : ℕ) → (n < k → P (loc n)) → (n ≡ k → P (shift k 0 e)) → (k < n → P (loc (n - 1))) → P (substitute k e (loc n))
@@ -71,15 +71,16 @@ substitute-unused k e (var n) h = refl
 pub substitute-shift : (k : ℕ) (e t : Term) → substitute k e (shift 1 k t) ≡ t
 substitute-shift k e t = substitute-unused k e (shift 1 k t) (unused-shift k t) ∙ unshift-shift 1 k t
 
-pub isAbstraction-substitute : (k : ℕ) (e t : Term) → T (not (isAbstraction (substitute k e t))) → T (not (isAbstraction t))
-isAbstraction-substitute k e (app f a) h = tt
+pub isAbstraction-substitute : (k : ℕ) (e t : Term) → T (isAbstraction t) → T (isAbstraction (substitute k e t))
+isAbstraction-substitute k e (app f a) h = h
 isAbstraction-substitute k e (lam b) h = h
-isAbstraction-substitute k e (loc n) h = tt
-isAbstraction-substitute k e (con n) h = tt
-isAbstraction-substitute k e (var n) h = tt
+isAbstraction-substitute k e (loc n) h = absurd h
+isAbstraction-substitute k e (con n) h = h
+isAbstraction-substitute k e (var n) h = h
 
 pub normal-substitute : (k : ℕ) (e t : Term) → Normal (substitute k e t) → Normal t
-normal-substitute k e (app f a) h = (isAbstraction-substitute k e f (h .0), normal-substitute k e f (h .1), normal-substitute k e a (h .2))
+normal-substitute k e (app f a) h =
+    (not-T (isAbstraction f) (λ l. T-not (isAbstraction (substitute k e f)) (h .0) (isAbstraction-substitute k e f l)), normal-substitute k e f (h .1), normal-substitute k e a (h .2))
 normal-substitute k e (lam b) h = (rw (isEta-substitute k e b) at (h .0), normal-substitute (suc k) e b (h .1))
 normal-substitute k e (loc n) h = tt
 normal-substitute k e (con n) h = tt
@@ -87,6 +88,12 @@ normal-substitute k e (var n) h = tt
 
 pub substitute-here : (k : ℕ) (e : Term) (n : ℕ) → n ≡ k → substitute k e (loc n) ≡ shift k 0 e
 substitute-here k e n q = rw (le-ltb n k (omega arith), eq-eqb n k q)
+
+pub substitute-low : (n d : ℕ) (e : Term) → n < d → substitute d e (loc n) ≡ loc n
+substitute-low n d e l = rw (lt-ltb n d)
+
+pub substitute-high : (n d : ℕ) (e : Term) → d < n → substitute d e (loc n) ≡ loc (n - 1)
+substitute-high n d e l = rw (le-ltb n d (omega arith), ne-eqb n d (omega arith))
 
 -- the local is used: what is put in is a part of the result
 pub normal-used : (k : ℕ) (e t : Term) → uses k t ≡ true → Normal (substitute k e t) → Normal e

@@ -1,10 +1,10 @@
 -- The sweep leaves normal terms as they are, and filling reads only the variables that occur. By induction on the term. Assumes nothing.
 use mathlib.Core.Path.{_≡_, refl, ap, ap₂}
-use mathlib.Core.Bool.{not}
+use mathlib.Core.Bool.{Bool, true, false, not, cond, _&&_}
 use mathlib.Core.Logic.{inl, inr}
 use Prim.Native.Nat.{ℕ}
 use lib.Dec.{T}
-use Rattle.terms.specs.Term.{Term, app, lam, loc, con, var, Normal, Occurs, redex, isAbstraction, isEta}
+use Rattle.terms.specs.Term.{Term, app, lam, loc, con, var, Normal, Occurs, unshift, substitute, isAbstraction, isEta}
 use Rattle.terms.specs.Sweep.{sweep, contract, fill}
 use Rattle.terms.proofs.Tests.{false-of}
 
@@ -13,6 +13,18 @@ contract-app f a h = rw (false-of (isAbstraction f) h)
 
 pub contract-lam : (b : Term) → T (not (isEta b)) → contract (lam b) ≡ lam b
 contract-lam b h = rw (false-of (isEta b) h)
+
+-- "M isn't itself an abstraction"
+pub contract-abstraction : (b a : Term) → contract (lam (app (lam b) a)) ≡ lam (app (lam b) a)
+contract-abstraction b a = go (isEta (app (lam b) a))
+  where
+    go : (x : Bool) → cond (x && false) (unshift 1 0 (lam b)) (lam (app (lam b) a)) ≡ lam (app (lam b) a)
+    go true = refl
+    go false = refl
+
+-- "put the swept argument for its local in the body, without capture, and reduce no further"
+pub sweep-beta : (f a b : Term) → sweep f ≡ lam b → sweep (app f a) ≡ substitute 0 (sweep a) b
+sweep-beta f a b e = rw e
 
 pub sweep-normal : (t : Term) → Normal t → sweep t ≡ t
 sweep-normal (app f a) h = rw (sweep-normal f (h .1), sweep-normal a (h .2)) (contract-app f a (h .0))

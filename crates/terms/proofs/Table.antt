@@ -4,7 +4,7 @@ use mathlib.Core.Path.{_≡_, refl, sym, ap, ap₂, _∙_, subst}
 use mathlib.Core.Bool.{Bool, true, false, _&&_}
 use mathlib.Core.List.{List, [], _∷_, _++_, append-assoc, append-nil}
 use mathlib.Core.Logic.{_⊎_, inl, inr, _↔_}
-use Prim.Native.Nat.{ℕ, suc, _+_, _*_, _/_, _%_, _≤_, _<_}
+use Prim.Native.Nat.{ℕ, _+_, _*_, _/_, _%_, _<_}
 use native.Mathlib.Omega.{arith}
 use native.Mathlib.Nat.{div-add-mod'}
 use native.Mathlib.Decide.{decLt}
@@ -90,10 +90,18 @@ module _ (w : ℕ → ℕ → List ℕ → List ℕ) (lossless : Lossless w) whe
   preorder-one : (s t : Term) → preorder w s ≡ preorder w t → s ≡ t
   preorder-one s t p = preorder-inj s t [] [] (append-nil (preorder w s) ∙ p ∙ sym (append-nil (preorder w t))) .0
 
+-- the two ways: a kind and a number, and four bytes
+abbrev pair : ℕ → ℕ → List ℕ → List ℕ
+pair k n rest = k ∷ n ∷ rest
+
+pair-lossless : Lossless pair
+pair-lossless = record {
+  more = λ k n r s. refl;
+  inj = λ k m n l r s e. (ap (λ x. getD x 0 0) e, ap (λ x. getD x 1 0) e, ap (drop 2) e);
+}
+
 pub records-inj : (s t : Term) → records s ≡ records t → s ≡ t
-records-inj s t p =
-    preorder-one (λ k n rest. k ∷ n ∷ rest)
-    (record { more = λ k n r s. refl; inj = λ k m n l r s e. (ap (λ x. getD x 0 0) e, ap (λ x. getD x 1 0) e, ap (drop 2) e) }) s t p
+records-inj s t p = preorder-one pair pair-lossless s t p
 
 -- a number is known from its two bytes
 pub word-inj : (n l : ℕ) → n / 256 ≡ l / 256 → n % 256 ≡ l % 256 → n ≡ l
@@ -118,40 +126,32 @@ encode-length (loc n) = omega arith
 encode-length (con n) = omega arith
 encode-length (var n) = omega arith
 
--- the bytes of records
-abbrev wide : List ℕ → List ℕ
-wide [] = []
-wide (k ∷ []) = k ∷ []
-wide (k ∷ n ∷ r) = bytes k n (wide r)
+-- the order of the bytes is the order of the records
+abbrev items : Term → List (ℕ × ℕ)
+items (app f a) = (0, 0) ∷ items f ++ items a
+items (lam b) = (1, 0) ∷ items b
+items (loc n) = (2, n) ∷ []
+items (con n) = (3, n) ∷ []
+items (var n) = (4, n) ∷ []
 
-wide-append : (t : Term) (r : List ℕ) → encode t ++ wide r ≡ wide (records t ++ r)
-wide-append (app f a) r =
-    ap (bytes 0 0) (append-assoc (encode f) (encode a) (wide r) ∙ ap (encode f ++_) (wide-append a r) ∙ wide-append f (records a ++ r)
-    ∙ ap wide (sym (append-assoc (records f) (records a) r)))
-wide-append (lam b) r = ap (bytes 1 0) (wide-append b r)
-wide-append (loc n) r = refl
-wide-append (con n) r = refl
-wide-append (var n) r = refl
+abbrev written : (ℕ → ℕ → List ℕ → List ℕ) → List (ℕ × ℕ) → List ℕ
+written w [] = []
+written w (r ∷ l) = w (r .0) (r .1) (written w l)
 
-wide-records : (t : Term) → encode t ≡ wide (records t)
-wide-records t = sym (append-nil (encode t)) ∙ wide-append t [] ∙ ap wide (append-nil (records t))
+module _ (w : ℕ → ℕ → List ℕ → List ℕ) (lossless : Lossless w) where
+  preorder-written : (t : Term) (l : List (ℕ × ℕ)) → preorder w t ++ written w l ≡ written w (items t ++ l)
+  preorder-written (app f a) l =
+      lossless .more 0 0 (preorder w f ++ preorder w a) (written w l)
+      ∙ ap (w 0 0)
+      (append-assoc (preorder w f) (preorder w a) (written w l) ∙ ap (preorder w f ++_) (preorder-written a l) ∙ preorder-written f (items a ++ l)
+      ∙ ap (written w) (sym (append-assoc (items f) (items a) l)))
+  preorder-written (lam b) l = lossless .more 1 0 (preorder w b) (written w l) ∙ ap (w 1 0) (preorder-written b l)
+  preorder-written (loc n) l = lossless .more 2 n [] (written w l)
+  preorder-written (con n) l = lossless .more 3 n [] (written w l)
+  preorder-written (var n) l = lossless .more 4 n [] (written w l)
 
-wide-less : (l m : List ℕ) → Lexicographic _<_ (wide l) (wide m) → Lexicographic _<_ l m
-wide-less [] [] h = h
-wide-less [] (y ∷ []) h = tt
-wide-less [] (y ∷ n ∷ m) h = tt
-wide-less (x ∷ []) [] h = h
-wide-less (x ∷ n ∷ l) [] h = h
-wide-less (x ∷ []) (y ∷ []) h = h
-wide-less (x ∷ []) (y ∷ n ∷ m) (inl h) = inl h
-wide-less (x ∷ []) (y ∷ n ∷ m) (inr h) = inr (h .0, tt)
-wide-less (x ∷ n ∷ l) (y ∷ []) (inl h) = inl h
-wide-less (x ∷ n ∷ l) (y ∷ []) (inr h) = inr (h .0, h .1)
-wide-less (x ∷ n ∷ l) (y ∷ k ∷ m) (inl h) = inl h
-wide-less (x ∷ n ∷ l) (y ∷ k ∷ m) (inr (e, inl h)) = absurd (omega arith)
-wide-less (x ∷ n ∷ l) (y ∷ k ∷ m) (inr (e, inr (z, inl h))) = inr (e, inl (omega arith))
-wide-less (x ∷ n ∷ l) (y ∷ k ∷ m) (inr (e, inr (z, inr (f, inl h)))) = inr (e, inl (omega arith))
-wide-less (x ∷ n ∷ l) (y ∷ k ∷ m) (inr (e, inr (z, inr (f, inr (g, h))))) = inr (e, inr (omega arith, wide-less l m h))
+  preorder-items : (t : Term) → preorder w t ≡ written w (items t)
+  preorder-items t = sym (append-nil (preorder w t)) ∙ preorder-written t [] ∙ ap (written w) (append-nil (items t))
 
 word-less : (n k : ℕ) (A : Type 0) → n < k → (n / 256 < k / 256) ⊎ ((n / 256 ≡ k / 256) × ((n % 256 < k % 256) ⊎ A))
 word-less n k A h = go (decLt (n / 256) (k / 256))
@@ -160,25 +160,32 @@ word-less n k A h = go (decLt (n / 256) (k / 256))
     go (yes p) = inl p
     go (no p) = inr (omega arith, inl (omega arith))
 
-less-wide : (l m : List ℕ) → Lexicographic _<_ l m → Lexicographic _<_ (wide l) (wide m)
-less-wide [] [] h = h
-less-wide [] (y ∷ []) h = tt
-less-wide [] (y ∷ n ∷ m) h = tt
-less-wide (x ∷ []) [] h = h
-less-wide (x ∷ n ∷ l) [] h = h
-less-wide (x ∷ []) (y ∷ []) h = h
-less-wide (x ∷ []) (y ∷ n ∷ m) (inl h) = inl h
-less-wide (x ∷ []) (y ∷ n ∷ m) (inr h) = inr (h .0, tt)
-less-wide (x ∷ n ∷ l) (y ∷ []) (inl h) = inl h
-less-wide (x ∷ n ∷ l) (y ∷ []) (inr h) = inr (h .0, h .1)
-less-wide (x ∷ n ∷ l) (y ∷ k ∷ m) (inl h) = inl h
-less-wide (x ∷ n ∷ l) (y ∷ k ∷ m) (inr (e, inl h)) = inr (e, inr (refl, word-less n k ((n % 256 ≡ k % 256) × Lexicographic _<_ (wide l) (wide m)) h))
-less-wide (x ∷ n ∷ l) (y ∷ k ∷ m) (inr (e, inr (f, h))) = inr (e, inr (refl, inr (ap (_/ 256) f, inr (ap (_% 256) f, less-wide l m h))))
+to-bytes : (l m : List (ℕ × ℕ)) → Lexicographic _<_ (written pair l) (written pair m) → Lexicographic _<_ (written bytes l) (written bytes m)
+to-bytes [] [] h = h
+to-bytes [] (s ∷ m) h = tt
+to-bytes (r ∷ l) [] h = h
+to-bytes (r ∷ l) (s ∷ m) (inl h) = inl h
+to-bytes (r ∷ l) (s ∷ m) (inr (e, inl h)) = inr (e, inr (refl, word-less (r .1) (s .1) ((r .1 % 256 ≡ s .1 % 256) × Lexicographic _<_ (written bytes l) (written bytes m)) h))
+to-bytes (r ∷ l) (s ∷ m) (inr (e, inr (f, h))) = inr (e, inr (refl, inr (ap (_/ 256) f, inr (ap (_% 256) f, to-bytes l m h))))
+
+from-bytes : (l m : List (ℕ × ℕ)) → Lexicographic _<_ (written bytes l) (written bytes m) → Lexicographic _<_ (written pair l) (written pair m)
+from-bytes [] [] h = h
+from-bytes [] (s ∷ m) h = tt
+from-bytes (r ∷ l) [] h = h
+from-bytes (r ∷ l) (s ∷ m) (inl h) = inl h
+from-bytes (r ∷ l) (s ∷ m) (inr (e, inl h)) = absurd (omega arith)
+from-bytes (r ∷ l) (s ∷ m) (inr (e, inr (z, inl h))) = inr (e, inl (omega arith))
+from-bytes (r ∷ l) (s ∷ m) (inr (e, inr (z, inr (f, inl h)))) = inr (e, inl (omega arith))
+from-bytes (r ∷ l) (s ∷ m) (inr (e, inr (z, inr (f, inr (g, h))))) = inr (e, inr (word-inj (r .1) (s .1) f g, from-bytes l m h))
 
 -- "by kind and then number, which is the order of their bytes"
 pub order-bytes : (v w : Term) → Lexicographic _<_ (records v) (records w) ↔ Lexicographic _<_ (encode v) (encode w)
 order-bytes v w =
-    (λ h. rw (wide-records v, wide-records w) (less-wide (records v) (records w) h), λ h. wide-less (records v) (records w) (rw (wide-records v, wide-records w) at h))
+    let pv = preorder-items pair pair-lossless v in
+    let pw = preorder-items pair pair-lossless w in
+    let bv = preorder-items bytes bytes-lossless v in
+    let bw = preorder-items bytes bytes-lossless w in
+    (λ h. rw (bv, bw) (to-bytes (items v) (items w) (rw (pv, pw) at h)), λ h. rw (pv, pw) (from-bytes (items v) (items w) (rw (bv, bw) at h)))
 
 and-split : (a b : Bool) → a && b ≡ true → (a ≡ true) × (b ≡ true)
 and-split true b e = (refl, e)

@@ -1,8 +1,8 @@
 -- Case splits on a test, and equations between tests. Each goes by cases on the test's value. Assumes nothing.
-use mathlib.Core.Path.{_≡_, refl, sym, ap, _∙_, subst}
+use mathlib.Core.Path.{_≡_, refl, sym, subst}
 use mathlib.Core.Bool.{Bool, true, false, not, _&&_, _||_}
 use mathlib.Core.Logic.{_⊎_, inl, inr}
-use Prim.Native.Nat.{ℕ, suc, _≤_, _<_}
+use Prim.Native.Nat.{ℕ, _≤_, _<_}
 use lib.Dec.{T, ltb, eqb}
 use borrow.Author.Tests.{ltb-true, ltb-false, eqb-true, eqb-false, eq-eqb, ne-eqb}
 
@@ -28,6 +28,10 @@ eqb-same a b c d f g = by-eqb (λ t. t ≡ eqb c d) a b (λ p. sym (eq-eqb c d (
 pub false-of : (b : Bool) → T (not b) → b ≡ false
 false-of true h = absurd h
 false-of false h = refl
+
+pub true-of : (b : Bool) → T b → b ≡ true
+true-of true h = refl
+true-of false h = absurd h
 
 pub or-false : (a b : Bool) → a || b ≡ false → (a ≡ false) × (b ≡ false)
 or-false true b e = absurd (subst T e tt)

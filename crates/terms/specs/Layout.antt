@@ -8,7 +8,7 @@
 --   wordAt l k           the 16-bit number that stands in l at byte k
 --   Stored l s i v       the line l, with the value table s, gives variable i the value v
 use mathlib.Core.Path.{_≡_}
-use mathlib.Core.Option.{Option, none, some}
+use mathlib.Core.Option.{none, some}
 use mathlib.Core.List.{List, [], _∷_, _++_}
 use Prim.Native.Nat.{ℕ, _+_, _*_, _/_, _%_, _≤_}
 use lib.ListN.{length, getD, take, drop}

@@ -4,10 +4,10 @@
 --   Passed rows      no row's cause holds
 --   pattern l        the rows 1 to 3 of a table for a pattern or a right side
 --   recipe l         the rows 4 to 7 of a table for a recipe
---   BadTable, BadLine, BadArea   the lengths that row 8 refuses
+--   listTables, assignmentTables, outputTable   the rows 8 of the tables that an operation is lent
 --   listing, assignment, swept, output, unmatched   the rows 9 and 10, 11, 12, 13 and 14
 use mathlib.Core.Path.{_≡_}
-use mathlib.Core.Bool.{Bool, false}
+use mathlib.Core.Bool.{false}
 use mathlib.Core.List.{List, [], _∷_}
 use mathlib.Core.Logic.{_⊎_}
 use Prim.Native.Nat.{ℕ, _*_, _%_, _<_}
@@ -57,6 +57,16 @@ BadLine l = ¬ (length l ≡ 4 * variables)
 -- "work area not 65,536"
 abbrev pub BadArea : List ℕ → Type 0
 BadArea l = ¬ (length l ≡ tableBytes)
+
+-- the tables that list is lent, those that an assignment comes in, and an output
+abbrev pub listTables : List ℕ → List ℕ → List ℕ → List Row
+listTables lines values area = (8, BadTable (4 * variables) lines) ∷ (8, BadTable 4 values) ∷ (8, BadArea area) ∷ []
+
+abbrev pub assignmentTables : List ℕ → List ℕ → List ℕ → List Row
+assignmentTables line values area = (8, BadLine line) ∷ (8, BadTable 4 values) ∷ (8, BadArea area) ∷ []
+
+abbrev pub outputTable : List ℕ → List Row
+outputTable output = (8, BadTable 4 output) ∷ []
 
 -- "the full listing needs more lines than are lent"; "Lines suffice, the values need more records than lent"
 abbrev pub listing : ℕ → ℕ → List Line → List Row

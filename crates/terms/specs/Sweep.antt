@@ -3,7 +3,7 @@
 --   sweep t      t's swept form
 --   largest t    the records of the largest swept form of a part of t
 --   fill φ p     p with φ i for each variable i
-use mathlib.Core.Bool.{Bool, true, false, not, cond, _&&_}
+use mathlib.Core.Bool.{not, cond, _&&_}
 use Prim.Native.Nat.{ℕ, max}
 use Rattle.terms.specs.Term.{Term, app, lam, loc, con, var, size, unshift, substitute, isAbstraction, redex}
 

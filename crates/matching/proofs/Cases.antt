@@ -1,0 +1,134 @@
+-- Document 01's cases hold. Each row's claim follows from a test that computes, and the tests of all rows are computed at once; a listing
+-- is the lister's, which is full. Assumes nothing.
+use mathlib.Core.Path.{_≡_, refl, sym, ap, ap₂, subst}
+use mathlib.Core.Bool.{Bool, true, false}
+use mathlib.Core.Option.{Option, none, some}
+use mathlib.Core.List.{List, [], _∷_}
+use mathlib.Core.Logic.{inl, inr, ⊎-elim}
+use Prim.Native.Nat.{ℕ}
+use native.Mathlib.Decide.{ℕ-discrete, decLt}
+use lib.Dec.{T}
+use lib.ListN.{length}
+use Rattle.terms.specs.Figures.{variables}
+use Rattle.terms.specs.Term.{Term, app, lam, loc, con, var, Normal, Below}
+use Rattle.terms.specs.Sweep.{sweep, fill}
+use Rattle.terms.specs.Assignment.{Assignment, entry, values, Assigned, Assigns, Entries, Complete}
+use Rattle.terms.specs.Listing.{In, Full}
+use Rattle.matching.specs.Abstractions.{same}
+use Rattle.matching.specs.Cases.{Case, Case.lists, Case.rejects, Case.sweeps, Holds, cases}
+use Rattle.matching.proofs.Decide.{dec-×, normal?, value?}
+use Rattle.matching.proofs.Listing.{listing, full}
+
+-- decisions
+abbrev dec-map : {A B : Type 0} → (A → B) → (B → A) → Dec A → Dec B
+dec-map f g (yes a) = yes (f a)
+dec-map f g (no a) = no (λ b. a (g b))
+
+abbrev dec-¬ : {A : Type 0} → Dec A → Dec (¬ A)
+dec-¬ (yes a) = no (λ f. f a)
+dec-¬ (no a) = yes a
+
+abbrev same-option : Discrete (Option Term)
+same-option none none = yes refl
+same-option none (some w) = no (λ e. let z : _≡_ {A = Bool} true false = cc in subst T z tt)
+same-option (some v) none = no (λ e. let z : _≡_ {A = Bool} true false = cc in subst T z tt)
+same-option (some v) (some w) = dec-map (λ e. ap some e) (λ e. cc) (same v w)
+
+abbrev same-list : {A : Type 0} → Discrete A → Discrete (List A)
+same-list d [] [] = yes refl
+same-list d [] (y ∷ m) = no (λ e. let z : _≡_ {A = Bool} true false = cc in subst T z tt)
+same-list d (x ∷ l) [] = no (λ e. let z : _≡_ {A = Bool} true false = cc in subst T z tt)
+same-list d (x ∷ l) (y ∷ m) = dec-map (λ e. ap₂ _∷_ (e .0) (e .1)) (λ e. (cc, cc)) (dec-× (d x y) (same-list d l m))
+
+abbrev below? : (n : ℕ) (p : Term) → Dec (Below n p)
+below? n (app f a) = dec-× (below? n f) (below? n a)
+below? n (lam b) = below? n b
+below? n (loc k) = yes tt
+below? n (con k) = yes tt
+below? n (var i) = decLt i n
+
+abbrev assigned? : (o : Option Term) → Dec (Assigned (Unit {0}) o)
+assigned? none = yes tt
+assigned? (some v) = dec-map (λ h. (tt, h)) (λ h. h .1) (value? v)
+
+abbrev assigns? : (a : Assignment) → Dec (Assigns (λ i. Unit {0}) a)
+assigns? [] = yes tt
+assigns? (o ∷ a) = dec-× (assigned? o) (assigns? a)
+
+-- the entry is assigned, and every variable's is
+abbrev Filled : Option Term → Type 0
+Filled none = ⊥
+Filled (some v) = Unit {0}
+
+abbrev filled? : (o : Option Term) → Dec (Filled o)
+filled? none = no (λ x. x)
+filled? (some v) = yes tt
+
+abbrev FilledIn : Assignment → Term → Type 0
+FilledIn a (app f e) = FilledIn a f × FilledIn a e
+FilledIn a (lam b) = FilledIn a b
+FilledIn a (loc k) = Unit {0}
+FilledIn a (con k) = Unit {0}
+FilledIn a (var i) = Filled (entry a i)
+
+abbrev filledIn? : (a : Assignment) (p : Term) → Dec (FilledIn a p)
+filledIn? a (app f e) = dec-× (filledIn? a f) (filledIn? a e)
+filledIn? a (lam b) = filledIn? a b
+filledIn? a (loc k) = yes tt
+filledIn? a (con k) = yes tt
+filledIn? a (var i) = filled? (entry a i)
+
+filled-is : (o : Option Term) → Filled o → (v : Term) × (o ≡ some v)
+filled-is none h = absurd h
+filled-is (some v) h = (v, refl)
+
+complete-of : (a : Assignment) (p : Term) → FilledIn a p → Complete p a
+complete-of a (app f e) h i o = ⊎-elim (complete-of a f (h .0) i) (complete-of a e (h .1) i) o
+complete-of a (lam b) h i o = complete-of a b h i o
+complete-of a (loc k) h i o = absurd o
+complete-of a (con k) h i o = absurd o
+complete-of a (var k) h i o = rw o (filled-is (entry a k) h)
+
+-- a row's test: what computes, and the claim that it gives
+abbrev Test : Case → Type 0
+Test (lists p t ls) = (Below variables p × Normal t) × (listing variables p t ≡ ls)
+Test (rejects p t a) = Entries variables a × (FilledIn a p × ¬ (sweep (fill (values a) p) ≡ t))
+Test (sweeps t s) = sweep t ≡ s
+
+abbrev test? : (c : Case) → Dec (Test c)
+test? (lists p t ls) = dec-× (dec-× (below? variables p) (normal? t)) (same-list (same-list same-option) (listing variables p t) ls)
+test? (rejects p t a) = dec-× (dec-× (ℕ-discrete (length a) variables) (assigns? a)) (dec-× (filledIn? a p) (dec-¬ (same (sweep (fill (values a) p)) t)))
+test? (sweeps t s) = same (sweep t) s
+
+test-holds : (c : Case) → Test c → Holds c
+test-holds (lists p t ls) h = subst (Full variables p t) (h .1) (full variables p t (h .0 .0) (h .0 .1))
+test-holds (rejects p t a) h = (h .0, complete-of a p (h .1 .0), λ m. h .1 .1 (m .2))
+test-holds (sweeps t s) h = h
+
+-- all rows at once
+abbrev Tests : List Case → Type 0
+Tests [] = Unit {0}
+Tests (c ∷ cs) = Test c × Tests cs
+
+abbrev tests? : (cs : List Case) → Dec (Tests cs)
+tests? [] = yes tt
+tests? (c ∷ cs) = dec-× (test? c) (tests? cs)
+
+abbrev decided : {A : Type 0} → Dec A → Bool
+decided (yes a) = true
+decided (no a) = false
+
+proof : {A : Type 0} (o : Dec A) → T (decided o) → A
+proof (yes a) h = a
+proof (no a) h = absurd h
+
+computed : decided (tests? cases) ≡ true
+unfolding ℕ-discrete decLt
+computed = refl
+
+tests-hold : (cs : List Case) → Tests cs → (c : Case) → In c cs → Holds c
+tests-hold (c ∷ cs) h d (inl p) = subst Holds (sym p) (test-holds c (h .0))
+tests-hold (c ∷ cs) h d (inr i) = tests-hold cs (h .1) d i
+
+pub cases-hold : (c : Case) → In c cases → Holds c
+cases-hold c i = tests-hold cases (proof (tests? cases) (subst T (sym computed) tt)) c i

@@ -1,0 +1,14 @@
+pub mod Members
+pub mod Step
+pub mod Abstractions
+pub mod Decide
+pub mod Splits
+pub mod Lines
+pub mod Lists
+pub mod Lister
+pub mod Partial
+pub mod Unique
+pub mod Listing
+pub mod Sizes
+pub mod Prune
+pub mod Cases

@@ -1,0 +1,148 @@
+-- What a search may skip, each cut of it a fact of every assignment: no assignment satisfies the goal, or exactly one body is left.
+-- From the rows of one step of matching, from what a swept form can be, and from what stands in an assignment. Assumes nothing.
+--   Build f t e φ     the head f sweeps to an abstraction that uses its local and comes to t with e put in
+--   replaceAll e d t  t with each outermost occurrence of e replaced by local d
+use mathlib.Core.Path.{_≡_, refl, sym, ap, ap₂, _∙_, subst}
+use mathlib.Core.Bool.{Bool, true, false, cond}
+use mathlib.Core.Logic.{_⊎_, inl, inr, ⊎-elim, _↔_}
+use mathlib.Core.List.{List}
+use Prim.Native.Nat.{ℕ, suc, _+_, _-_, _<_}
+use native.Mathlib.Omega.{arith}
+use lib.Dec.{T, ltb}
+use borrow.Author.Tests.{eqb-true, lt-ltb, le-ltb}
+use Rattle.terms.specs.Term.{Term, app, lam, loc, con, var, Normal, size, shift, unshift, substitute, uses, isAbstraction}
+use Rattle.terms.specs.Sweep.{sweep, fill}
+use Rattle.terms.specs.Listing.{In, Line}
+use Rattle.terms.proofs.Tests.{or-false, or-true}
+use Rattle.terms.proofs.Shift.{shift-unshift, size-shift, uses-above}
+use Rattle.terms.proofs.Substitute.{by-substitute, substitute-unused, substitute-low, substitute-high, size-used}
+use Rattle.matching.specs.Abstractions.{same}
+use Rattle.terms.proofs.Locals.{rigid, rigid-sweep, unused-sweep}
+use Rattle.matching.proofs.Step.{Split, Split.parts, Split.body, constant, match-variable, match-application}
+use Rattle.matching.proofs.Splits.{candidates, in-candidates}
+use Rattle.matching.proofs.Lines.{Values}
+use Rattle.matching.proofs.Lists.{Predicate, Lists, lists-same}
+use Rattle.matching.proofs.Lister.{Sweeps}
+
+-- cut 1, rigid heads: no abstraction is a target, so that an application with such a head can only be split
+pub no-abstraction : (φ : ℕ → Term) (p b : Term) → rigid p ≡ true → ¬ Sweeps p (lam b) φ
+no-abstraction φ p b r s = subst T (ap isAbstraction (sym s) ∙ rigid-sweep φ p r) tt
+
+pub rigid-application :
+    (φ : ℕ → Term) (f a t : Term) → Normal t → rigid f ≡ true → Sweeps (app f a) t φ ↔ (t ≡ app (sweep (fill φ f)) (sweep (fill φ a)))
+rigid-application φ f a t h r = (λ s. go (match-application φ f a t h .0 s), λ p. match-application φ f a t h .1 (inl (parts p)))
+  where
+    go : Split (sweep (fill φ f)) (sweep (fill φ a)) t ⊎ (sweep (fill φ f) ≡ constant t) → t ≡ app (sweep (fill φ f)) (sweep (fill φ a))
+    go (inl (parts p)) = p
+    go (inl (body b p q u n)) = absurd (no-abstraction φ f b r p)
+    go (inr p) = absurd (no-abstraction φ f (shift 1 0 t) r p)
+
+-- cut 2, easy goals first: goals may be taken in any order
+pub lists-swap : (n : ℕ) (S : ℕ → Type 0) (Q R : Predicate) (ls : List Line) → Lists n S (λ φ. R φ × Q φ) ls → Lists n S (λ φ. Q φ × R φ) ls
+lists-swap n S Q R ls x = lists-same n S (λ φ. Q φ × R φ) (λ φ. R φ × Q φ) ls (λ φ v. (λ s. (s .1, s .0), λ s. (s .1, s .0))) x
+
+-- cut 3, locals: a target with a loose local that the pattern's part lacks
+pub no-local : (φ : ℕ → Term) → Values φ → (p t : Term) (j : ℕ) → uses j p ≡ false → uses j t ≡ true → ¬ Sweeps p t φ
+no-local φ v p t j c u s = subst T (sym u ∙ ap (uses j) (sym s) ∙ unused-sweep φ v j p c) tt
+
+-- cut 4, the argument before the choices: each different argument once, and the bodies only when its goal is met
+abbrev pub Build : Term → Term → Term → Predicate
+Build f t e φ = (b : Term) × Sweeps f (lam b) φ × (substitute 0 e b ≡ t) × (uses 0 b ≡ true)
+
+-- how an application comes to the target, with the argument's target named first
+abbrev pub Choice : Term → Term → Term → Predicate
+Choice f a t φ =
+    (t ≡ app (sweep (fill φ f)) (sweep (fill φ a))) ⊎ (((e : Term) × In e (candidates t) × Sweeps a e φ × Build f t e φ) ⊎ Sweeps f (constant t) φ)
+
+pub argument-first : (φ : ℕ → Term) (f a t : Term) → Normal t → Sweeps (app f a) t φ ↔ Choice f a t φ
+argument-first φ f a t h = (λ s. to (m .0 s), from)
+  where
+    m : (sweep (fill φ (app f a)) ≡ t) ↔ (Split (sweep (fill φ f)) (sweep (fill φ a)) t ⊎ (sweep (fill φ f) ≡ constant t))
+    m = match-application φ f a t h
+
+    to : Split (sweep (fill φ f)) (sweep (fill φ a)) t ⊎ (sweep (fill φ f) ≡ constant t) → Choice f a t φ
+    to (inl (parts p)) = inl p
+    to (inl (body b p q u n)) = inr (inl (sweep (fill φ a), in-candidates (sweep (fill φ a)) b t q u, refl, (b, p, q, u)))
+    to (inr p) = inr (inr p)
+
+    from : Choice f a t φ → Sweeps (app f a) t φ
+    from (inl p) = m .1 (inl (parts p))
+    from (inr (inl (e, i, s, (b, p, q, u)))) = rw (p, s) q
+    from (inr (inr p)) = m .1 (inr p)
+
+-- cut 3 again: where the argument uses a local that the head lacks, every occurrence is replaced
+abbrev either : {A : Type 0} → Dec A → Term → Term → Term
+either (yes p) x y = x
+either (no p) x y = y
+
+either-yes : {A : Type 0} (o : Dec A) (x y : Term) → A → either o x y ≡ x
+either-yes (yes p) x y h = refl
+either-yes (no p) x y h = absurd (p h)
+
+either-no : {A : Type 0} (o : Dec A) (x y : Term) → ¬ A → either o x y ≡ y
+either-no (yes p) x y h = absurd (h p)
+either-no (no p) x y h = refl
+
+-- t with each outermost occurrence of e replaced
+abbrev pub replaceAll : Term → ℕ → Term → Term
+replaceAll e d (app f a) = either (same (app f a) (shift d 0 e)) (loc d) (app (replaceAll e d f) (replaceAll e d a))
+replaceAll e d (lam b) = either (same (lam b) (shift d 0 e)) (loc d) (lam (replaceAll e (suc d) b))
+replaceAll e d (loc n) = either (same (loc n) (shift d 0 e)) (loc d) (cond (ltb n d) (loc n) (loc (suc n)))
+replaceAll e d (con n) = either (same (con n) (shift d 0 e)) (loc d) (con n)
+replaceAll e d (var n) = either (same (var n) (shift d 0 e)) (loc d) (var n)
+
+replaceAll-here : (e : Term) (d : ℕ) (t : Term) → t ≡ shift d 0 e → replaceAll e d t ≡ loc d
+replaceAll-here e d (app f a) p = either-yes (same (app f a) (shift d 0 e)) (loc d) _ p
+replaceAll-here e d (lam b) p = either-yes (same (lam b) (shift d 0 e)) (loc d) _ p
+replaceAll-here e d (loc n) p = either-yes (same (loc n) (shift d 0 e)) (loc d) _ p
+replaceAll-here e d (con n) p = either-yes (same (con n) (shift d 0 e)) (loc d) _ p
+replaceAll-here e d (var n) p = either-yes (same (var n) (shift d 0 e)) (loc d) _ p
+
+module _ (e : Term) (i : ℕ) (u : uses i e ≡ true) where
+  not-here : (d j : ℕ) → j ≡ i + d → (b : Term) → (uses d b ≡ true → size e < size (substitute d e b)) → uses (suc j) b ≡ false → substitute d e b ≡ shift d 0 e → ⊥
+  not-here d j q b s h p = go (uses d b) refl
+    where
+      go : (t : Bool) → uses d b ≡ t → ⊥
+      go true x = omega (arith, s x, ap size p, size-shift d 0 e)
+      go false x =
+          subst T (sym u ∙ sym (uses-above j i d 0 e q (omega arith)) ∙ ap (uses j) (sym p ∙ substitute-unused d e b x)
+          ∙ sym (uses-above (suc j) j 1 d (unshift 1 d b) (omega arith) (omega arith)) ∙ ap (uses (suc j)) (shift-unshift d b x) ∙ h) tt
+
+  pub forced : (d j : ℕ) → j ≡ i + d → (b : Term) → uses (suc j) b ≡ false → b ≡ replaceAll e d (substitute d e b)
+  forced d j q (app f a) h =
+      let p = or-false (uses (suc j) f) (uses (suc j) a) h in
+      ap₂ app (forced d j q f (p .0)) (forced d j q a (p .1))
+      ∙ sym (either-no (same (substitute d e (app f a)) (shift d 0 e)) (loc d) _ (not-here d j q (app f a) strict h))
+    where
+      strict : uses d (app f a) ≡ true → size e < size (substitute d e (app f a))
+      strict x = ⊎-elim (λ y. let z = size-used d e f y in let w : size e < suc (size (substitute d e f) + size (substitute d e a)) = omega arith in w)
+          (λ y. let z = size-used d e a y in let w : size e < suc (size (substitute d e f) + size (substitute d e a)) = omega arith in w) (or-true (uses d f) (uses d a) x)
+  forced d j q (lam b) h =
+      ap lam (forced (suc d) (suc j) (omega arith) b h)
+      ∙ sym (either-no (same (substitute d e (lam b)) (shift d 0 e)) (loc d) _ (not-here d j q (lam b) (λ x. omega (arith, size-used (suc d) e b x)) h))
+  forced d j q (loc n) h =
+      by-substitute (λ s. loc n ≡ replaceAll e d s) d e n
+      (λ l. sym (either-no (same (loc n) (shift d 0 e)) (loc d) _ (λ p. not-here d j q (loc n) (λ x. absurd (omega (arith, eqb-true n d x))) h (substitute-low n d e l ∙ p)) ∙ rw (lt-ltb n d)))
+      (λ l. ap loc l ∙ sym (replaceAll-here e d (shift d 0 e) refl))
+      (λ l. sym (either-no (same (loc (n - 1)) (shift d 0 e)) (loc d) _ (λ p. not-here d j q (loc n) (λ x. absurd (omega (arith, eqb-true n d x))) h (substitute-high n d e l ∙ p))
+      ∙ rw (le-ltb (n - 1) d (omega arith)) (ap loc (omega arith))))
+  forced d j q (con n) h = sym (either-no (same (con n) (shift d 0 e)) (loc d) (con n) (not-here d j q (con n) (λ x. absurd (subst T (sym x) tt)) h))
+  forced d j q (var n) h = sym (either-no (same (var n) (shift d 0 e)) (loc d) (var n) (not-here d j q (var n) (λ x. absurd (subst T (sym x) tt)) h))
+
+-- so one body is left
+pub one-body : (φ : ℕ → Term) → Values φ → (f t e : Term) (j : ℕ) → uses j e ≡ true → uses j f ≡ false → (x : Build f t e φ) → x .0 ≡ replaceAll e 0 t
+one-body φ v f t e j u c x =
+    forced e j u 0 j (omega arith) (x .0) (sym (ap (uses j) (x .1)) ∙ unused-sweep φ v j f c) ∙ ap (replaceAll e 0) (x .2)
+
+-- cut 5, the known head: where the head is a variable that is assigned, its value decides
+pub known-body : (φ : ℕ → Term) → Values φ → (i : ℕ) (t e b : Term) → φ i ≡ lam b → Build (var i) t e φ ↔ ((substitute 0 e b ≡ t) × (uses 0 b ≡ true))
+known-body φ v i t e b p = (
+  λ x. let q : x .0 ≡ b = lam-inj (sym (match-variable φ i (lam (x .0)) (v i) .0 (x .1)) ∙ p) in (rw q at (x .2), rw q at (x .3)),
+  λ x. (b, match-variable φ i (lam b) (v i) .1 p, x .0, x .1),
+)
+  where
+    lam-inj : {c d : Term} → lam c ≡ lam d → c ≡ d
+    lam-inj e = cc
+
+pub known-other : (φ : ℕ → Term) → Values φ → (i : ℕ) (t e : Term) → isAbstraction (φ i) ≡ false → ¬ Build (var i) t e φ
+known-other φ v i t e n x = subst T (ap isAbstraction (sym (match-variable φ i (lam (x .0)) (v i) .0 (x .1))) ∙ n) tt

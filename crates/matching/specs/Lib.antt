@@ -1,0 +1,2 @@
+pub mod Abstractions
+pub mod Cases
