@@ -5,6 +5,8 @@
 --   pattern l        the rows 1 to 3 of a table for a pattern or a right side
 --   recipe l         the rows 4 to 7 of a table for a recipe
 --   listTables, assignmentTables, outputTable   the rows 8 of the tables that an operation is lent
+--   Filled p l s t   the pattern's table p, filled from the line l and the value table s, is the term t
+--   Matches p l s r  the filled pattern sweeps to the term of the recipe's table r
 --   listing, assignment, swept, output, unmatched   the rows 9 and 10, 11, 12, 13 and 14
 use mathlib.Core.Path.{_≡_}
 use mathlib.Core.Bool.{false}
@@ -13,9 +15,9 @@ use mathlib.Core.Logic.{_⊎_}
 use Prim.Native.Nat.{ℕ, _*_, _%_, _<_}
 use lib.ListN.{length}
 use Rattle.terms.specs.Figures.{variables, patternRecords, recipeRecords, sweptRecords, tableBytes}
-use Rattle.terms.specs.Term.{Term, size, Normal}
+use Rattle.terms.specs.Term.{Term, size, Normal, Occurs}
 use Rattle.terms.specs.Table.{goodRecords, IsTable}
-use Rattle.terms.specs.Sweep.{sweep, largest}
+use Rattle.terms.specs.Sweep.{sweep, largest, fill}
 use Rattle.terms.specs.Listing.{Line}
 use Rattle.terms.specs.Layout.{Stored, valuesRecords}
 
@@ -72,19 +74,34 @@ outputTable output = (8, BadTable 4 output) ∷ []
 abbrev pub listing : ℕ → ℕ → List Line → List Row
 listing lines records ls = (9, lines < length ls) ∷ (10, records < valuesRecords ls) ∷ []
 
+-- the term that a pattern's table p becomes, filled from a line l and a value table s
+pub record Filled (p l s : List ℕ) (t : Term) : Type 0 where
+  pub term : Term
+  pub table : IsTable p term
+  pub φ : ℕ → Term
+  pub stored : (i : ℕ) → Occurs i term → Stored l s i (φ i)
+  pub is : t ≡ fill φ term
+
+-- variable i occurs in the term of the table p
+abbrev pub OccursIn : List ℕ → ℕ → Type 0
+OccursIn p i = (t : Term) × IsTable p t × Occurs i t
+
 -- "A variable that occurs is open or has a count of 0, or its value runs past its table, is above 160 records, not one tree, not closed,
--- not normal, or holds a bad record or a variable", for the variables that S has, a line l and a value table s
+-- not normal, or holds a bad record or a variable", for the variables of S
 abbrev pub assignment : (ℕ → Type 0) → List ℕ → List ℕ → List Row
 assignment S l s = (11, (i : ℕ) × S i × ((v : Term) → ¬ Stored l s i v)) ∷ []
 
--- "The swept form of some part of the filled pattern is above 256 records", for the filled pattern t
-abbrev pub swept : Term → List Row
-swept t = (12, sweptRecords < largest t) ∷ []
+-- "The swept form of some part of the filled pattern is above 256 records"
+abbrev pub swept : List ℕ → List ℕ → List ℕ → List Row
+swept p l s = (12, (t : Term) × Filled p l s t × (sweptRecords < largest t)) ∷ []
 
--- "Output table shorter than the swept form", for the swept form t
-abbrev pub output : List ℕ → Term → List Row
-output l t = (13, length l < 4 * size t) ∷ []
+-- "Output table shorter than the swept form"
+abbrev pub output : List ℕ → List ℕ → List ℕ → List ℕ → List Row
+output p l s o = (13, (t : Term) × Filled p l s t × (length o < 4 * size (sweep t))) ∷ []
 
--- "Rewrite: the assignment isn't a match of left", for the filled left side p and the recipe t
-abbrev pub unmatched : Term → Term → List Row
-unmatched p t = (14, ¬ (sweep p ≡ t)) ∷ []
+-- "Rewrite: the assignment isn't a match of left", for the recipe's table r
+abbrev pub Matches : List ℕ → List ℕ → List ℕ → List ℕ → Type 0
+Matches p l s r = (t : Term) × Filled p l s t × IsTable r (sweep t)
+
+abbrev pub unmatched : List ℕ → List ℕ → List ℕ → List ℕ → List Row
+unmatched p l s r = (14, ¬ Matches p l s r) ∷ []
