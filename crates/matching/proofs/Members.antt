@@ -3,10 +3,10 @@
 --   flatMap f l   what f makes of each member of l, one after the other
 --   nub l         each member of l once
 use mathlib.Core.Path.{_≡_, refl, sym, ap, _∙_, subst}
-use mathlib.Core.Logic.{_⊎_, inl, inr, ⊎-elim}
+use mathlib.Core.Logic.{_⊎_, inl, inr}
 use mathlib.Core.List.{List, [], _∷_, _++_, map}
 use Rattle.terms.specs.Listing.{In}
-use Rattle.terms.proofs.Members.{Distinct, in-left, in-right, in-append, distinct-append}
+use Rattle.terms.proofs.Members.{Distinct, dec-⊎, in-left, in-right, in-append, distinct-append}
 use Rattle.matching.specs.Abstractions.{pairs}
 
 abbrev pub guard : {A X : Type 0} → Dec A → X → List X
@@ -17,11 +17,6 @@ module _ {A B : Type 0} where
   abbrev pub flatMap : (A → List B) → List A → List B
   flatMap f [] = []
   flatMap f (x ∷ l) = f x ++ flatMap f l
-
-abbrev pub dec-⊎ : {A B : Type 0} → Dec A → Dec B → Dec (A ⊎ B)
-dec-⊎ (yes a) b = yes (inl a)
-dec-⊎ (no a) (yes b) = yes (inr b)
-dec-⊎ (no a) (no b) = no (⊎-elim a b)
 
 abbrev unless : {A X : Type 0} → Dec A → X → List X → List X
 unless (yes p) x l = l

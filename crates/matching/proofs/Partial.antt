@@ -5,16 +5,17 @@
 use mathlib.Core.Path.{_≡_, refl, sym, ap, _∙_}
 use mathlib.Core.Option.{Option, none, some}
 use mathlib.Core.List.{List, [], _∷_}
-use mathlib.Core.Logic.{⊎-elim, _↔_}
+use mathlib.Core.Logic.{_↔_}
 use Prim.Native.Nat.{ℕ, zero, suc, _<_}
 use native.Mathlib.Omega.{arith}
 use lib.Dec.{lit<}
 use lib.ListN.{length}
-use Rattle.terms.specs.Term.{Term, app, lam, loc, con, var, Value, Occurs, Below}
+use Rattle.terms.specs.Term.{Term, con, Value, Occurs, Below}
 use Rattle.terms.specs.Sweep.{sweep, fill}
 use Rattle.terms.specs.Assignment.{Assignment, entry, values, valueOr, Assigns, Entries, Complete, Match}
 use Rattle.terms.specs.Listing.{In, Line, Rising, AgreesAt, Agrees, Full}
 use Rattle.terms.proofs.Sweep.{fill-same}
+use Rattle.terms.proofs.Occurs.{occurs-below}
 use Rattle.terms.proofs.Order.{rising-distinct}
 use Rattle.matching.proofs.Lines.{Values, ExtendsAt, Extends, assigns-entry}
 use Rattle.matching.proofs.Lists.{Lists}
@@ -66,13 +67,6 @@ entry-restrict : (n : ℕ) (φ : ℕ → Term) (i : ℕ) → i < n → entry (re
 entry-restrict zero φ i h = absurd (omega arith)
 entry-restrict (suc n) φ zero h = refl
 entry-restrict (suc n) φ (suc i) h = entry-restrict n (λ j. φ (suc j)) i (omega arith)
-
-occurs-below : (n i : ℕ) (p : Term) → Below n p → Occurs i p → i < n
-occurs-below n i (app f a) b o = ⊎-elim (occurs-below n i f (b .0)) (occurs-below n i a (b .1)) o
-occurs-below n i (lam p) b o = occurs-below n i p b o
-occurs-below n i (loc k) b o = absurd o
-occurs-below n i (con k) b o = absurd o
-occurs-below n i (var k) b o = omega arith
 
 module _ (n : ℕ) (p : Term) (b : Below n p) where
   pub complete-restrict : (φ : ℕ → Term) → Complete p (restrict n φ)

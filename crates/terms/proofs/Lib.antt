@@ -3,6 +3,7 @@ pub mod Members
 pub mod Shift
 pub mod Substitute
 pub mod Sweep
+pub mod Occurs
 pub mod Contracted
 pub mod Locals
 pub mod Table

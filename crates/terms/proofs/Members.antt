@@ -30,3 +30,8 @@ module _ {A : Type 0} where
 
 pub one : {X : Type 0} {x y : X} → In x (y ∷ []) → x ≡ y
 one (inl p) = p
+
+abbrev pub dec-⊎ : {A B : Type 0} → Dec A → Dec B → Dec (A ⊎ B)
+dec-⊎ (yes a) b = yes (inl a)
+dec-⊎ (no a) (yes b) = yes (inr b)
+dec-⊎ (no a) (no b) = no (⊎-elim a b)

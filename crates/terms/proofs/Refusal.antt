@@ -1,6 +1,6 @@
 -- At most one number is given, none where no cause holds, and rows one after the other are judged one after the other; a table is filled in
 -- one way only. By induction on the rows, and since a term is known from its bytes. Assumes nothing.
-use mathlib.Core.Path.{_≡_, sym, ap, _∙_, subst}
+use mathlib.Core.Path.{_≡_, sym, ap, _∙_}
 use mathlib.Core.List.{List, [], _∷_, _++_}
 use mathlib.Core.Logic.{inl, inr}
 use Prim.Native.Nat.{ℕ}

@@ -1,0 +1,36 @@
+-- Variables that occur in a term are below its bound, it is decided which occur, and values for those that do make a total assignment. By
+-- induction on the term. Assumes nothing.
+use mathlib.Core.Logic.{_⊎_, ⊎-elim}
+use Prim.Native.Nat.{ℕ, _<_}
+use native.Mathlib.Omega.{arith}
+use native.Mathlib.Decide.{ℕ-discrete}
+use Rattle.terms.specs.Term.{Term, app, lam, loc, con, var, Occurs, Below}
+use Rattle.terms.proofs.Members.{dec-⊎}
+
+pub occurs-below : (n i : ℕ) (p : Term) → Below n p → Occurs i p → i < n
+occurs-below n i (app f a) b o = ⊎-elim (occurs-below n i f (b .0)) (occurs-below n i a (b .1)) o
+occurs-below n i (lam p) b o = occurs-below n i p b o
+occurs-below n i (loc k) b o = absurd o
+occurs-below n i (con k) b o = absurd o
+occurs-below n i (var k) b o = omega arith
+
+occurs? : (i : ℕ) (p : Term) → Dec (Occurs i p)
+occurs? i (app f a) = dec-⊎ (occurs? i f) (occurs? i a)
+occurs? i (lam p) = occurs? i p
+occurs? i (loc k) = no (λ o. o)
+occurs? i (con k) = no (λ o. o)
+occurs? i (var k) = ℕ-discrete i k
+
+module _ {A : Type 0} {P : Term → Type 0} (f : A → (v : Term) × P v) where
+  chosen : Dec A → Term
+  chosen (yes a) = f a .0
+  chosen (no a) = con 0
+
+  chosen-holds : (d : Dec A) → A → P (chosen d)
+  unfolding chosen
+  chosen-holds (yes a) b = f a .1
+  chosen-holds (no a) b = absurd (a b)
+
+-- a value for each variable that occurs
+pub chosen-values : (P : ℕ → Term → Type 0) (p : Term) → ((i : ℕ) → Occurs i p → (v : Term) × P i v) → (φ : ℕ → Term) × ((i : ℕ) → Occurs i p → P i (φ i))
+chosen-values P p f = (λ i. chosen (f i) (occurs? i p), λ i o. chosen-holds (f i) (occurs? i p) o)
