@@ -1,0 +1,5 @@
+pub mod Record
+pub mod Parts
+pub mod Passing
+pub mod Tests
+pub mod Checks

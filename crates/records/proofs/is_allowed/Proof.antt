@@ -1,0 +1,58 @@
+-- `records::is_allowed` meets its contract. By the second byte, then by the kind that the first byte is. Assumes nothing.
+use Rattle.records.proofs.Record.{second-not-zero, known-of, unknown-of, kind-unknown, kind-known}
+use mathlib.Core.Path.{subst, sym}
+use Prim.Native.Nat.{ℕ, _≤_}
+use lib.ListN.{getD}
+use borrow.Author.Needs.{needs}
+use Rattle.records.proofs.is_allowed.Statement.{statement}
+use Rattle.records.proofs.is_allowed.Tie as tie
+
+add-if1 : tie.Need-add-if1
+add-if1 c = search needs
+
+shared-slice-read-if1 : tie.Need-shared-slice-read-if1
+shared-slice-read-if1 c = search needs
+
+returns : tie.Need-returns
+returns c = second-not-zero (c .before .before .before .args .variables) (c .before .before .before .args .s .now) (c .before .before .before .args .at) (c .if1 .taken)
+
+number-at-requires : tie.Need-number-at-requires
+number-at-requires c κs = search needs
+
+shared-slice-read-from-byte : tie.Need-shared-slice-read-from-byte
+shared-slice-read-from-byte c = search needs
+
+from-byte-requires : tie.Need-from-byte-requires
+from-byte-requires c κs = search needs
+
+enum-known-read : tie.Need-enum-known-read
+enum-known-read c = search needs
+
+enum-told : tie.Need-enum-told
+enum-told c = search needs
+
+returns-2 : tie.Need-returns-2
+returns-2 c = kind-unknown (c .before .before .before .before .before .before .before .before .args .variables) (c .before .before .before .before .before .before .before .before .args .s .now) (c .before .before .before .before .before .before .before .before .args .at) (c .before .before .before .before .before .if1 .left) (unknown-of _ _ (c .before .before .from-byte .ensures) (c .enum-told .given .1))
+
+allows-requires : tie.Need-allows-requires
+allows-requires c κs = let k = known-of (getD (c .before .before .before .before .before .before .before .before .before .args .s .now) (c .before .before .before .before .before .before .before .before .before .args .at) 0) _ _ (c .before .before .before .from-byte .ensures) (c .before .read .given .1) in subst (λ (i : ℕ). i ≤ 4) (sym (k .1)) (k .0)
+
+returns-3 : tie.Need-returns-3
+returns-3 c = let k = known-of (getD (c .before .before .before .before .before .before .before .before .before .before .args .s .now) (c .before .before .before .before .before .before .before .before .before .before .args .at) 0) _ _ (c .before .before .before .before .from-byte .ensures) (c .before .before .read .given .1) in
+    kind-known (c .before .before .before .before .before .before .before .before .before .before .args .variables) (c .before .before .before .before .before .before .before .before .before .before .args .s .now) (c .before .before .before .before .before .before .before .before .before .before .args .at) _ _ _ (c .before .before .before .before .before .before .before .if1 .left) (k .1) (c .before .before .before .before .before .before .number-at .ensures .0) (c .allows .ensures)
+
+pub is-allowed-spec : {M : Type 1} → statement M
+is-allowed-spec =
+    tie.close
+    (tie.spec
+    add-if1
+    shared-slice-read-if1
+    returns
+    number-at-requires
+    shared-slice-read-from-byte
+    from-byte-requires
+    enum-known-read
+    enum-told
+    returns-2
+    allows-requires
+    returns-3)

@@ -1,0 +1,4 @@
+pub mod Record
+pub mod Parts
+pub mod Tests
+pub mod Checks

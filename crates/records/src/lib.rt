@@ -1,0 +1,498 @@
+// Tables of 4-byte records: read, written and judged.
+//
+// A term is a table of records in the order head before argument, so a table is read by the kinds of its records alone. The crate has
+// the kinds, one record read and written, the parts of a table, tests of the term that a table holds (closed, normal, uses a local), and
+// the checks by which bytes from outside come in. It promises that each check gives exactly the first of document 01's causes 1 to 7 that
+// holds, for any bytes at all, and that each test answers for the very term whose table it was lent. It rests on the definitions of
+// `terms`; only the functions of one record, and `proofs/Record.antt`, know how a record's four bytes lie.
+
+ghost use mathlib.Core.Path.{_≡_};
+ghost use mathlib.Core.Bool.{true, false};
+ghost use mathlib.Core.Option.{some};
+ghost use mathlib.Core.List.{[]};
+ghost use Prim.Native.Nat.{_+_, _-_, _*_, _≤_, _<_};
+ghost use lib.ListN.{length, getD};
+ghost use lib.Seq.{sets};
+ghost use Rattle.terms.specs.Figures.{constants, tableBytes};
+ghost use Rattle.terms.specs.Term.{Term, uses, isInnermost, isEta, Normal, Closed};
+ghost use Rattle.terms.specs.Refusal.{BadLength, pattern, recipe};
+ghost use Rattle.terms.specs.Table.{encode, bytes, allowed, goodRecords};
+ghost use Rattle.terms.specs.Layout.{wordAt};
+ghost use Rattle.records.specs.Record.{kindOf, parts as partsOf, numberAt, recordAt};
+ghost use Rattle.records.specs.Parts.{Whole, Ends, Reached, Ended, Tree, Divided, Lies};
+ghost use Rattle.records.specs.Tests.{Says, Tells, Equals, Head, asked, Asks, Walked};
+ghost use Rattle.records.specs.Checks.{patternRefusal, recipeRefusal, Answers, Pattern, NormalTable, Recipe, ValueTable, recipeRows, OneTerm, Good, Checked};
+
+// The bytes of one record.
+pub const RECORD: usize = 4;
+
+// The kind of a record, by its number in document 01.
+pub struct Kind {
+    pub code: u8,
+}
+
+// What a byte is, read as a kind.
+pub enum KindRead {
+    Known(Kind),
+    Unknown,
+}
+
+impl Kind {
+    pub const APPLICATION: Kind = Kind { code: 0 };
+
+    pub const ABSTRACTION: Kind = Kind { code: 1 };
+
+    pub const LOCAL: Kind = Kind { code: 2 };
+
+    pub const CONSTANT: Kind = Kind { code: 3 };
+
+    pub const VARIABLE: Kind = Kind { code: 4 };
+
+    // Five bytes are kinds, and no other.
+    pub fn from_byte(b: u8) -> KindRead
+        ensures { λ r. ⌜ r ≡ kindOf b ⌝ }
+    {
+        if b <= Kind::VARIABLE.code {
+            KindRead::Known(Kind { code: b })
+        } else {
+            KindRead::Unknown
+        }
+    }
+
+    // How many parts follow a record of this kind: head and argument, body, or none.
+    pub fn parts(self) -> usize
+        ensures { λ r. ⌜ (r ≡ partsOf (self .code)) × (r ≤ 2) ⌝ }
+    {
+        let code = self.code;
+        if code == Kind::APPLICATION.code {
+            return 2;
+        }
+        if code == Kind::ABSTRACTION.code {
+            return 1;
+        }
+        0
+    }
+
+    // Whether a record of this kind may have this number, where the variables are those below `variables`.
+    fn allows(self, number: usize, variables: usize) -> bool
+        requires { ⌜ self .code ≤ 4 ⌝ }
+        ensures { λ r. ⌜ r ≡ allowed variables (some (self .code, number)) ⌝ }
+    {
+        let code = self.code;
+        if code == Kind::VARIABLE.code {
+            return number < variables;
+        }
+        if code <= Kind::ABSTRACTION.code {
+            return number == 0;
+        }
+        true
+    }
+}
+
+// A byte as a number of the width that positions have.
+pub fn wide(b: u8) -> usize
+    ensures { λ r. ⌜ (r ≡ b) × (r < 256) ⌝ }
+{
+    b as usize
+}
+
+// The 16-bit number at byte `at`, high byte first.
+pub fn word_at(s: &[u8], at: usize) -> usize
+    requires { ⌜ at + 2 ≤ length (now s) ⌝ }
+    ensures { λ r. ⌜ (r ≡ wordAt (now (s .entry)) at) × (r < 65536) ⌝ }
+{
+    wide(s[at]) * 256 + wide(s[at + 1])
+}
+
+// The number of the record whose first byte is at `at`.
+pub fn number_at(s: &[u8], at: usize) -> usize
+    requires { ⌜ at + 4 ≤ length (now s) ⌝ }
+    ensures { λ r. ⌜ (r ≡ numberAt (now (s .entry)) at) × (r < constants) ⌝ }
+{
+    word_at(s, at + 2)
+}
+
+// Writes one record at byte `at`; nothing else changes.
+pub fn put_record(out: &mut [u8], at: usize, kind: Kind, number: usize)
+    requires { ⌜ (at + 4 ≤ length (now out)) × (number < constants) ⌝ }
+    ensures { λ _. ⌜ now (out .exit) ≡ sets (now (out .entry)) at (bytes (kind .code) number []) ⌝ }
+{
+    let code = kind.code;
+    out[at] = code;
+    out[at + 1] = 0;
+    out[at + 2] = (number / 256 % 256) as u8;
+    out[at + 3] = (number % 256) as u8;
+}
+
+// How far a pass over records came, and how many parts are missing there.
+struct Pass {
+    at: usize,
+    missing: usize,
+}
+
+// Passes the part that begins at byte `from`, each record once. A record is the start of one part that was missing, and makes its own
+// parts missing; when none is missing the part has ended. Where the bytes run out before that, no term stands at `from`.
+fn pass_part(s: &[u8], from: usize) -> Pass
+    requires { ⌜ from ≤ length (now s) ⌝ }
+    ensures { λ r. ⌜ Reached (now (s .entry)) from (r .missing) (r .at) ⌝ }
+{
+    let mut at = from;
+    let mut missing = 1;
+    while 0 < missing {
+        if s.len() - at < RECORD {
+            return Pass { at, missing };
+        }
+        let kind = Kind { code: s[at] };
+        missing = missing - 1 + kind.parts();
+        at += RECORD;
+    }
+    Pass { at, missing }
+}
+
+// Where the part that a table begins with ends.
+pub enum End {
+    At(usize),
+    Nowhere,
+}
+
+// Where the part that s begins with ends, of any bytes. It looks at the kinds alone, so that the bytes before the end are a term only
+// where they are good records.
+pub fn part_end(s: &[u8]) -> End
+    ensures { λ r. ⌜ Ended (now (s .entry)) r ⌝ }
+{
+    let p = pass_part(s, 0);
+    if p.missing == 0 {
+        return End::At(p.at);
+    }
+    End::Nowhere
+}
+
+// Where the part at byte `at` ends, which is known to stand there.
+pub fn end_at(s: &[u8], at: usize) -> usize
+    requires { ⌜ Whole (now s) at ⌝ }
+    ensures { λ r. ⌜ Ends (now (s .entry)) at r ⌝ }
+{
+    let p = pass_part(s, at);
+    p.at
+}
+
+// Where the head of the application s ends, and its argument begins.
+pub fn head_end(s: &[u8]) -> usize
+    requires { ⌜ Tree (now s) × (getD (now s) 0 0 ≡ 0) ⌝ }
+    ensures { λ r. ⌜ Divided (now (s .entry)) r ⌝ }
+{
+    end_at(s, RECORD)
+}
+
+// The head of the application s.
+pub fn head_of(s: &[u8]) -> &[u8]
+    requires { ⌜ Tree (now s) × (getD (now s) 0 0 ≡ 0) ⌝ }
+    ensures lies { λ r. ⌜ Lies (now (s .entry)) (now r) ⌝ }
+    ensures is { λ r. ⌜ ((f a : Term) → now (s .entry) ≡ encode (Term.app f a) → now r ≡ encode f) ⌝ }
+{
+    let h = head_end(s);
+    &s[RECORD..h]
+}
+
+// The argument of the application s.
+pub fn argument_of(s: &[u8]) -> &[u8]
+    requires { ⌜ Tree (now s) × (getD (now s) 0 0 ≡ 0) ⌝ }
+    ensures lies { λ r. ⌜ Lies (now (s .entry)) (now r) ⌝ }
+    ensures is { λ r. ⌜ ((f a : Term) → now (s .entry) ≡ encode (Term.app f a) → now r ≡ encode a) ⌝ }
+{
+    let h = head_end(s);
+    &s[h..]
+}
+
+// The body of the abstraction s.
+pub fn body_of(s: &[u8]) -> &[u8]
+    requires { ⌜ Tree (now s) × (getD (now s) 0 0 ≡ 1) ⌝ }
+    ensures lies { λ r. ⌜ Lies (now (s .entry)) (now r) ⌝ }
+    ensures is { λ r. ⌜ ((b : Term) → now (s .entry) ≡ encode (Term.lam b) → now r ≡ encode b) ⌝ }
+{
+    &s[RECORD..]
+}
+
+// Whether the four bytes at `at` are a record that a table may hold.
+fn is_allowed(s: &[u8], at: usize, variables: usize) -> bool
+    requires { ⌜ at + 4 ≤ length (now s) ⌝ }
+    ensures { λ r. ⌜ r ≡ allowed variables (recordAt (now (s .entry)) at) ⌝ }
+{
+    if s[at + 1] != 0 {
+        return false;
+    }
+    let number = number_at(s, at);
+    let read = Kind::from_byte(s[at]);
+    let KindRead::Known(kind) = read else {
+        return false;
+    };
+    kind.allows(number, variables)
+}
+
+// Whether s is whole records, each one that a table may hold.
+pub fn good_records(s: &[u8], variables: usize) -> bool
+    ensures { λ r. ⌜ r ≡ goodRecords variables (now (s .entry)) ⌝ }
+{
+    let mut at = 0;
+    while at < s.len() {
+        if s.len() - at < RECORD {
+            return false;
+        }
+        if !is_allowed(s, at, variables) {
+            return false;
+        }
+        at += RECORD;
+    }
+    true
+}
+
+// What is asked of each local of a part: that its number is below n, or that it isn't n. Below a binder n is one more.
+pub enum Ask {
+    Below,
+    Other,
+}
+
+impl Ask {
+    fn holds(self, local: usize, n: usize) -> bool
+        ensures { λ r. ⌜ r ≡ asked self local n ⌝ }
+    {
+        match self {
+            Ask::Below => local < n,
+            Ask::Other => local != n,
+        }
+    }
+}
+
+// How a walk over a part ends: at the part's end, or where it finds a local of which what is asked doesn't hold.
+pub enum Walk {
+    Upto(usize),
+    No,
+}
+
+// Asks the locals of the part at byte `at`, each record once: where the head ends the argument is known to begin.
+pub fn ask_at(s: &[u8], at: usize, ask: Ask, n: usize) -> Walk
+    requires { ⌜ Whole (now s) at × (n + length (now s) ≤ at + tableBytes) ⌝ }
+    ensures { λ r. ⌜ Walked (now (s .entry)) at (Asks ask n) r ⌝ }
+{
+    let k = s[at];
+    if k == Kind::APPLICATION.code {
+        let head = ask_at(s, at + RECORD, ask, n);
+        let Walk::Upto(h) = head else {
+            return Walk::No;
+        };
+        return ask_at(s, h, ask, n);
+    }
+    if k == Kind::ABSTRACTION.code {
+        return ask_at(s, at + RECORD, ask, n + 1);
+    }
+    if k == Kind::LOCAL.code {
+        if ask.holds(number_at(s, at), n) {
+            return Walk::Upto(at + RECORD);
+        }
+        return Walk::No;
+    }
+    Walk::Upto(at + RECORD)
+}
+
+// Whether the locals of the term s have their binders within it or among `depth` binders above it.
+pub fn is_closed(s: &[u8], depth: usize) -> bool
+    requires { ⌜ Tree (now s) × (depth + length (now s) ≤ tableBytes) ⌝ }
+    ensures { λ r. ⌜ Tells (now (s .entry)) (Closed depth) r ⌝ }
+{
+    let walk = ask_at(s, 0, Ask::Below, depth);
+    match walk {
+        Walk::Upto(_) => true,
+        Walk::No => false,
+    }
+}
+
+// Whether the term s uses local n.
+pub fn uses_local(s: &[u8], n: usize) -> bool
+    requires { ⌜ Tree (now s) × (n + length (now s) ≤ tableBytes) ⌝ }
+    ensures { λ r. ⌜ Equals (now (s .entry)) (uses n) r ⌝ }
+{
+    let walk = ask_at(s, 0, Ask::Other, n);
+    match walk {
+        Walk::Upto(_) => false,
+        Walk::No => true,
+    }
+}
+
+// Whether the term s is the innermost local.
+pub fn is_innermost(s: &[u8]) -> bool
+    requires { ⌜ Tree (now s) ⌝ }
+    ensures { λ r. ⌜ Equals (now (s .entry)) isInnermost r ⌝ }
+{
+    if s[0] == Kind::LOCAL.code {
+        return number_at(s, 0) == 0;
+    }
+    false
+}
+
+// Whether the abstraction over s is a redex: s is an application to the innermost local, which its head doesn't use.
+pub fn is_eta(s: &[u8]) -> bool
+    requires { ⌜ Tree (now s) × (length (now s) ≤ tableBytes) ⌝ }
+    ensures { λ r. ⌜ Equals (now (s .entry)) isEta r ⌝ }
+{
+    if s[0] != Kind::APPLICATION.code {
+        return false;
+    }
+    let h = head_end(s);
+    if is_innermost(&s[h..]) {
+        return !uses_local(&s[RECORD..h], 0);
+    }
+    false
+}
+
+// Whether the term s is normal. The abstraction that is itself a redex is ruled out here, by its body; the application is ruled out by
+// `is_head`. An argument and a body may be any normal term.
+pub fn is_normal(s: &[u8]) -> bool
+    requires { ⌜ Tree (now s) × (length (now s) ≤ tableBytes) ⌝ }
+    ensures { λ r. ⌜ Tells (now (s .entry)) Normal r ⌝ }
+{
+    if s[0] == Kind::ABSTRACTION.code {
+        let body = body_of(s);
+        if is_eta(body) {
+            return false;
+        }
+        return is_normal(body);
+    }
+    is_head(s)
+}
+
+// Whether the term s is normal and no abstraction, so that it may be a head. The head is passed over once, to find where it ends.
+pub fn is_head(s: &[u8]) -> bool
+    requires { ⌜ Tree (now s) × (length (now s) ≤ tableBytes) ⌝ }
+    ensures { λ r. ⌜ Tells (now (s .entry)) Head r ⌝ }
+{
+    let k = s[0];
+    if k == Kind::ABSTRACTION.code {
+        return false;
+    }
+    if k == Kind::APPLICATION.code {
+        let h = head_end(s);
+        if is_head(&s[RECORD..h]) {
+            return is_normal(&s[h..]);
+        }
+        return false;
+    }
+    true
+}
+
+// Document 01's figures. A contract below cites each by its name in `terms`, and holds only if the two agree.
+pub const VARIABLES: usize = 8;
+
+pub const PATTERN_RECORDS: usize = 32;
+
+pub const RECIPE_RECORDS: usize = 96;
+
+pub const VALUE_RECORDS: usize = 160;
+
+// What a check of a pattern or a right side finds.
+pub enum PatternCheck {
+    Right,
+    BadLength,
+    BadRecord,
+    NoTerm,
+}
+
+// What a check of a recipe finds.
+pub enum RecipeCheck {
+    Right,
+    BadLength,
+    BadRecord,
+    NoTerm,
+    NotNormal,
+}
+
+// Whether s is empty, has more than `most` records, or ends within one.
+fn is_bad_length(s: &[u8], most: usize) -> bool
+    ensures { λ r. ⌜ Says r (BadLength most (now (s .entry))) ⌝ }
+{
+    let n = s.len();
+    if n == 0 {
+        return true;
+    }
+    if n % RECORD != 0 {
+        return true;
+    }
+    most < n / RECORD
+}
+
+// Whether good records are one whole term, each of whose locals has its binder.
+fn is_one_term(s: &[u8]) -> bool
+    requires { ⌜ Good (now s) × (length (now s) ≤ tableBytes) ⌝ }
+    ensures { λ r. ⌜ Says r (OneTerm (now (s .entry))) ⌝ }
+{
+    let end = part_end(s);
+    let End::At(n) = end else {
+        return false;
+    };
+    if n < s.len() {
+        return false;
+    }
+    is_closed(s, 0)
+}
+
+// Checks any bytes, in the order of document 01's causes, with the figures of the table that they are to be.
+fn check_table(s: &[u8], most: usize, variables: usize) -> PatternCheck
+    requires { ⌜ 4 * most ≤ tableBytes ⌝ }
+    ensures { λ r. ⌜ Checked most variables (now (s .entry)) r ⌝ }
+{
+    if is_bad_length(s, most) {
+        return PatternCheck::BadLength;
+    }
+    if !good_records(s, variables) {
+        return PatternCheck::BadRecord;
+    }
+    if is_one_term(s) {
+        return PatternCheck::Right;
+    }
+    PatternCheck::NoTerm
+}
+
+// Checks a pattern, or a right side.
+pub fn check_pattern(s: &[u8]) -> PatternCheck
+    ensures { λ r. ⌜ Answers (pattern (now (s .entry))) (Pattern (now (s .entry))) (patternRefusal r) ⌝ }
+{
+    check_table(s, PATTERN_RECORDS, VARIABLES)
+}
+
+// Checks any bytes that are to be a normal term without variables, of at most `most` records.
+fn check_normal(s: &[u8], most: usize) -> RecipeCheck
+    requires { ⌜ 4 * most ≤ tableBytes ⌝ }
+    ensures { λ r. ⌜ Answers (recipeRows most (now (s .entry))) (NormalTable most (now (s .entry))) (recipeRefusal r) ⌝ }
+{
+    let check = check_table(s, most, 0);
+    match check {
+        PatternCheck::BadLength => return RecipeCheck::BadLength,
+        PatternCheck::BadRecord => return RecipeCheck::BadRecord,
+        PatternCheck::NoTerm => return RecipeCheck::NoTerm,
+        PatternCheck::Right => {}
+    }
+    if is_normal(s) {
+        return RecipeCheck::Right;
+    }
+    RecipeCheck::NotNormal
+}
+
+// Checks a recipe.
+pub fn check_recipe(s: &[u8]) -> RecipeCheck
+    ensures { λ r. ⌜ Answers (recipe (now (s .entry))) (Recipe (now (s .entry))) (recipeRefusal r) ⌝ }
+{
+    check_normal(s, RECIPE_RECORDS)
+}
+
+// Whether s is the table of a value, of a size that document 01 allows.
+pub fn check_value(s: &[u8]) -> bool
+    ensures { λ r. ⌜ Says r (ValueTable (now (s .entry))) ⌝ }
+{
+    let check = check_normal(s, VALUE_RECORDS);
+    match check {
+        RecipeCheck::Right => true,
+        RecipeCheck::BadLength => false,
+        RecipeCheck::BadRecord => false,
+        RecipeCheck::NoTerm => false,
+        RecipeCheck::NotNormal => false,
+    }
+}
