@@ -1,0 +1,29 @@
+-- A table made zero from its start on, byte by byte. By the list's split at the next byte. Assumes nothing.
+use mathlib.Core.Path.{_≡_, sym, ap, _∙_}
+use mathlib.Core.List.{List, [], _∷_, _++_, append-assoc, append-nil}
+use Prim.Native.Nat.{ℕ, suc, _+_, _<_}
+use native.Mathlib.Numerals.{add-one}
+use native.Mathlib.Omega.{arith}
+use borrow.Author.Tests.{eq-eqb, ne-eqb}
+use lib.ListN.{length, set, drop, replicate, length-replicate, replicate-append-replicate, drop-of-length-le}
+use lib.Seq.{set-at, drop-cons}
+use Rattle.terms.specs.Figures.{tableBytes}
+use Rattle.matcher.specs.Operations.{cleared}
+
+abbrev pub zeroed : ℕ → List ℕ → List ℕ
+zeroed i l = replicate i 0 ++ drop i l
+
+pub zeroed-more : (l m : List ℕ) (i : ℕ) → i < length l → m ≡ zeroed i l → set m i 0 ≡ zeroed (i + 1) l
+zeroed-more l m i h e =
+    ap (λ (x : List ℕ). set x i 0) (e ∙ ap (replicate i 0 ++_) (drop-cons l i 0 h))
+    ∙ set-at (replicate i 0) _ (drop (suc i) l) 0 i (length-replicate i 0)
+    ∙ sym (append-assoc (replicate i 0) (0 ∷ []) (drop (suc i) l))
+    ∙ ap (_++ drop (suc i) l) (replicate-append-replicate i 1 0)
+    ∙ ap (λ (n : ℕ). replicate (i + 1) 0 ++ drop n l) (sym (add-one i))
+
+pub cleared-other : (l : List ℕ) → ¬ (length l ≡ tableBytes) → l ≡ cleared l
+cleared-other l n = simp (ne-eqb (length l) tableBytes n)
+
+pub cleared-all : (l m : List ℕ) (i : ℕ) → length l ≡ tableBytes → i ≡ length l → m ≡ zeroed i l → m ≡ cleared l
+cleared-all l m i e p q =
+    q ∙ ap (replicate i 0 ++_) (drop-of-length-le l {i = i} (omega arith)) ∙ append-nil (replicate i 0) ∙ ap (λ (n : ℕ). replicate n 0) (p ∙ e) ∙ simp (eq-eqb (length l) tableBytes e)

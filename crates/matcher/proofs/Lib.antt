@@ -1,0 +1,4 @@
+pub mod Judging
+pub mod Clearing
+pub mod Sides
+pub mod Answers

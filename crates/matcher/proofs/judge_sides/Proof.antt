@@ -1,0 +1,35 @@
+-- `matcher::judge_sides` meets its contract: a variable of either side that lacks a value is one of both. Assumes nothing.
+use Rattle.terms.specs.Refusal.{OccursIn}
+use Rattle.matcher.proofs.Judging.{side-stop, side-next}
+use borrow.Author.Needs.{needs}
+use Rattle.matcher.proofs.judge_sides.Statement.{statement}
+use Rattle.matcher.proofs.judge_sides.Tie as tie
+
+judge-assignment-requires : tie.Need-judge-assignment-requires
+judge-assignment-requires c κs = search needs
+
+enum-known-first : tie.Need-enum-known-first
+enum-known-first c = search needs
+
+returns : tie.Need-returns
+returns c = side-stop (OccursIn (c .before .before .before .before .before .before .before .before .args .left .now)) (OccursIn (c .before .before .before .before .before .before .before .before .args .right .now)) _ _ _ _ _ (c .before .before .before .judge-assignment .ensures) _ (c .before .first .given .1)
+
+enum-told : tie.Need-enum-told
+enum-told c = search needs
+
+judge-assignment-requires-2 : tie.Need-judge-assignment-requires-2
+judge-assignment-requires-2 c κs = search needs
+
+returns-2 : tie.Need-returns-2
+returns-2 c = side-next (OccursIn (c .before .before .before .before .before .before .before .before .args .left .now)) (OccursIn (c .before .before .before .before .before .before .before .before .args .right .now)) _ _ _ _ _ _ (c .before .before .before .judge-assignment .ensures) (c .before .enum-told .given .1) (c .judge-assignment2 .ensures)
+
+pub judge-sides-spec : {M : Type 1} → statement M
+judge-sides-spec =
+    tie.close
+    (tie.spec
+    judge-assignment-requires
+    enum-known-first
+    returns
+    enum-told
+    judge-assignment-requires-2
+    returns-2)

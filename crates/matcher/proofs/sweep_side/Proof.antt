@@ -1,0 +1,17 @@
+-- `matcher::sweep_side` meets its contract: the entries of the line give the values that fill the pattern. Assumes nothing.
+use Rattle.matcher.proofs.Sides.{fillable, swept-side-of}
+use borrow.Author.Needs.{needs}
+use Rattle.matcher.proofs.sweep_side.Statement.{statement}
+use Rattle.matcher.proofs.sweep_side.Tie as tie
+
+entries-of-requires : tie.Need-entries-of-requires
+entries-of-requires c κs = search needs
+
+sweep-requires : tie.Need-sweep-requires
+sweep-requires c κs = fillable _ _ _ _ (c .before .entries-of .ensures) (c .before .before .before .before .before .pre)
+
+returns : tie.Need-returns
+returns c = swept-side-of _ _ _ _ (c .before .before .entries-of .ensures) (c .before .before .before .before .before .before .pre) _ _ _ (c .sweep .ensures)
+
+pub sweep-side-spec : {M : Type 1} → statement M
+sweep-side-spec = tie.close (tie.spec entries-of-requires sweep-requires returns)

@@ -1,0 +1,86 @@
+// The operations for C and Rust: each table as a pointer and a length, the answer as one number. `include/onestep.h` documents them.
+
+ghost use mathlib.Core.Path.{_≡_};
+ghost use Rattle.matcher.specs.Operations.{cleared};
+ghost use Rattle.matcher.specs.Exports.{refusalCode, CheckedAs, SweptAs, RewrittenAs};
+use crate::CheckAnswer;
+use crate::Refusal;
+use crate::RewriteAnswer;
+use crate::SweepAnswer;
+
+// Minus document 01's number of a refusal.
+fn refusal_code(c: Refusal) -> i64
+    ensures { λ r. ⌜ r ≡ refusalCode c ⌝ }
+{
+    match c {
+        Refusal::PatternLength => -1,
+        Refusal::PatternRecord => -2,
+        Refusal::PatternTerm => -3,
+        Refusal::RecipeLength => -4,
+        Refusal::RecipeRecord => -5,
+        Refusal::RecipeTerm => -6,
+        Refusal::RecipeRedex => -7,
+        Refusal::Tables => -8,
+        Refusal::Assignment => -11,
+        Refusal::SweptForm => -12,
+        Refusal::Output => -13,
+        Refusal::NoMatch => -14,
+    }
+}
+
+#[no_mangle]
+pub extern "C" fn onestep_check(
+    pattern: &[u8],
+    recipe: &[u8],
+    line: &[u8],
+    values: &[u8],
+    work: &mut [u8],
+) -> i64
+    ensures answer { λ r. ⌜ CheckedAs (now (pattern .entry)) (now (recipe .entry)) (now (line .entry)) (now (values .entry)) (now (work .entry)) r ⌝ }
+    ensures area { λ _. ⌜ now (work .exit) ≡ cleared (now (work .entry)) ⌝ }
+{
+    let answer = crate::check(pattern, recipe, line, values, work);
+    match answer {
+        CheckAnswer::Yes => 1,
+        CheckAnswer::No => 0,
+        CheckAnswer::Refused(c) => refusal_code(c),
+    }
+}
+
+#[no_mangle]
+pub extern "C" fn onestep_sweep(
+    pattern: &[u8],
+    line: &[u8],
+    values: &[u8],
+    out: &mut [u8],
+    work: &mut [u8],
+) -> i64
+    ensures answer { λ r. ⌜ SweptAs (now (pattern .entry)) (now (line .entry)) (now (values .entry)) (now (out .entry)) (now (work .entry)) r (now (out .exit)) ⌝ }
+    ensures area { λ _. ⌜ now (work .exit) ≡ cleared (now (work .entry)) ⌝ }
+{
+    let answer = crate::sweep(pattern, line, values, out, work);
+    match answer {
+        SweepAnswer::Records(n) => n as i64,
+        SweepAnswer::Refused(c) => refusal_code(c),
+    }
+}
+
+#[no_mangle]
+pub extern "C" fn onestep_rewrite(
+    left: &[u8],
+    right: &[u8],
+    recipe: &[u8],
+    line: &[u8],
+    values: &[u8],
+    out: &mut [u8],
+    work: &mut [u8],
+) -> i64
+    ensures answer { λ r. ⌜ RewrittenAs (now (left .entry)) (now (right .entry)) (now (recipe .entry)) (now (line .entry)) (now (values .entry)) (now (out .entry)) (now (work .entry)) r (now (out .exit)) ⌝ }
+    ensures area { λ _. ⌜ now (work .exit) ≡ cleared (now (work .entry)) ⌝ }
+{
+    let answer = crate::rewrite(left, right, recipe, line, values, out, work);
+    match answer {
+        RewriteAnswer::Records(n) => n as i64,
+        RewriteAnswer::Refused(c) => refusal_code(c),
+    }
+}

@@ -1,0 +1,658 @@
+use Prim.Native.Nat.{_+_, _*_}
+use lib.ListN.{length}
+use native.Mathlib.Omega.{arith}
+use Rattle.sweeping.proofs.Sweeps.{ready-head, ready-argument, ready-body, ready-tree, ready-value, result-few, result-within, head-long, argument-long, parts-applied, sweeps-application, body-long, part-abstracted, sweeps-abstraction, sweeps-variable, leaf-length, sweeps-leaf}
+use borrow.Author.Needs.{needs}
+use Prim.Native.Nat.{ℕ, _<_}
+use borrow.Fn.Kinds.{In}
+use borrow.Fn.PlainCycle.{Measures, is, falls, and}
+use Rattle.sweeping.proofs.sweep_abstraction.Reads as sweep-abstraction
+use Rattle.sweeping.proofs.sweep_abstraction.Kinds as sweep-abstraction-kinds
+use Rattle.sweeping.proofs.+sweep_abstraction+sweep_application+sweep_part.Lts-sweep_abstraction as sweep-abstraction-lts
+use Rattle.sweeping.proofs.sweep_application.Reads as sweep-application
+use Rattle.sweeping.proofs.sweep_application.Kinds as sweep-application-kinds
+use Rattle.sweeping.proofs.+sweep_abstraction+sweep_application+sweep_part.Lts-sweep_application as sweep-application-lts
+use Rattle.sweeping.proofs.sweep_part.Reads as sweep-part
+use Rattle.sweeping.proofs.sweep_part.Kinds as sweep-part-kinds
+use Rattle.sweeping.proofs.+sweep_abstraction+sweep_application+sweep_part.Lts-sweep_part as sweep-part-lts
+use Rattle.records.proofs.argument_of.Reads as argument-of-reads
+use Rattle.records.proofs.body_of.Reads as body-of-reads
+use Rattle.records.proofs.head_of.Reads as head-of-reads
+use Rattle.records.proofs.number_at.Reads as number-at-reads
+use Rattle.sweeping.proofs.contract_abstraction.Reads as contract-abstraction-reads
+use Rattle.sweeping.proofs.contract_application.Reads as contract-application-reads
+use Rattle.sweeping.proofs.copy_into.Reads as copy-into-reads
+use Rattle.sweeping.proofs.write_value.Reads as write-value-reads
+use Rattle.sweeping.proofs.+sweep_abstraction+sweep_application+sweep_part.{statement}
+use Rattle.sweeping.proofs.+sweep_abstraction+sweep_application+sweep_part.Tie.{close}
+
+abbrev μ-sweep-abstraction : Measures 3 sweep-abstraction-kinds.ps ℕ
+μ-sweep-abstraction κs a = 2 * length (a .0 .now)
+
+abbrev μ-sweep-application : Measures 3 sweep-application-kinds.ps ℕ
+μ-sweep-application κs a = 2 * length (a .0 .now)
+
+abbrev μ-sweep-part : Measures 3 sweep-part-kinds.ps ℕ
+μ-sweep-part κs a = 2 * length (a .0 .now) + 1
+
+abbrev sweep-abstraction-at : ℕ → In 3 sweep-abstraction-kinds.ps
+sweep-abstraction-at t =
+    and
+    3
+    sweep-abstraction-kinds.ps
+    (is 3 sweep-abstraction-kinds.ps μ-sweep-abstraction t)
+    sweep-abstraction.Pre
+
+abbrev sweep-abstraction-below : ℕ → In 3 sweep-abstraction-kinds.ps
+sweep-abstraction-below t =
+    and
+    3
+    sweep-abstraction-kinds.ps
+    (falls 3 sweep-abstraction-kinds.ps _<_ μ-sweep-abstraction t)
+    sweep-abstraction.Pre
+
+abbrev sweep-application-at : ℕ → In 3 sweep-application-kinds.ps
+sweep-application-at t =
+    and
+    3
+    sweep-application-kinds.ps
+    (is 3 sweep-application-kinds.ps μ-sweep-application t)
+    sweep-application.Pre
+
+abbrev sweep-application-below : ℕ → In 3 sweep-application-kinds.ps
+sweep-application-below t =
+    and
+    3
+    sweep-application-kinds.ps
+    (falls 3 sweep-application-kinds.ps _<_ μ-sweep-application t)
+    sweep-application.Pre
+
+abbrev sweep-part-at : ℕ → In 3 sweep-part-kinds.ps
+sweep-part-at t =
+    and 3 sweep-part-kinds.ps (is 3 sweep-part-kinds.ps μ-sweep-part t) sweep-part.Pre
+
+abbrev sweep-part-below : ℕ → In 3 sweep-part-kinds.ps
+sweep-part-below t =
+    and 3 sweep-part-kinds.ps (falls 3 sweep-part-kinds.ps _<_ μ-sweep-part t) sweep-part.Pre
+
+sweep-abstraction-body-of-requires : (t : ℕ) → sweep-abstraction-lts.Need-body-of-requires (
+  body-of-reads.Asked,
+  body-of-reads.Learnt,
+  sweep-part-below t,
+  sweep-part.Post,
+  contract-abstraction-reads.Asked,
+  contract-abstraction-reads.Learnt,
+) (sweep-abstraction-at t) sweep-abstraction.Post
+sweep-abstraction-body-of-requires t c κs = (ready-tree _ _ _ (c .before .before .pre .1 .0), c .before .before .pre .1 .1)
+
+sweep-abstraction-sweep-part-requires : (t : ℕ) → sweep-abstraction-lts.Need-sweep-part-requires (
+  body-of-reads.Asked,
+  body-of-reads.Learnt,
+  sweep-part-below t,
+  sweep-part.Post,
+  contract-abstraction-reads.Asked,
+  contract-abstraction-reads.Learnt,
+) (sweep-abstraction-at t) sweep-abstraction.Post
+sweep-abstraction-sweep-part-requires t c κs = (omega (arith, c .before .body-of .ensures .0 .shorter), ready-body _ _ _ _ (c .before .before .before .before .pre .1 .0) (c .before .before .before .before .pre .1 .1) (c .before .body-of .ensures .1))
+
+sweep-abstraction-enum-known-swept : (t : ℕ) → sweep-abstraction-lts.Need-enum-known-swept (
+  body-of-reads.Asked,
+  body-of-reads.Learnt,
+  sweep-part-below t,
+  sweep-part.Post,
+  contract-abstraction-reads.Asked,
+  contract-abstraction-reads.Learnt,
+) (sweep-abstraction-at t) sweep-abstraction.Post
+sweep-abstraction-enum-known-swept t c = search needs
+
+sweep-abstraction-enum-told : (t : ℕ) → sweep-abstraction-lts.Need-enum-told (
+  body-of-reads.Asked,
+  body-of-reads.Learnt,
+  sweep-part-below t,
+  sweep-part.Post,
+  contract-abstraction-reads.Asked,
+  contract-abstraction-reads.Learnt,
+) (sweep-abstraction-at t) sweep-abstraction.Post
+sweep-abstraction-enum-told t c = search needs
+
+sweep-abstraction-returns : (t : ℕ) → sweep-abstraction-lts.Need-returns (
+  body-of-reads.Asked,
+  body-of-reads.Learnt,
+  sweep-part-below t,
+  sweep-part.Post,
+  contract-abstraction-reads.Asked,
+  contract-abstraction-reads.Learnt,
+) (sweep-abstraction-at t) sweep-abstraction.Post
+sweep-abstraction-returns t c = body-long _ _ _ (c .before .before .before .before .before .before .before .pre .1 .1) _ (c .before .before .before .before .body-of .ensures .1) _ _ _ (c .before .before .sweep-part .ensures) _ (c .enum-told .given .1)
+
+sweep-abstraction-mul-n : (t : ℕ) → sweep-abstraction-lts.Need-mul-n (
+  body-of-reads.Asked,
+  body-of-reads.Learnt,
+  sweep-part-below t,
+  sweep-part.Post,
+  contract-abstraction-reads.Asked,
+  contract-abstraction-reads.Learnt,
+) (sweep-abstraction-at t) sweep-abstraction.Post
+sweep-abstraction-mul-n t c = omega (arith, result-few _ _ _ _ _ _ _ (c .before .before .before .sweep-part .ensures) (c .before .swept .given .1) (omega arith) (ready-body _ _ _ _ (c .before .before .before .before .before .before .before .before .pre .1 .0) (c .before .before .before .before .before .before .before .before .pre .1 .1) (c .before .before .before .before .before .body-of .ensures .1)))
+
+sweep-abstraction-sub-contract-abstraction :
+    (t : ℕ) → sweep-abstraction-lts.Need-sub-contract-abstraction (
+      body-of-reads.Asked,
+      body-of-reads.Learnt,
+      sweep-part-below t,
+      sweep-part.Post,
+      contract-abstraction-reads.Asked,
+      contract-abstraction-reads.Learnt,
+    ) (sweep-abstraction-at t) sweep-abstraction.Post
+sweep-abstraction-sub-contract-abstraction t c = search needs
+
+sweep-abstraction-part-contract-abstraction-start :
+    (t : ℕ) → sweep-abstraction-lts.Need-part-contract-abstraction-start (
+      body-of-reads.Asked,
+      body-of-reads.Learnt,
+      sweep-part-below t,
+      sweep-part.Post,
+      contract-abstraction-reads.Asked,
+      contract-abstraction-reads.Learnt,
+    ) (sweep-abstraction-at t) sweep-abstraction.Post
+sweep-abstraction-part-contract-abstraction-start t c = search needs
+
+sweep-abstraction-part-contract-abstraction-end :
+    (t : ℕ) → sweep-abstraction-lts.Need-part-contract-abstraction-end (
+      body-of-reads.Asked,
+      body-of-reads.Learnt,
+      sweep-part-below t,
+      sweep-part.Post,
+      contract-abstraction-reads.Asked,
+      contract-abstraction-reads.Learnt,
+    ) (sweep-abstraction-at t) sweep-abstraction.Post
+sweep-abstraction-part-contract-abstraction-end t c = result-within _ _ _ _ _ _ _ (c .before .before .before .before .sweep-part .ensures) (c .before .before .swept .given .1) (omega arith) (ready-body _ _ _ _ (c .before .before .before .before .before .before .before .before .before .pre .1 .0) (c .before .before .before .before .before .before .before .before .before .pre .1 .1) (c .before .before .before .before .before .before .body-of .ensures .1))
+
+sweep-abstraction-contract-abstraction-requires :
+    (t : ℕ) → sweep-abstraction-lts.Need-contract-abstraction-requires (
+      body-of-reads.Asked,
+      body-of-reads.Learnt,
+      sweep-part-below t,
+      sweep-part.Post,
+      contract-abstraction-reads.Asked,
+      contract-abstraction-reads.Learnt,
+    ) (sweep-abstraction-at t) sweep-abstraction.Post
+sweep-abstraction-contract-abstraction-requires t c κs = part-abstracted _ _ _ (c .before .before .before .before .before .before .before .before .before .before .before .pre .1 .1) _ (c .before .before .before .before .before .before .before .before .body-of .ensures .1) _ _ _ (c .before .before .before .before .before .before .sweep-part .ensures) _ (c .before .before .before .before .swept .given .1) (omega arith) (c .before .before .before .before .before .before .before .before .before .before .before .pre .1 .0)
+
+sweep-abstraction-returns-2 : (t : ℕ) → sweep-abstraction-lts.Need-returns-2 (
+  body-of-reads.Asked,
+  body-of-reads.Learnt,
+  sweep-part-below t,
+  sweep-part.Post,
+  contract-abstraction-reads.Asked,
+  contract-abstraction-reads.Learnt,
+) (sweep-abstraction-at t) sweep-abstraction.Post
+sweep-abstraction-returns-2 t c = sweeps-abstraction _ _ _ (c .before .before .before .before .before .before .before .before .before .before .before .before .pre .1 .1) _ (c .before .before .before .before .before .before .before .before .before .body-of .ensures .1) _ _ _ (c .before .before .before .before .before .before .before .sweep-part .ensures) _ (c .before .before .before .before .before .swept .given .1) (omega arith) _ _ _ (c .contract-abstraction .ensures)
+
+sweep-application-head-of-requires : (t : ℕ) → sweep-application-lts.Need-head-of-requires (
+  head-of-reads.Asked,
+  head-of-reads.Learnt,
+  sweep-part-below t,
+  sweep-part.Post,
+  argument-of-reads.Asked,
+  argument-of-reads.Learnt,
+  contract-application-reads.Asked,
+  contract-application-reads.Learnt,
+) (sweep-application-at t) sweep-application.Post
+sweep-application-head-of-requires t c κs = (ready-tree _ _ _ (c .before .before .pre .1 .0), c .before .before .pre .1 .1)
+
+sweep-application-sweep-part-requires : (t : ℕ) → sweep-application-lts.Need-sweep-part-requires (
+  head-of-reads.Asked,
+  head-of-reads.Learnt,
+  sweep-part-below t,
+  sweep-part.Post,
+  argument-of-reads.Asked,
+  argument-of-reads.Learnt,
+  contract-application-reads.Asked,
+  contract-application-reads.Learnt,
+) (sweep-application-at t) sweep-application.Post
+sweep-application-sweep-part-requires t c κs = (omega (arith, c .before .head-of .ensures .0 .shorter), ready-head _ _ _ _ (c .before .before .before .before .pre .1 .0) (c .before .before .before .before .pre .1 .1) (c .before .head-of .ensures .1))
+
+sweep-application-enum-known-first : (t : ℕ) → sweep-application-lts.Need-enum-known-first (
+  head-of-reads.Asked,
+  head-of-reads.Learnt,
+  sweep-part-below t,
+  sweep-part.Post,
+  argument-of-reads.Asked,
+  argument-of-reads.Learnt,
+  contract-application-reads.Asked,
+  contract-application-reads.Learnt,
+) (sweep-application-at t) sweep-application.Post
+sweep-application-enum-known-first t c = search needs
+
+sweep-application-enum-told : (t : ℕ) → sweep-application-lts.Need-enum-told (
+  head-of-reads.Asked,
+  head-of-reads.Learnt,
+  sweep-part-below t,
+  sweep-part.Post,
+  argument-of-reads.Asked,
+  argument-of-reads.Learnt,
+  contract-application-reads.Asked,
+  contract-application-reads.Learnt,
+) (sweep-application-at t) sweep-application.Post
+sweep-application-enum-told t c = search needs
+
+sweep-application-returns : (t : ℕ) → sweep-application-lts.Need-returns (
+  head-of-reads.Asked,
+  head-of-reads.Learnt,
+  sweep-part-below t,
+  sweep-part.Post,
+  argument-of-reads.Asked,
+  argument-of-reads.Learnt,
+  contract-application-reads.Asked,
+  contract-application-reads.Learnt,
+) (sweep-application-at t) sweep-application.Post
+sweep-application-returns t c = head-long _ _ _ (c .before .before .before .before .before .before .before .pre .1 .1) _ (c .before .before .before .before .head-of .ensures .1) _ _ _ (c .before .before .sweep-part .ensures) _ (c .enum-told .given .1)
+
+sweep-application-argument-of-requires : (t : ℕ) → sweep-application-lts.Need-argument-of-requires (
+  head-of-reads.Asked,
+  head-of-reads.Learnt,
+  sweep-part-below t,
+  sweep-part.Post,
+  argument-of-reads.Asked,
+  argument-of-reads.Learnt,
+  contract-application-reads.Asked,
+  contract-application-reads.Learnt,
+) (sweep-application-at t) sweep-application.Post
+sweep-application-argument-of-requires t c κs = (ready-tree _ _ _ (c .before .before .before .before .before .before .before .before .pre .1 .0), c .before .before .before .before .before .before .before .before .pre .1 .1)
+
+sweep-application-sweep-part-requires-2 :
+    (t : ℕ) → sweep-application-lts.Need-sweep-part-requires-2 (
+      head-of-reads.Asked,
+      head-of-reads.Learnt,
+      sweep-part-below t,
+      sweep-part.Post,
+      argument-of-reads.Asked,
+      argument-of-reads.Learnt,
+      contract-application-reads.Asked,
+      contract-application-reads.Learnt,
+    ) (sweep-application-at t) sweep-application.Post
+sweep-application-sweep-part-requires-2 t c κs = (omega (arith, c .before .argument-of .ensures .0 .shorter), ready-argument _ _ _ _ (c .before .before .before .before .before .before .before .before .before .before .pre .1 .0) (c .before .before .before .before .before .before .before .before .before .before .pre .1 .1) (c .before .argument-of .ensures .1))
+
+sweep-application-enum-known-second : (t : ℕ) → sweep-application-lts.Need-enum-known-second (
+  head-of-reads.Asked,
+  head-of-reads.Learnt,
+  sweep-part-below t,
+  sweep-part.Post,
+  argument-of-reads.Asked,
+  argument-of-reads.Learnt,
+  contract-application-reads.Asked,
+  contract-application-reads.Learnt,
+) (sweep-application-at t) sweep-application.Post
+sweep-application-enum-known-second t c = search needs
+
+sweep-application-enum-told-2 : (t : ℕ) → sweep-application-lts.Need-enum-told-2 (
+  head-of-reads.Asked,
+  head-of-reads.Learnt,
+  sweep-part-below t,
+  sweep-part.Post,
+  argument-of-reads.Asked,
+  argument-of-reads.Learnt,
+  contract-application-reads.Asked,
+  contract-application-reads.Learnt,
+) (sweep-application-at t) sweep-application.Post
+sweep-application-enum-told-2 t c = search needs
+
+sweep-application-returns-2 : (t : ℕ) → sweep-application-lts.Need-returns-2 (
+  head-of-reads.Asked,
+  head-of-reads.Learnt,
+  sweep-part-below t,
+  sweep-part.Post,
+  argument-of-reads.Asked,
+  argument-of-reads.Learnt,
+  contract-application-reads.Asked,
+  contract-application-reads.Learnt,
+) (sweep-application-at t) sweep-application.Post
+sweep-application-returns-2 t c = argument-long _ _ _ (c .before .before .before .before .before .before .before .before .before .before .before .before .before .pre .1 .1) _ (c .before .before .before .before .before .before .before .before .before .before .head-of .ensures .1) _ _ _ (c .before .before .before .before .before .before .before .before .sweep-part .ensures) _ (c .before .before .before .before .argument-of .ensures .1) _ _ _ (c .before .before .sweep-part2 .ensures) _ (c .enum-told2 .given .1)
+
+sweep-application-mul-n : (t : ℕ) → sweep-application-lts.Need-mul-n (
+  head-of-reads.Asked,
+  head-of-reads.Learnt,
+  sweep-part-below t,
+  sweep-part.Post,
+  argument-of-reads.Asked,
+  argument-of-reads.Learnt,
+  contract-application-reads.Asked,
+  contract-application-reads.Learnt,
+) (sweep-application-at t) sweep-application.Post
+sweep-application-mul-n t c = omega (arith, result-few _ _ _ _ _ _ _ (c .before .before .before .before .before .before .before .before .before .sweep-part .ensures) (c .before .before .before .before .before .before .before .first .given .1) (omega arith) (ready-head _ _ _ _ (c .before .before .before .before .before .before .before .before .before .before .before .before .before .before .pre .1 .0) (c .before .before .before .before .before .before .before .before .before .before .before .before .before .before .pre .1 .1) (c .before .before .before .before .before .before .before .before .before .before .before .head-of .ensures .1)))
+
+sweep-application-mul-m : (t : ℕ) → sweep-application-lts.Need-mul-m (
+  head-of-reads.Asked,
+  head-of-reads.Learnt,
+  sweep-part-below t,
+  sweep-part.Post,
+  argument-of-reads.Asked,
+  argument-of-reads.Learnt,
+  contract-application-reads.Asked,
+  contract-application-reads.Learnt,
+) (sweep-application-at t) sweep-application.Post
+sweep-application-mul-m t c = omega (arith, result-few _ _ _ _ _ _ _ (c .before .before .before .sweep-part2 .ensures) (c .before .second .given .1) (omega arith) (ready-argument _ _ _ _ (c .before .before .before .before .before .before .before .before .before .before .before .before .before .before .pre .1 .0) (c .before .before .before .before .before .before .before .before .before .before .before .before .before .before .pre .1 .1) (c .before .before .before .before .before .argument-of .ensures .1)))
+
+sweep-application-sub-contract-application :
+    (t : ℕ) → sweep-application-lts.Need-sub-contract-application (
+      head-of-reads.Asked,
+      head-of-reads.Learnt,
+      sweep-part-below t,
+      sweep-part.Post,
+      argument-of-reads.Asked,
+      argument-of-reads.Learnt,
+      contract-application-reads.Asked,
+      contract-application-reads.Learnt,
+    ) (sweep-application-at t) sweep-application.Post
+sweep-application-sub-contract-application t c = search needs
+
+sweep-application-part-contract-application-start :
+    (t : ℕ) → sweep-application-lts.Need-part-contract-application-start (
+      head-of-reads.Asked,
+      head-of-reads.Learnt,
+      sweep-part-below t,
+      sweep-part.Post,
+      argument-of-reads.Asked,
+      argument-of-reads.Learnt,
+      contract-application-reads.Asked,
+      contract-application-reads.Learnt,
+    ) (sweep-application-at t) sweep-application.Post
+sweep-application-part-contract-application-start t c = search needs
+
+sweep-application-part-contract-application-end :
+    (t : ℕ) → sweep-application-lts.Need-part-contract-application-end (
+      head-of-reads.Asked,
+      head-of-reads.Learnt,
+      sweep-part-below t,
+      sweep-part.Post,
+      argument-of-reads.Asked,
+      argument-of-reads.Learnt,
+      contract-application-reads.Asked,
+      contract-application-reads.Learnt,
+    ) (sweep-application-at t) sweep-application.Post
+sweep-application-part-contract-application-end t c = result-within _ _ _ _ _ _ _ (c .before .before .before .before .before .before .before .before .before .before .sweep-part .ensures) (c .before .before .before .before .before .before .before .before .first .given .1) (omega arith) (ready-head _ _ _ _ (c .before .before .before .before .before .before .before .before .before .before .before .before .before .before .before .pre .1 .0) (c .before .before .before .before .before .before .before .before .before .before .before .before .before .before .before .pre .1 .1) (c .before .before .before .before .before .before .before .before .before .before .before .before .head-of .ensures .1))
+
+sweep-application-sub-contract-application-2 :
+    (t : ℕ) → sweep-application-lts.Need-sub-contract-application-2 (
+      head-of-reads.Asked,
+      head-of-reads.Learnt,
+      sweep-part-below t,
+      sweep-part.Post,
+      argument-of-reads.Asked,
+      argument-of-reads.Learnt,
+      contract-application-reads.Asked,
+      contract-application-reads.Learnt,
+    ) (sweep-application-at t) sweep-application.Post
+sweep-application-sub-contract-application-2 t c = search needs
+
+sweep-application-part-contract-application-start-2 :
+    (t : ℕ) → sweep-application-lts.Need-part-contract-application-start-2 (
+      head-of-reads.Asked,
+      head-of-reads.Learnt,
+      sweep-part-below t,
+      sweep-part.Post,
+      argument-of-reads.Asked,
+      argument-of-reads.Learnt,
+      contract-application-reads.Asked,
+      contract-application-reads.Learnt,
+    ) (sweep-application-at t) sweep-application.Post
+sweep-application-part-contract-application-start-2 t c = search needs
+
+sweep-application-part-contract-application-end-2 :
+    (t : ℕ) → sweep-application-lts.Need-part-contract-application-end-2 (
+      head-of-reads.Asked,
+      head-of-reads.Learnt,
+      sweep-part-below t,
+      sweep-part.Post,
+      argument-of-reads.Asked,
+      argument-of-reads.Learnt,
+      contract-application-reads.Asked,
+      contract-application-reads.Learnt,
+    ) (sweep-application-at t) sweep-application.Post
+sweep-application-part-contract-application-end-2 t c = result-within _ _ _ _ _ _ _ (c .before .before .before .before .before .before .sweep-part2 .ensures) (c .before .before .before .before .second .given .1) (omega arith) (ready-argument _ _ _ _ (c .before .before .before .before .before .before .before .before .before .before .before .before .before .before .before .before .before .pre .1 .0) (c .before .before .before .before .before .before .before .before .before .before .before .before .before .before .before .before .before .pre .1 .1) (c .before .before .before .before .before .before .before .before .argument-of .ensures .1))
+
+sweep-application-contract-application-requires :
+    (t : ℕ) → sweep-application-lts.Need-contract-application-requires (
+      head-of-reads.Asked,
+      head-of-reads.Learnt,
+      sweep-part-below t,
+      sweep-part.Post,
+      argument-of-reads.Asked,
+      argument-of-reads.Learnt,
+      contract-application-reads.Asked,
+      contract-application-reads.Learnt,
+    ) (sweep-application-at t) sweep-application.Post
+sweep-application-contract-application-requires t c κs = parts-applied _ _ _ (c .before .before .before .before .before .before .before .before .before .before .before .before .before .before .before .before .before .before .before .pre .1 .1) _ (c .before .before .before .before .before .before .before .before .before .before .before .before .before .before .before .before .head-of .ensures .1) _ _ _ (c .before .before .before .before .before .before .before .before .before .before .before .before .before .before .sweep-part .ensures) _ (c .before .before .before .before .before .before .before .before .before .before .argument-of .ensures .1) _ _ _ (c .before .before .before .before .before .before .before .before .sweep-part2 .ensures) _ _ (c .before .before .before .before .before .before .before .before .before .before .before .before .first .given .1) (c .before .before .before .before .before .before .second .given .1) (omega arith) (omega arith) (c .before .before .before .before .before .before .before .before .before .before .before .before .before .before .before .before .before .before .before .pre .1 .0)
+
+sweep-application-returns-3 : (t : ℕ) → sweep-application-lts.Need-returns-3 (
+  head-of-reads.Asked,
+  head-of-reads.Learnt,
+  sweep-part-below t,
+  sweep-part.Post,
+  argument-of-reads.Asked,
+  argument-of-reads.Learnt,
+  contract-application-reads.Asked,
+  contract-application-reads.Learnt,
+) (sweep-application-at t) sweep-application.Post
+sweep-application-returns-3 t c = sweeps-application _ _ _ (c .before .before .before .before .before .before .before .before .before .before .before .before .before .before .before .before .before .before .before .before .pre .1 .1) _ (c .before .before .before .before .before .before .before .before .before .before .before .before .before .before .before .before .before .head-of .ensures .1) _ _ _ (c .before .before .before .before .before .before .before .before .before .before .before .before .before .before .before .sweep-part .ensures) _ (c .before .before .before .before .before .before .before .before .before .before .before .argument-of .ensures .1) _ _ _ (c .before .before .before .before .before .before .before .before .before .sweep-part2 .ensures) _ _ (c .before .before .before .before .before .before .before .before .before .before .before .before .before .first .given .1) (c .before .before .before .before .before .before .before .second .given .1) (omega arith) (omega arith) _ _ _ (c .contract-application .ensures)
+
+sweep-part-shared-slice-read-kind : (t : ℕ) → sweep-part-lts.Need-shared-slice-read-kind (
+  sweep-application-below t,
+  sweep-application.Post,
+  sweep-abstraction-below t,
+  sweep-abstraction.Post,
+  number-at-reads.Asked,
+  number-at-reads.Learnt,
+  write-value-reads.Asked,
+  write-value-reads.Learnt,
+  copy-into-reads.Asked,
+  copy-into-reads.Learnt,
+) (sweep-part-at t) sweep-part.Post
+sweep-part-shared-slice-read-kind t c = search needs
+
+sweep-part-sweep-application-requires : (t : ℕ) → sweep-part-lts.Need-sweep-application-requires (
+  sweep-application-below t,
+  sweep-application.Post,
+  sweep-abstraction-below t,
+  sweep-abstraction.Post,
+  number-at-reads.Asked,
+  number-at-reads.Learnt,
+  write-value-reads.Asked,
+  write-value-reads.Learnt,
+  copy-into-reads.Asked,
+  copy-into-reads.Learnt,
+) (sweep-part-at t) sweep-part.Post
+sweep-part-sweep-application-requires t c κs = (omega arith, (c .before .before .before .before .before .before .pre .1, c .before .if1 .taken))
+
+sweep-part-returns : (t : ℕ) → sweep-part-lts.Need-returns (
+  sweep-application-below t,
+  sweep-application.Post,
+  sweep-abstraction-below t,
+  sweep-abstraction.Post,
+  number-at-reads.Asked,
+  number-at-reads.Learnt,
+  write-value-reads.Asked,
+  write-value-reads.Learnt,
+  copy-into-reads.Asked,
+  copy-into-reads.Learnt,
+) (sweep-part-at t) sweep-part.Post
+sweep-part-returns t c = c .sweep-application .ensures
+
+sweep-part-sweep-abstraction-requires : (t : ℕ) → sweep-part-lts.Need-sweep-abstraction-requires (
+  sweep-application-below t,
+  sweep-application.Post,
+  sweep-abstraction-below t,
+  sweep-abstraction.Post,
+  number-at-reads.Asked,
+  number-at-reads.Learnt,
+  write-value-reads.Asked,
+  write-value-reads.Learnt,
+  copy-into-reads.Asked,
+  copy-into-reads.Learnt,
+) (sweep-part-at t) sweep-part.Post
+sweep-part-sweep-abstraction-requires t c κs = (omega arith, (c .before .before .before .before .before .before .before .before .pre .1, c .before .if2 .taken))
+
+sweep-part-returns-2 : (t : ℕ) → sweep-part-lts.Need-returns-2 (
+  sweep-application-below t,
+  sweep-application.Post,
+  sweep-abstraction-below t,
+  sweep-abstraction.Post,
+  number-at-reads.Asked,
+  number-at-reads.Learnt,
+  write-value-reads.Asked,
+  write-value-reads.Learnt,
+  copy-into-reads.Asked,
+  copy-into-reads.Learnt,
+) (sweep-part-at t) sweep-part.Post
+sweep-part-returns-2 t c = c .sweep-abstraction .ensures
+
+sweep-part-number-at-requires : (t : ℕ) → sweep-part-lts.Need-number-at-requires (
+  sweep-application-below t,
+  sweep-application.Post,
+  sweep-abstraction-below t,
+  sweep-abstraction.Post,
+  number-at-reads.Asked,
+  number-at-reads.Learnt,
+  write-value-reads.Asked,
+  write-value-reads.Learnt,
+  copy-into-reads.Asked,
+  copy-into-reads.Learnt,
+) (sweep-part-at t) sweep-part.Post
+sweep-part-number-at-requires t c κs = search needs
+
+sweep-part-write-value-requires : (t : ℕ) → sweep-part-lts.Need-write-value-requires (
+  sweep-application-below t,
+  sweep-application.Post,
+  sweep-abstraction-below t,
+  sweep-abstraction.Post,
+  number-at-reads.Asked,
+  number-at-reads.Learnt,
+  write-value-reads.Asked,
+  write-value-reads.Learnt,
+  copy-into-reads.Asked,
+  copy-into-reads.Learnt,
+) (sweep-part-at t) sweep-part.Post
+sweep-part-write-value-requires t c κs = ready-value _ _ _ _ (c .before .before .before .before .before .before .before .before .before .before .before .pre .1) (c .before .before .if3 .taken) (c .before .number-at .ensures .0)
+
+sweep-part-returns-3 : (t : ℕ) → sweep-part-lts.Need-returns-3 (
+  sweep-application-below t,
+  sweep-application.Post,
+  sweep-abstraction-below t,
+  sweep-abstraction.Post,
+  number-at-reads.Asked,
+  number-at-reads.Learnt,
+  write-value-reads.Asked,
+  write-value-reads.Learnt,
+  copy-into-reads.Asked,
+  copy-into-reads.Learnt,
+) (sweep-part-at t) sweep-part.Post
+sweep-part-returns-3 t c = sweeps-variable _ _ _ _ _ _ _ (c .before .before .before .if3 .taken) (c .before .before .number-at .ensures .0) (c .write-value .ensures)
+
+sweep-part-copy-into-requires : (t : ℕ) → sweep-part-lts.Need-copy-into-requires (
+  sweep-application-below t,
+  sweep-application.Post,
+  sweep-abstraction-below t,
+  sweep-abstraction.Post,
+  number-at-reads.Asked,
+  number-at-reads.Learnt,
+  write-value-reads.Asked,
+  write-value-reads.Learnt,
+  copy-into-reads.Asked,
+  copy-into-reads.Learnt,
+) (sweep-part-at t) sweep-part.Post
+sweep-part-copy-into-requires t c κs = omega (arith, leaf-length _ _ _ (c .before .before .before .before .before .if1 .left) (c .before .before .before .if2 .left) (c .before .before .before .before .before .before .before .before .before .before .pre .1))
+
+sweep-part-returns-4 : (t : ℕ) → sweep-part-lts.Need-returns-4 (
+  sweep-application-below t,
+  sweep-application.Post,
+  sweep-abstraction-below t,
+  sweep-abstraction.Post,
+  number-at-reads.Asked,
+  number-at-reads.Learnt,
+  write-value-reads.Asked,
+  write-value-reads.Learnt,
+  copy-into-reads.Asked,
+  copy-into-reads.Learnt,
+) (sweep-part-at t) sweep-part.Post
+sweep-part-returns-4 t c = sweeps-leaf _ _ _ (c .before .before .before .before .before .before .if1 .left) (c .before .before .before .before .if2 .left) _ _ (c .before .before .if3 .left) (c .copy-into .ensures)
+
+pub +sweep-abstraction+sweep-application+sweep-part-spec : {M : Type 1} → statement M
++sweep-abstraction+sweep-application+sweep-part-spec =
+    close μ-sweep-abstraction μ-sweep-application μ-sweep-part (λ t. sweep-abstraction-lts.spec (
+      body-of-reads.Asked,
+      body-of-reads.Learnt,
+      sweep-part-below t,
+      sweep-part.Post,
+      contract-abstraction-reads.Asked,
+      contract-abstraction-reads.Learnt,
+    )
+    (sweep-abstraction-at t)
+    sweep-abstraction.Post
+    (sweep-abstraction-body-of-requires t)
+    (sweep-abstraction-sweep-part-requires t)
+    (sweep-abstraction-enum-known-swept t)
+    (sweep-abstraction-enum-told t)
+    (sweep-abstraction-returns t)
+    (sweep-abstraction-mul-n t)
+    (sweep-abstraction-sub-contract-abstraction t)
+    (sweep-abstraction-part-contract-abstraction-start t)
+    (sweep-abstraction-part-contract-abstraction-end t)
+    (sweep-abstraction-contract-abstraction-requires t)
+    (sweep-abstraction-returns-2 t))
+    (λ t. sweep-application-lts.spec (
+      head-of-reads.Asked,
+      head-of-reads.Learnt,
+      sweep-part-below t,
+      sweep-part.Post,
+      argument-of-reads.Asked,
+      argument-of-reads.Learnt,
+      contract-application-reads.Asked,
+      contract-application-reads.Learnt,
+    )
+    (sweep-application-at t)
+    sweep-application.Post
+    (sweep-application-head-of-requires t)
+    (sweep-application-sweep-part-requires t)
+    (sweep-application-enum-known-first t)
+    (sweep-application-enum-told t)
+    (sweep-application-returns t)
+    (sweep-application-argument-of-requires t)
+    (sweep-application-sweep-part-requires-2 t)
+    (sweep-application-enum-known-second t)
+    (sweep-application-enum-told-2 t)
+    (sweep-application-returns-2 t)
+    (sweep-application-mul-n t)
+    (sweep-application-mul-m t)
+    (sweep-application-sub-contract-application t)
+    (sweep-application-part-contract-application-start t)
+    (sweep-application-part-contract-application-end t)
+    (sweep-application-sub-contract-application-2 t)
+    (sweep-application-part-contract-application-start-2 t)
+    (sweep-application-part-contract-application-end-2 t)
+    (sweep-application-contract-application-requires t)
+    (sweep-application-returns-3 t))
+    λ t. sweep-part-lts.spec (
+      sweep-application-below t,
+      sweep-application.Post,
+      sweep-abstraction-below t,
+      sweep-abstraction.Post,
+      number-at-reads.Asked,
+      number-at-reads.Learnt,
+      write-value-reads.Asked,
+      write-value-reads.Learnt,
+      copy-into-reads.Asked,
+      copy-into-reads.Learnt,
+    )
+    (sweep-part-at t)
+    sweep-part.Post
+    (sweep-part-shared-slice-read-kind t)
+    (sweep-part-sweep-application-requires t)
+    (sweep-part-returns t)
+    (sweep-part-sweep-abstraction-requires t)
+    (sweep-part-returns-2 t)
+    (sweep-part-number-at-requires t)
+    (sweep-part-write-value-requires t)
+    (sweep-part-returns-3 t)
+    (sweep-part-copy-into-requires t)
+    (sweep-part-returns-4 t)

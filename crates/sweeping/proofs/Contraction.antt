@@ -1,0 +1,252 @@
+-- Contracting an application or an abstraction with swept parts: what is written is its contracted form, whose size is known beforehand.
+-- By the test that the code makes, which is the definition's. Assumes nothing.
+use mathlib.Core.Path.{_≡_, refl, sym, ap, ap₂, _∙_, subst}
+use mathlib.Core.Bool.{Bool, true, false, not, _&&_}
+use mathlib.Core.List.{List, [], _++_}
+use Prim.Native.Nat.{ℕ, zero, suc, _+_, _-_, _*_, _/_, _≤_, _<_}
+use native.Mathlib.Omega.{arith}
+use native.Mathlib.Nat.{mul-le-mul, mul-left-comm}
+use lib.Dec.{T, eqb}
+use lib.ListN.{length, getD}
+use lib.Seq.{sets}
+use borrow.Author.Tests.{ne-eqb, eq-eqb}
+use Rattle.terms.specs.Figures.{constants, sweptRecords}
+use Rattle.terms.specs.Term.{Term, app, lam, loc, con, var, size, Closed, uses, substitute, unshift, isAbstraction, isInnermost, isEta}
+use Rattle.terms.specs.Sweep.{contract, headOf}
+use Rattle.terms.specs.Table.{bytes, encode}
+use Rattle.terms.proofs.Shift.{shift-unshift, size-shift}
+use Rattle.terms.proofs.Substitute.{substitute-unused}
+use Rattle.terms.proofs.Sweep.{contract-app}
+use Rattle.terms.proofs.Contracted.{isProper, Abstracted as Contracting, Abstracted.out as moves, Abstracted.kept as stays, abstracted}
+use Rattle.terms.proofs.Table.{encode-length}
+use Rattle.records.specs.Record.{numberAt}
+use Rattle.records.specs.Parts.{Part, Whole}
+use Rattle.records.proofs.Parts.{size-some, whole, kind-at, at-start, application, abstraction, argument-part}
+use Rattle.sweeping.specs.declared.Length.the-variants.{Records, TooLong}
+use Rattle.sweeping.specs.Writers.{replace, count, Fits, Wrote, Substitution, Used}
+use Rattle.sweeping.specs.Swept.{sweptBytes, Written, Applied, Applies, Abstracted, Abstracts}
+use Rattle.sweeping.proofs.Stores.{written-then}
+use Rattle.sweeping.proofs.Writers.{source, local-at}
+use Rattle.sweeping.proofs.Counts.{count-none, count-some, size-replaced}
+
+-- the two answers
+pub written : (t : Term) (out after : List ℕ) (n : ℕ) → 4 * n ≡ 4 * size t → n ≤ sweptRecords → after ≡ sets out 0 (encode t) → Written t out (Records n) after
+unfolding Written
+written t out after n e h b = (omega arith, h, b)
+
+pub too-long : (t : Term) (out : List ℕ) → sweptRecords < size t → Written t out TooLong out
+unfolding Written
+too-long t out h = (h, refl)
+
+-- few binders, so that the locals' numbers fit
+pub closed-fits : (d : ℕ) (t : Term) → Closed d t → d + size t ≤ constants → Fits t
+closed-fits d (app f a) c h = (closed-fits d f (c .0) (omega arith), closed-fits d a (c .1) (omega arith))
+closed-fits d (lam b) c h = closed-fits (suc d) b c (omega arith)
+closed-fits d (loc n) c h = omega (arith, c)
+closed-fits d (con n) c h = tt
+closed-fits d (var n) c h = tt
+
+pub table-length : (l : List ℕ) (t : Term) → l ≡ encode t → length l ≡ 4 * size t
+table-length l t e = ap length e ∙ encode-length t
+
+-- an application whose head is no abstraction
+not-abstraction : (l : List ℕ) (t : Term) → l ≡ encode t → ¬ (getD l 0 0 ≡ 1) → T (not (isAbstraction t))
+not-abstraction l (app f a) e n = tt
+not-abstraction l (lam b) e n = n (kind-at l 0 (lam b) (at-start l (lam b) e))
+not-abstraction l (loc m) e n = tt
+not-abstraction l (con m) e n = tt
+not-abstraction l (var m) e n = tt
+
+module _ (f a out : List ℕ) (n : ¬ (getD f 0 0 ≡ 1)) where
+  pub applied-too-long : sweptBytes < 4 + length f + length a → Applies f a out TooLong out
+  applied-too-long h x y e g =
+      rw (contract-app x y (not-abstraction f x e n)) (too-long (app x y) out (omega (arith, table-length f x e, table-length a y g)))
+
+  pub applied-written : (p q r : List ℕ) → 4 + length f + length a ≤ sweptBytes → p ≡ sets out 0 (bytes 0 0 []) → q ≡ sets p 4 f → r ≡ sets q (4 + length f) a → Applies f a out (Records ((4 + length f + length a) / 4)) r
+  applied-written p q r h u v w x y e g =
+      let b : r ≡ sets out 0 (bytes 0 0 (f ++ a)) =
+      written-then (bytes 0 0 f) a out q r 0 (4 + length f) (written-then (bytes 0 0 []) f out p q 0 4 u v refl) w (omega arith) in
+      rw (contract-app x y (not-abstraction f x e n))
+      (written (app x y) out r ((4 + length f + length a) / 4) (omega (arith, table-length f x e, table-length a y g)) (omega arith)
+      (b ∙ ap₂ (λ (i j : List ℕ). sets out 0 (bytes 0 0 (i ++ j))) e g))
+
+-- an application whose head is an abstraction
+pub uses-bytes : (f a next n : ℕ) → 4 + 4 * n ≤ next → next ≤ f → f ≤ sweptBytes → a ≤ sweptBytes → n * (a - 4) ≤ sweptRecords * sweptBytes
+uses-bytes f a next n h i j k = let p : n ≤ sweptRecords = omega arith in let q : a - 4 ≤ sweptBytes = omega arith in mul-le-mul p q
+
+-- the abstraction's body is a part of its table
+pub redex-whole : (f : List ℕ) (x : Term) → f ≡ encode x → getD f 0 0 ≡ 1 → Whole f 4
+redex-whole f x e z = let v = abstraction f 0 x (at-start f x e) z in whole f 4 (v .b) (v .body)
+
+module _ (f a : List ℕ) (z : getD f 0 0 ≡ 1) (next n : ℕ) (u : Used f 4 0 next n) where
+  pub redex-size : (x y : Term) → f ≡ encode x → a ≡ encode y → length f - 4 + n * (length a - 4) ≡ 4 * size (contract (app x y))
+  redex-size x y e g = go (size y) refl
+    where
+      go : (m : ℕ) → size y ≡ m → length f - 4 + n * (length a - 4) ≡ 4 * size (contract (app x y))
+      go zero s = absurd (omega (arith, size-some y))
+      go (suc m) s =
+          let v = abstraction f 0 x (at-start f x e) z in
+          let c : n ≡ count 0 (v .b) = u .exact (v .b) (v .body) in
+          let k : size (contract (app x y)) ≡ size (v .b) + n * m =
+          ap (λ (t : Term). size (contract (app t y))) (v .is) ∙ size-replaced m 0 y (v .b) s ∙ ap (λ (i : ℕ). size (v .b) + i * m) (sym c) in
+          let l : length a - 4 ≡ 4 * m = omega (arith, table-length a y g) in
+          let j : n * (length a - 4) ≡ 4 * (n * m) = ap (λ (i : ℕ). n * i) l ∙ mul-left-comm n 4 m in
+          omega (arith, table-length f x e, ap size (v .is))
+
+  pub redex-too-long : (out : List ℕ) → sweptBytes < length f - 4 + n * (length a - 4) → Applies f a out TooLong out
+  redex-too-long out h x y e g = too-long (contract (app x y)) out (omega (arith, redex-size x y e g))
+
+  pub redex-substitution : (out : List ℕ) → Applied f a → length out ≡ sweptBytes → length f - 4 + n * (length a - 4) ≤ sweptBytes → Substitution f 4 0 a out 0
+  redex-substitution out x h m =
+      let e = x .head-bytes in
+      let g = x .argument-bytes in
+      let v = abstraction f 0 (x .head) (at-start f (x .head) e) z in
+      let s = redex-size (x .head) (x .argument) e g in
+      let q : contract (app (x .head) (x .argument)) ≡ substitute 0 (x .argument) (v .b) = ap (λ (t : Term). contract (app t (x .argument))) (v .is) in
+      let i : size (contract (app (x .head) (x .argument))) ≤ sweptRecords = omega arith in
+      record {
+        argument = x .argument;
+        table = g;
+        few = omega (arith, table-length a (x .argument) g, x .argument-most);
+        source = source (replace (x .argument)) f 4 0 (length out) 0 (v .b) (v .body)
+            (subst Fits q (closed-fits (x .depth) (contract (app (x .head) (x .argument))) (x .closed) (omega (arith, x .shallow))))
+            (omega (arith, table-length f (x .head) e, ap size (v .is), x .head-most)) (omega (arith, ap size q));
+      }
+
+  pub redex-written : (out after : List ℕ) (to end : ℕ) → length f - 4 + n * (length a - 4) ≤ sweptBytes → ((t : Term) → a ≡ encode t → Wrote (replace t) f 4 0 out 0 after to end) → Applies f a out (Records ((length f - 4 + n * (length a - 4)) / 4)) after
+  redex-written out after to end m w x y e g =
+      let s = redex-size x y e g in
+      let v = abstraction f 0 x (at-start f x e) z in
+      written (contract (app x y)) out after ((length f - 4 + n * (length a - 4)) / 4) (omega arith) (omega arith)
+      (w y g .bytes (v .b) (v .body) ∙ ap (λ (t : Term). sets out 0 (encode (contract (app t y)))) (sym (v .is)))
+
+-- the test for an abstraction's contraction, step by step
+and-false : (x : Bool) → false ≡ (x && false)
+and-false true = refl
+and-false false = refl
+
+pub no-application : (b : List ℕ) → ¬ (getD b 0 0 ≡ 0) → (t : Term) → b ≡ encode t → false ≡ isProper t
+no-application b n (app f a) e = absurd (n (kind-at b 0 (app f a) (at-start b (app f a) e)))
+no-application b n (lam c) e = refl
+no-application b n (loc m) e = refl
+no-application b n (con m) e = refl
+no-application b n (var m) e = refl
+
+is-abstraction : (l : List ℕ) (at : ℕ) (t : Term) → Part l at t → getD l at 0 ≡ 1 → isAbstraction t ≡ true
+is-abstraction l at t x z = ap isAbstraction (abstraction l at t x z .is)
+
+is-none : (l : List ℕ) (at : ℕ) (t : Term) → Part l at t → ¬ (getD l at 0 ≡ 1) → isAbstraction t ≡ false
+is-none l at (app f a) x n = refl
+is-none l at (lam b) x n = absurd (n (kind-at l at (lam b) x))
+is-none l at (loc m) x n = refl
+is-none l at (con m) x n = refl
+is-none l at (var m) x n = refl
+
+no-innermost : (l : List ℕ) (at : ℕ) (t : Term) → Part l at t → ¬ (getD l at 0 ≡ 2) → isInnermost t ≡ false
+no-innermost l at (app f a) x n = refl
+no-innermost l at (lam b) x n = refl
+no-innermost l at (loc m) x n = absurd (n (kind-at l at (loc m) x))
+no-innermost l at (con m) x n = refl
+no-innermost l at (var m) x n = refl
+
+module _ (b : List ℕ) (z : getD b 0 0 ≡ 0) where
+  pub body-whole : (x : Abstracted b) → Whole b 4
+  body-whole x = let v = application b 0 (x .body) (at-start b (x .body) (x .bytes)) z in whole b 4 (v .f) (v .head)
+
+  pub argument-whole : (next n : ℕ) → Used b 4 0 next n → (x : Abstracted b) → Whole b next
+  argument-whole next n u x =
+      let v = application b 0 (x .body) (at-start b (x .body) (x .bytes)) z in
+      whole b next (v .a) (argument-part b 0 next (x .body) (u .ends) v)
+
+  pub head-abstraction : getD b 4 0 ≡ 1 → (t : Term) → b ≡ encode t → false ≡ isProper t
+  head-abstraction k t e =
+      let v = application b 0 t (at-start b t e) z in
+      rw (v .is, is-abstraction b 4 (v .f) (v .head) k) (and-false (isEta (app (v .f) (v .a))))
+
+  module _ (next n : ℕ) (u : Used b 4 0 next n) where
+    pub argument-no-local : ¬ (getD b next 0 ≡ 2) → (t : Term) → b ≡ encode t → false ≡ isProper t
+    argument-no-local k t e =
+        let v = application b 0 t (at-start b t e) z in
+        rw (v .is, no-innermost b next (v .a) (argument-part b 0 next t (u .ends) v) k)
+
+    module _ (k : getD b next 0 ≡ 2) (m : ℕ) (i : m ≡ numberAt b next) where
+      pub argument-outer : ¬ (m ≡ 0) → (t : Term) → b ≡ encode t → false ≡ isProper t
+      argument-outer h t e =
+          let v = application b 0 t (at-start b t e) z in
+          rw (v .is, local-at b next m (v .a) (argument-part b 0 next t (u .ends) v) k i, ne-eqb m 0 h)
+
+      pub counted-uses : m ≡ 0 → ¬ (getD b 4 0 ≡ 1) → (t : Term) → b ≡ encode t → eqb n 0 ≡ isProper t
+      counted-uses h j t e =
+          let v = application b 0 t (at-start b t e) z in
+          rw (v .is, local-at b next m (v .a) (argument-part b 0 next t (u .ends) v) k i, eq-eqb m 0 h, is-none b 4 (v .f) (v .head) j)
+          (go (v .f) n (u .exact (v .f) (v .head)))
+        where
+          go : (s : Term) (l : ℕ) → l ≡ count 0 s → eqb l 0 ≡ (not (uses 0 s) && true)
+          go s zero q = rw (count-none 0 s (sym q))
+          go s (suc l) q = rw (count-some 0 s (λ p. omega arith)) (ne-eqb (suc l) 0 (λ p. omega arith))
+
+-- an abstraction that contracts: M moves out, and nothing is put for the local that it doesn't use
+record Proper (t : Term) : Type 0 where
+  m : Term
+  is : t ≡ app m (loc 0)
+  moved : (e : Term) → contract (lam t) ≡ substitute 0 e m
+  smaller : size (contract (lam t)) + 2 ≡ size t
+
+not-both : {A : Type 0} → true ≡ false → A
+not-both e = absurd (subst T e tt)
+
+proper : (t : Term) → isProper t ≡ true → Proper t
+proper t o = go (abstracted t)
+  where
+    go : Contracting t → Proper t
+    go (moves m e u l w) =
+        let q : (x : Term) → contract (lam t) ≡ substitute 0 x m = λ x. w ∙ sym (substitute-unused 0 x m u) in
+        record { m = m; is = e; moved = q; smaller = omega (arith, ap size w, ap size e, ap size (shift-unshift 0 m u), size-shift 1 0 (unshift 1 0 m)) }
+    go (stays p w) = not-both (sym o ∙ p)
+
+module _ (b : List ℕ) (r : Bool) (test : (t : Term) → b ≡ encode t → r ≡ isProper t) where
+  module _ (yes : r ≡ true) where
+    at-term : (t : Term) → b ≡ encode t → Proper t
+    at-term t e = proper t (sym (test t e) ∙ yes)
+
+    -- M is a part of the body's table
+    part : (t : Term) (e : b ≡ encode t) → Part b 4 (at-term t e .m)
+    part t e =
+        let x = at-term t e in
+        let v = application b 0 (app (x .m) (loc 0)) (at-start b (app (x .m) (loc 0)) (e ∙ ap encode (x .is))) (ap (λ (l : List ℕ). getD l 0 0) (e ∙ ap encode (x .is))) in
+        subst (Part b 4) (ap headOf (sym (v .is))) (v .head)
+
+    pub eta-substitution : (out : List ℕ) → Abstracted b → length out ≡ sweptBytes → Substitution b 4 0 b out 0
+    eta-substitution out x h =
+        let y = at-term (x .body) (x .bytes) in
+        let q = y .moved (x .body) in
+        let n = table-length b (x .body) (x .bytes) in
+        record {
+          argument = x .body;
+          table = x .bytes;
+          few = omega (arith, x .most);
+          source = source (replace (x .body)) b 4 0 (length out) 0 (y .m) (part (x .body) (x .bytes))
+              (subst Fits q (closed-fits (x .depth) (contract (lam (x .body))) (x .closed) (omega (arith, x .most, x .shallow, y .smaller))))
+              (omega (arith, x .most, ap size (y .is))) (omega (arith, x .most, y .smaller, ap size q));
+        }
+
+    pub eta-written : (out after : List ℕ) (to end : ℕ) → length b ≤ sweptBytes → ((t : Term) → b ≡ encode t → Wrote (replace t) b 4 0 out 0 after to end) → Abstracts b out (Records (end / 4)) after
+    eta-written out after to end h w t e =
+        let y = at-term t e in
+        let q = y .moved t in
+        written (contract (lam t)) out after (end / 4) (omega (arith, w t e .exact (y .m) (part t e), ap size q))
+        (omega (arith, w t e .exact (y .m) (part t e), ap size q, y .smaller, table-length b t e))
+        (w t e .bytes (y .m) (part t e) ∙ ap (λ (x : Term). sets out 0 (encode x)) (sym q))
+
+  module _ (no : r ≡ false) where
+    kept : (t : Term) → b ≡ encode t → contract (lam t) ≡ lam t
+    kept t e = rw (sym (test t e) ∙ no)
+
+    pub abstracted-too-long : (out : List ℕ) → sweptBytes < 4 + length b → Abstracts b out TooLong out
+    abstracted-too-long out h t e = rw (kept t e) (too-long (lam t) out (omega (arith, table-length b t e)))
+
+    pub abstracted-written : (out p q : List ℕ) → 4 + length b ≤ sweptBytes → p ≡ sets out 0 (bytes 1 0 []) → q ≡ sets p 4 b → Abstracts b out (Records ((4 + length b) / 4)) q
+    abstracted-written out p q h u v t e =
+        rw (kept t e)
+        (written (lam t) out q ((4 + length b) / 4) (omega (arith, table-length b t e)) (omega arith)
+        (written-then (bytes 1 0 []) b out p q 0 4 u v refl ∙ ap (λ (l : List ℕ). sets out 0 (bytes 1 0 l)) e))

@@ -1,0 +1,93 @@
+-- How often a term uses a local: counted part by part, none exactly if the local isn't used, and what each use adds to a substitution's
+-- size. By induction on the term. Assumes nothing.
+use mathlib.Core.Path.{_≡_, refl, sym, ap, ap₂, _∙_, subst}
+use mathlib.Core.Bool.{Bool, true, false, cond, _||_}
+use mathlib.Core.List.{List}
+use Prim.Native.Nat.{ℕ, zero, suc, _+_, _*_, _≤_}
+use native.Mathlib.Omega.{arith}
+use native.Mathlib.Nat.{add-mul}
+use native.Mathlib.Numerals.{add-one}
+use lib.Dec.{T}
+use lib.ListN.{getD}
+use borrow.Author.Tests.{ne-eqb, eq-eqb}
+use Rattle.terms.specs.Term.{Term, app, lam, loc, con, var, size, uses, substitute}
+use Rattle.terms.proofs.Tests.{by-eqb}
+use Rattle.terms.proofs.Shift.{size-shift}
+use Rattle.terms.proofs.Substitute.{by-substitute}
+use Rattle.records.specs.Record.{numberAt}
+use Rattle.records.specs.Parts.{Whole}
+use Rattle.records.proofs.Parts.{application, abstraction, argument-part, ends-app, ends-lam, ends-leaf}
+use Rattle.sweeping.specs.Writers.{count, Used}
+use Rattle.sweeping.proofs.Writers.{local-at, Other, by-other}
+
+-- the count, part by part
+module _ (l : List ℕ) (at k : ℕ) where
+  pub used-application : (h next n m : ℕ) → getD l at 0 ≡ 0 → Used l (at + 4) k h n → Used l h k next m → Used l at k next (n + m)
+  used-application h next n m z x y = record {
+    ends = ends-app l at h next z (x .ends) (y .ends);
+    few = omega (arith, x .few, y .few);
+    exact = λ t w.
+        let v = application l at t w z in
+        rw (v .is) (ap₂ _+_ (x .exact (v .f) (v .head)) (y .exact (v .a) (argument-part l at h t (x .ends) v)));
+  }
+
+  pub used-abstraction : (next n : ℕ) → getD l at 0 ≡ 1 → Used l (at + 4) (k + 1) next n → Used l at k next n
+  used-abstraction next n z x = record {
+    ends = ends-lam l at next z (x .ends);
+    few = omega (arith, x .few);
+    exact = λ t w.
+        let v = abstraction l at t w z in
+        rw (v .is) (x .exact (v .b) (v .body) ∙ ap (λ (j : ℕ). count j (v .b)) (add-one k));
+  }
+
+  module _ (n : ℕ) (x : Whole l at) (z : getD l at 0 ≡ 2) (e : n ≡ numberAt l at) where
+    local-used : (m : ℕ) → m ≤ 1 → m ≡ count k (loc n) → Used l at k (at + 4) m
+    local-used m h c = record {
+      ends = ends-leaf l at (λ q. omega arith) (λ q. omega arith) x;
+      few = omega arith;
+      exact = λ t w. c ∙ ap (count k) (sym (local-at l at n t w z e));
+    }
+
+    pub used-once : n ≡ k → Used l at k (at + 4) 1
+    used-once h = local-used 1 (omega arith) (rw (eq-eqb n k h))
+
+    pub used-never : ¬ (n ≡ k) → Used l at k (at + 4) 0
+    used-never h = local-used 0 (omega arith) (rw (ne-eqb n k h))
+
+  pub used-other : Whole l at → Other l at → Used l at k (at + 4) 0
+  used-other x z = record {
+    ends = ends-leaf l at (z .no-application) (z .no-abstraction) x;
+    few = omega arith;
+    exact = by-other (λ t. 0 ≡ count k t) l at z (λ n w. refl) (λ n w. refl);
+  }
+
+-- none exactly if the local isn't used
+pub count-none : (k : ℕ) (t : Term) → count k t ≡ 0 → uses k t ≡ false
+count-none k (app f a) h = rw (count-none k f (omega arith), count-none k a (omega arith))
+count-none k (lam b) h = count-none (suc k) b h
+count-none k (loc n) h = by-eqb (λ s. cond {A = ℕ} s 1 0 ≡ 0 → s ≡ false) n k (λ p (e : _≡_ {A = ℕ} 1 0). absurd (omega arith)) (λ p e. refl) h
+count-none k (con n) h = refl
+count-none k (var n) h = refl
+
+or-some : (a b : Bool) (n m : ℕ) → (¬ (n ≡ 0) → a ≡ true) → (¬ (m ≡ 0) → b ≡ true) → ¬ (n + m ≡ 0) → a || b ≡ true
+or-some true b n m f g h = refl
+or-some false b zero m f g h = g (λ q. h (omega arith))
+or-some false b (suc n) m f g h = absurd (subst T (sym (f (λ q. omega arith))) tt)
+
+pub count-some : (k : ℕ) (t : Term) → ¬ (count k t ≡ 0) → uses k t ≡ true
+count-some k (app f a) h = or-some (uses k f) (uses k a) (count k f) (count k a) (count-some k f) (count-some k a) h
+count-some k (lam b) h = count-some (suc k) b h
+count-some k (loc n) h = by-eqb (λ s. ¬ (cond {A = ℕ} s 1 0 ≡ 0) → s ≡ true) n k (λ p e. refl) (λ p e. absurd (e refl)) h
+count-some k (con n) h = absurd (h refl)
+count-some k (var n) h = absurd (h refl)
+
+-- each use is one record, for which the argument's records are written
+pub size-replaced : (m k : ℕ) (e t : Term) → size e ≡ suc m → size (substitute k e t) ≡ size t + count k t * m
+size-replaced m k e (app f a) s =
+    omega (arith, size-replaced m k e f s, size-replaced m k e a s, add-mul (count k f) (count k a) m)
+size-replaced m k e (lam b) s = omega (arith, size-replaced m (suc k) e b s)
+size-replaced m k e (loc n) s =
+    by-substitute (λ x. size x ≡ 1 + count k (loc n) * m) k e n (λ l. rw (ne-eqb n k (omega arith)) (omega arith))
+    (λ l. rw (eq-eqb n k l) (omega (arith, size-shift k 0 e))) (λ l. rw (ne-eqb n k (omega arith)) (omega arith))
+size-replaced m k e (con n) s = omega arith
+size-replaced m k e (var n) s = omega arith

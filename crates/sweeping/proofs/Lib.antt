@@ -1,0 +1,6 @@
+pub mod Stores
+pub mod Writers
+pub mod Counts
+pub mod Contraction
+pub mod Values
+pub mod Sweeps

@@ -1,0 +1,209 @@
+-- Writing a changed term: what the parts of a source are, and what was written for a term when its parts were. By the term's kind, which
+-- its first record shows; the laws hold of every change that follows the binders. Assumes nothing.
+use mathlib.Core.Path.{_≡_, refl, sym, ap, ap₂, _∙_, subst}
+use mathlib.Core.List.{List, []}
+use Prim.Native.Nat.{ℕ, suc, _+_, _-_, _*_, _≤_, _<_}
+use native.Mathlib.Omega.{arith}
+use native.Mathlib.Numerals.{add-one}
+use lib.ListN.{length, getD}
+use lib.Seq.{sets}
+use borrow.Author.Tests.{lt-ltb, le-ltb}
+use Rattle.terms.specs.Figures.{constants}
+use Rattle.terms.specs.Term.{Term, app, lam, loc, con, var, size, shift}
+use Rattle.terms.specs.Table.{bytes, encode}
+use Rattle.terms.proofs.Substitute.{substitute-here, substitute-low, substitute-high}
+use Rattle.terms.proofs.Table.{kind, number, encode-length}
+use Rattle.records.specs.Record.{numberAt}
+use Rattle.records.specs.Parts.{Part, Whole}
+use Rattle.records.proofs.Parts.{size-some, whole, kind-at, number-at, at-start, application, abstraction, argument-part, ends-app, ends-lam, ends-leaf}
+use Rattle.sweeping.specs.Writers.{replace, Fits, Source, Wrote, Substitution}
+use Rattle.sweeping.proofs.Stores.{written-then}
+
+-- a change that follows the binders
+pub record Change (g : ℕ → Term → Term) : Type 0 where
+  pub application : (k : ℕ) (f a : Term) → g k (app f a) ≡ app (g k f) (g k a)
+  pub abstraction : (k : ℕ) (b : Term) → g k (lam b) ≡ lam (g (suc k) b)
+  pub constant : (k n : ℕ) → g k (con n) ≡ con n
+  pub variable : (k n : ℕ) → g k (var n) ≡ var n
+
+pub shifts : (d : ℕ) → Change (shift d)
+shifts d = record { application = λ k f a. refl; abstraction = λ k b. refl; constant = λ k n. refl; variable = λ k n. refl }
+
+pub replaces : (e : Term) → Change (replace e)
+replaces e = record { application = λ k f a. refl; abstraction = λ k b. refl; constant = λ k n. refl; variable = λ k n. refl }
+
+pub source : (g : ℕ → Term → Term) (l : List ℕ) (at k room o : ℕ) (t : Term) → Part l at t → Fits (g k t) → k + size t ≤ constants → o + 4 * size (g k t) ≤ room → Source g l at k room o
+source g l at k room o t x f s e = record {
+  tree = t;
+  part = x;
+  fits = f;
+  shallow = s;
+  enough = e;
+  least = omega (arith, x .some, x .within);
+  first = omega (arith, size-some (g k t));
+}
+
+-- the same room, as the length of what a writer left
+pub source-in : (g : ℕ → Term → Term) (l : List ℕ) (at k room rest o : ℕ) → rest ≡ room → Source g l at k room o → Source g l at k rest o
+source-in g l at k room rest o e x = subst (λ (r : ℕ). Source g l at k r o) (sym e) x
+
+-- a local, and what is neither application, abstraction nor local
+pub local-at : (l : List ℕ) (at n : ℕ) (t : Term) → Part l at t → getD l at 0 ≡ 2 → n ≡ numberAt l at → t ≡ loc n
+local-at l at n (loc m) x k e = ap loc (sym (e ∙ number-at l at (loc m) x))
+local-at l at n (app f a) x k e = absurd (omega (arith, kind-at l at (app f a) x))
+local-at l at n (lam b) x k e = absurd (omega (arith, kind-at l at (lam b) x))
+local-at l at n (con m) x k e = absurd (omega (arith, kind-at l at (con m) x))
+local-at l at n (var m) x k e = absurd (omega (arith, kind-at l at (var m) x))
+
+pub record Other (l : List ℕ) (at : ℕ) : Type 0 where
+  pub no-application : ¬ (getD l at 0 ≡ 0)
+  pub no-abstraction : ¬ (getD l at 0 ≡ 1)
+  pub no-local : ¬ (getD l at 0 ≡ 2)
+
+pub by-other : (P : Term → Type 0) (l : List ℕ) (at : ℕ) → Other l at → ((n : ℕ) → Part l at (con n) → P (con n)) → ((n : ℕ) → Part l at (var n) → P (var n)) → (t : Term) → Part l at t → P t
+by-other P l at h c v (app f a) x = absurd (h .no-application (kind-at l at (app f a) x))
+by-other P l at h c v (lam b) x = absurd (h .no-abstraction (kind-at l at (lam b) x))
+by-other P l at h c v (loc n) x = absurd (h .no-local (kind-at l at (loc n) x))
+by-other P l at h c v (con n) x = c n x
+by-other P l at h c v (var n) x = v n x
+
+module _ (g : ℕ → Term → Term) (change : Change g) (l : List ℕ) (at k : ℕ) where
+  -- the parts of a source
+  module _ (room o : ℕ) (x : Source g l at k room o) where
+    pub source-whole : Whole l at
+    source-whole = whole l at (x .tree) (x .part)
+
+    pub source-head : getD l at 0 ≡ 0 → Source g l (at + 4) k room (o + 4)
+    source-head z =
+        let v = application l at (x .tree) (x .part) z in
+        let e : g k (x .tree) ≡ app (g k (v .f)) (g k (v .a)) = ap (g k) (v .is) ∙ change .application k (v .f) (v .a) in
+        let f : Fits (app (g k (v .f)) (g k (v .a))) = subst Fits e (x .fits) in
+        source g l (at + 4) k room (o + 4) (v .f) (v .head) (f .0) (omega (arith, ap size (v .is), x .shallow)) (omega (arith, ap size e, x .enough))
+
+    pub source-argument : (out p : List ℕ) (h m : ℕ) → getD l at 0 ≡ 0 → Wrote g l (at + 4) k out (o + 4) p h m → Source g l h k room m
+    source-argument out p h m z w =
+        let v = application l at (x .tree) (x .part) z in
+        let e : g k (x .tree) ≡ app (g k (v .f)) (g k (v .a)) = ap (g k) (v .is) ∙ change .application k (v .f) (v .a) in
+        let f : Fits (app (g k (v .f)) (g k (v .a))) = subst Fits e (x .fits) in
+        source g l h k room m (v .a) (argument-part l at h (x .tree) (w .ends) v) (f .1) (omega (arith, ap size (v .is), x .shallow))
+        (omega (arith, ap size e, x .enough, w .exact (v .f) (v .head)))
+
+    pub source-body : getD l at 0 ≡ 1 → Source g l (at + 4) (k + 1) room (o + 4)
+    source-body z =
+        let v = abstraction l at (x .tree) (x .part) z in
+        let e : g k (x .tree) ≡ lam (g (k + 1) (v .b)) = ap (g k) (v .is) ∙ change .abstraction k (v .b) ∙ ap (λ (j : ℕ). lam (g j (v .b))) (sym (add-one k)) in
+        source g l (at + 4) (k + 1) room (o + 4) (v .b) (v .body) (subst Fits e (x .fits)) (omega (arith, ap size (v .is), x .shallow)) (omega (arith, ap size e, x .enough))
+
+    pub source-local : (n : ℕ) → getD l at 0 ≡ 2 → n ≡ numberAt l at → Fits (g k (loc n))
+    source-local n z e = subst (λ (t : Term). Fits (g k t)) (local-at l at n (x .tree) (x .part) z e) (x .fits)
+
+    pub source-enough : (n : ℕ) → getD l at 0 ≡ 2 → n ≡ numberAt l at → o + 4 * size (g k (loc n)) ≤ room
+    source-enough n z e = subst (λ (t : Term). o + 4 * size (g k t) ≤ room) (local-at l at n (x .tree) (x .part) z e) (x .enough)
+
+  -- what was written
+  module _ (out : List ℕ) (o : ℕ) where
+    pub wrote-application : (p q r : List ℕ) (h m next end : ℕ) → getD l at 0 ≡ 0 → p ≡ sets out o (bytes 0 0 []) → Wrote g l (at + 4) k p (o + 4) q h m → Wrote g l h k q m r next end → Wrote g l at k out o r next end
+    wrote-application p q r h m next end z e x y = record {
+      ends = ends-app l at h next z (x .ends) (y .ends);
+      exact = λ t w. go t w .0;
+      bytes = λ t w. go t w .1;
+    }
+      where
+        go : (t : Term) → Part l at t → (end ≡ o + 4 * size (g k t)) × (r ≡ sets out o (encode (g k t)))
+        go t w =
+            let v = application l at t w z in
+            let a = argument-part l at h t (x .ends) v in
+            let u : g k t ≡ app (g k (v .f)) (g k (v .a)) = ap (g k) (v .is) ∙ change .application k (v .f) (v .a) in
+            let i = x .exact (v .f) (v .head) in
+            let j = y .exact (v .a) a in
+            let n : m ≡ o + length (bytes 0 0 (encode (g k (v .f)))) = omega (arith, encode-length (g k (v .f))) in
+            let b = written-then (bytes 0 0 []) (encode (g k (v .f))) out p q o (o + 4) e (x .bytes (v .f) (v .head)) refl in
+            rw u (omega arith, written-then (bytes 0 0 (encode (g k (v .f)))) (encode (g k (v .a))) out q r o m b (y .bytes (v .a) a) n)
+
+    pub wrote-abstraction : (p q : List ℕ) (next end : ℕ) → getD l at 0 ≡ 1 → p ≡ sets out o (bytes 1 0 []) → Wrote g l (at + 4) (k + 1) p (o + 4) q next end → Wrote g l at k out o q next end
+    wrote-abstraction p q next end z e x = record {
+      ends = ends-lam l at next z (x .ends);
+      exact = λ t w. go t w .0;
+      bytes = λ t w. go t w .1;
+    }
+      where
+        go : (t : Term) → Part l at t → (end ≡ o + 4 * size (g k t)) × (q ≡ sets out o (encode (g k t)))
+        go t w =
+            let v = abstraction l at t w z in
+            let u : g k t ≡ lam (g (k + 1) (v .b)) = ap (g k) (v .is) ∙ change .abstraction k (v .b) ∙ ap (λ (j : ℕ). lam (g j (v .b))) (sym (add-one k)) in
+            let i = x .exact (v .b) (v .body) in
+            rw u (omega arith, written-then (bytes 1 0 []) (encode (g (k + 1) (v .b))) out p q o (o + 4) e (x .bytes (v .b) (v .body)) refl)
+
+    pub wrote-local : (p : List ℕ) (n end : ℕ) (u : Term) → Whole l at → getD l at 0 ≡ 2 → n ≡ numberAt l at → u ≡ g k (loc n) → p ≡ sets out o (encode u) → end ≡ o + 4 * size u → Wrote g l at k out o p (at + 4) end
+    wrote-local p n end u x z e f b s = record {
+      ends = ends-leaf l at (λ q. omega arith) (λ q. omega arith) x;
+      exact = λ t w. s ∙ ap (λ (y : Term). o + 4 * size y) (is t w);
+      bytes = λ t w. b ∙ ap (λ (y : Term). sets out o (encode y)) (is t w);
+    }
+      where
+        is : (t : Term) → Part l at t → u ≡ g k t
+        is t w = f ∙ ap (g k) (sym (local-at l at n t w z e))
+
+    pub wrote-other : (p : List ℕ) (n : ℕ) → Whole l at → Other l at → n ≡ numberAt l at → p ≡ sets out o (bytes (getD l at 0) n []) → Wrote g l at k out o p (at + 4) (o + 4)
+    wrote-other p n x z e b = record {
+      ends = ends-leaf l at (z .no-application) (z .no-abstraction) x;
+      exact = λ t w. is t w .0;
+      bytes = λ t w. is t w .1;
+    }
+      where
+        own : (t : Term) → Part l at t → encode t ≡ bytes (kind t) (number t) [] → p ≡ sets out o (encode t)
+        own t w f = b ∙ ap₂ (λ (i j : ℕ). sets out o (bytes i j [])) (kind-at l at t w) (e ∙ number-at l at t w) ∙ ap (sets out o) (sym f)
+
+        is : (t : Term) → Part l at t → (o + 4 ≡ o + 4 * size (g k t)) × (p ≡ sets out o (encode (g k t)))
+        is = by-other (λ t. (o + 4 ≡ o + 4 * size (g k t)) × (p ≡ sets out o (encode (g k t)))) l at z
+            (λ m w. rw (change .constant k m) (omega arith, own (con m) w refl)) (λ m w. rw (change .variable k m) (omega arith, own (var m) w refl))
+
+-- a local that is shifted
+pub shift-fits : (n d c : ℕ) → Fits (shift d c (loc n)) → c ≤ n → n + d < constants
+shift-fits n d c f h = rw (le-ltb n c h) at f
+
+pub shift-low : (n d c : ℕ) → Fits (shift d c (loc n)) → n < c → (loc n ≡ shift d c (loc n)) × (n < constants)
+shift-low n d c f h = let e : shift d c (loc n) ≡ loc n = rw (lt-ltb n c h) in (sym e, subst Fits e f)
+
+pub shift-high : (n d c : ℕ) → Fits (shift d c (loc n)) → c ≤ n → (loc (n + d) ≡ shift d c (loc n)) × (n + d < constants)
+shift-high n d c f h = let e : shift d c (loc n) ≡ loc (n + d) = rw (le-ltb n c h) in (sym e, subst Fits e f)
+
+-- a substitution's parts
+module _ (b : List ℕ) (at k : ℕ) (e out : List ℕ) (o : ℕ) (x : Substitution b at k e out o) where
+  module _ (p : List ℕ) (n : length p ≡ length out) where
+    from : (j i m : ℕ) → Source (replace (x .argument)) b j i (length out) m → Substitution b j i e p m
+    from j i m s = record { argument = x .argument; table = x .table; few = x .few; source = source-in (replace (x .argument)) b j i (length out) (length p) m n s }
+
+    pub substitution-head : getD b at 0 ≡ 0 → Substitution b (at + 4) k e p (o + 4)
+    substitution-head z = from (at + 4) k (o + 4) (source-head (replace (x .argument)) (replaces (x .argument)) b at k (length out) o (x .source) z)
+
+    pub substitution-body : getD b at 0 ≡ 1 → Substitution b (at + 4) (k + 1) e p (o + 4)
+    substitution-body z = from (at + 4) (k + 1) (o + 4) (source-body (replace (x .argument)) (replaces (x .argument)) b at k (length out) o (x .source) z)
+
+    pub substitution-argument : (q r : List ℕ) (h m : ℕ) → getD b at 0 ≡ 0 → ((t : Term) → e ≡ encode t → Wrote (replace t) b (at + 4) k q (o + 4) r h m) → Substitution b h k e p m
+    substitution-argument q r h m z w =
+        from h k m (source-argument (replace (x .argument)) (replaces (x .argument)) b at k (length out) o (x .source) q r h m z (w (x .argument) (x .table)))
+
+  -- the term to be put for local k, shifted by the k binders crossed
+  pub substitution-copy : (n : ℕ) → getD b at 0 ≡ 2 → n ≡ numberAt b at → n ≡ k → Source (shift k) e 0 0 (length out) o
+  substitution-copy n z i h =
+      let g = replace (x .argument) in
+      let q : g k (loc n) ≡ shift k 0 (x .argument) = substitute-here k (x .argument) n h in
+      source (shift k) e 0 0 (length out) o (x .argument) (at-start e (x .argument) (x .table))
+      (subst Fits q (source-local g (replaces (x .argument)) b at k (length out) o (x .source) n z i))
+      (omega (arith, x .few))
+      (subst (λ (t : Term). o + 4 * size t ≤ length out) q (source-enough g (replaces (x .argument)) b at k (length out) o (x .source) n z i))
+
+  pub substitution-whole : Whole b at
+  substitution-whole = source-whole (replace (x .argument)) (replaces (x .argument)) b at k (length out) o (x .source)
+
+  pub wrote-copy : (p : List ℕ) (n next end : ℕ) → getD b at 0 ≡ 2 → n ≡ numberAt b at → n ≡ k → Wrote (shift k) e 0 0 out o p next end → (t : Term) → e ≡ encode t → Wrote (replace t) b at k out o p (at + 4) end
+  wrote-copy p n next end z i h w t f =
+      let s = at-start e t f in
+      wrote-local (replace t) (replaces t) b at k out o p n end (shift k 0 t) substitution-whole z i (sym (substitute-here k t n h)) (w .bytes t s) (w .exact t s)
+
+pub lowered-low : (n k : ℕ) → n < k → (e : Term) → loc n ≡ replace e k (loc n)
+lowered-low n k h e = sym (substitute-low n k e h)
+
+pub lowered-high : (n k : ℕ) → ¬ (n ≡ k) → k ≤ n → (e : Term) → loc (n - 1) ≡ replace e k (loc n)
+lowered-high n k m h e = sym (substitute-high n k e (omega arith))

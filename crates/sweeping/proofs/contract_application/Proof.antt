@@ -1,0 +1,58 @@
+use Rattle.sweeping.proofs.Contraction.{applied-too-long, applied-written}
+use borrow.Author.Needs.{needs}
+use Rattle.sweeping.proofs.contract_application.Statement.{statement}
+use Rattle.sweeping.proofs.contract_application.Tie as tie
+use Rattle.sweeping.proofs.contract_application.Reads as reads
+use Rattle.sweeping.proofs.contract_application.Lts as lts
+use Rattle.records.proofs.put_record.Reads as put-record-reads
+use Rattle.sweeping.proofs.contract_redex.Reads as contract-redex-reads
+use Rattle.sweeping.proofs.copy_into.Reads as copy-into-reads
+
+shared-slice-read-if1 : tie.Need-shared-slice-read-if1
+shared-slice-read-if1 c = search needs
+
+contract-redex-requires : tie.Need-contract-redex-requires
+contract-redex-requires c κs = search needs
+
+returns : tie.Need-returns
+returns c = search needs
+
+add-n : tie.Need-add-n
+add-n c = search needs
+
+add-n-2 : tie.Need-add-n-2
+add-n-2 c = search needs
+
+returns-2 : tie.Need-returns-2
+returns-2 c = applied-too-long _ _ _ (c .before .if1 .left) (c .if2 .taken)
+
+put-record-requires : tie.Need-put-record-requires
+put-record-requires c κs = search needs
+
+copy-into-requires : tie.Need-copy-into-requires
+copy-into-requires c κs = search needs
+
+add-copy-into : tie.Need-add-copy-into
+add-copy-into c = search needs
+
+copy-into-requires-2 : tie.Need-copy-into-requires-2
+copy-into-requires-2 c κs = search needs
+
+returns-3 : tie.Need-returns-3
+returns-3 c = applied-written _ _ _ (c .before .before .before .before .before .before .before .if1 .left) _ _ _ (c .before .before .before .before .before .before .if2 .left) (c .before .before .before .before .put-record .ensures) (c .before .before .copy-into .ensures) (c .copy-into2 .ensures)
+
+pub contract-application-spec : {M : Type 1} → statement M
+contract-application-spec =
+    tie.close
+    (tie.spec
+    shared-slice-read-if1
+    contract-redex-requires
+    returns
+    add-n
+    add-n-2
+    returns-2
+    put-record-requires
+    copy-into-requires
+    add-copy-into
+    copy-into-requires-2
+    returns-3)

@@ -1,0 +1,46 @@
+use native.Mathlib.Omega.{arith}
+use Rattle.sweeping.proofs.Contraction.{redex-whole, uses-bytes, redex-too-long, redex-substitution, redex-written}
+use borrow.Author.Needs.{needs}
+use Rattle.sweeping.proofs.contract_redex.Statement.{statement}
+use Rattle.sweeping.proofs.contract_redex.Tie as tie
+use Rattle.sweeping.proofs.contract_redex.Reads as reads
+use Rattle.sweeping.proofs.contract_redex.Lts as lts
+use Rattle.sweeping.proofs.count_uses.Reads as count-uses-reads
+use Rattle.sweeping.proofs.substitute_into.Reads as substitute-into-reads
+
+count-uses-requires : tie.Need-count-uses-requires
+count-uses-requires c κs = (redex-whole _ (c .before .before .pre .0 .head) (c .before .before .pre .0 .head-bytes) (c .before .before .pre .1), omega (arith, c .before .before .pre .0 .head-most))
+
+sub-bytes : tie.Need-sub-bytes
+sub-bytes c = search needs
+
+sub-bytes-2 : tie.Need-sub-bytes-2
+sub-bytes-2 c = search needs
+
+mul-bytes : tie.Need-mul-bytes
+mul-bytes c = omega (arith, uses-bytes _ _ _ _ (c .before .count-uses .ensures .few) (c .before .count-uses .ensures .ends .within) (c .before .before .before .before .pre .0 .head-most) (c .before .before .before .before .pre .0 .argument-most))
+
+add-bytes : tie.Need-add-bytes
+add-bytes c = omega (arith, c .before .before .before .before .pre .0 .head-most, uses-bytes _ _ _ _ (c .before .count-uses .ensures .few) (c .before .count-uses .ensures .ends .within) (c .before .before .before .before .pre .0 .head-most) (c .before .before .before .before .pre .0 .argument-most))
+
+returns : tie.Need-returns
+returns c = redex-too-long _ _ (c .before .before .before .before .before .pre .1) _ _ (c .before .before .count-uses .ensures) _ (c .if1 .taken)
+
+substitute-into-requires : tie.Need-substitute-into-requires
+substitute-into-requires c κs = redex-substitution _ _ (c .before .before .before .before .before .before .pre .1) _ _ (c .before .before .before .count-uses .ensures) _ (c .before .before .before .before .before .before .pre .0) (omega arith) (c .before .if1 .left)
+
+returns-2 : tie.Need-returns-2
+returns-2 c = redex-written _ _ (c .before .before .before .before .before .before .before .pre .1) _ _ (c .before .before .before .before .count-uses .ensures) _ _ _ _ (c .before .before .if1 .left) (c .substitute-into .ensures)
+
+pub contract-redex-spec : {M : Type 1} → statement M
+contract-redex-spec =
+    tie.close
+    (tie.spec
+    count-uses-requires
+    sub-bytes
+    sub-bytes-2
+    mul-bytes
+    add-bytes
+    returns
+    substitute-into-requires
+    returns-2)

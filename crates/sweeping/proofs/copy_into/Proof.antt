@@ -1,0 +1,60 @@
+use Prim.Native.Nat.{_≤_, _-_}
+use mathlib.Core.Path.{_≡_, refl}
+use native.Mathlib.Omega.{arith}
+use lib.ListN.{length, take, length-set}
+use lib.Seq.{sets}
+use Rattle.sweeping.proofs.Stores.{copied-more, copied-all}
+use borrow.Author.Needs.{needs}
+use Rattle.sweeping.proofs.copy_into.Statement.{statement}
+use Rattle.sweeping.proofs.copy_into.Tie as tie
+use Rattle.sweeping.proofs.copy_into.Reads as reads
+use Rattle.sweeping.proofs.copy_into.Lts as lts
+
+abbrev Inv-loop : tie.InvT-loop
+Inv-loop src out₀ o i₀ out i = (i ≤ length src) × (length out ≡ length out₀) × (out ≡ sets out₀ o (take i src))
+
+abbrev μ-loop : tie.MeasureT-loop
+μ-loop src out₀ o i₀ out i = length src - i
+
+loop-holds : tie.Need-loop-holds Inv-loop μ-loop
+loop-holds c = (omega arith, refl, refl)
+
+shared-slice-read-out : tie.Need-shared-slice-read-out Inv-loop μ-loop
+shared-slice-read-out c = search needs
+
+add-out : tie.Need-add-out Inv-loop μ-loop
+add-out c = search needs
+
+slice-write-out : tie.Need-slice-write-out Inv-loop μ-loop
+slice-write-out c = search needs
+
+add-i : tie.Need-add-i Inv-loop μ-loop
+add-i c = search needs
+
+loop-less : tie.Need-loop-less Inv-loop μ-loop
+loop-less c = search needs
+
+loop-again : tie.Need-loop-again Inv-loop μ-loop
+loop-again c = (omega arith, simp length-set (c .before .before .loop .inv .1), copied-more _ _ _ _ _ (c .before .loop-test .taken) (c .before .before .loop .inv .2))
+
+same-length : tie.Need-same-length Inv-loop μ-loop
+same-length c = c .before .loop .inv .1
+
+returns : tie.Need-returns Inv-loop μ-loop
+returns c = copied-all _ _ _ _ _ (c .loop-test .left) (c .before .loop .inv .2)
+
+pub copy-into-spec : {M : Type 1} → statement M
+copy-into-spec =
+    tie.close
+    (tie.spec
+    Inv-loop
+    μ-loop
+    loop-holds
+    shared-slice-read-out
+    add-out
+    slice-write-out
+    add-i
+    loop-less
+    loop-again
+    same-length
+    returns)

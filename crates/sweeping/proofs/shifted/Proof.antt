@@ -1,0 +1,18 @@
+use native.Mathlib.Omega.{arith}
+use Rattle.sweeping.proofs.Writers.{shift-low, shift-high, shift-fits}
+use Rattle.sweeping.proofs.shifted.Statement.{statement}
+use Rattle.sweeping.proofs.shifted.Tie as tie
+use Rattle.sweeping.proofs.shifted.Reads as reads
+use Rattle.sweeping.proofs.shifted.Lts as lts
+
+returns : tie.Need-returns
+returns c = shift-low _ _ _ (c .before .pre) (c .if1 .taken)
+
+add-result : tie.Need-add-result
+add-result c = omega (arith, shift-fits _ _ _ (c .before .pre) (c .if1 .left))
+
+returns-2 : tie.Need-returns-2
+returns-2 c = shift-high _ _ _ (c .before .pre) (c .if1 .left)
+
+pub shifted-spec : {M : Type 1} → statement M
+shifted-spec = tie.close (tie.spec returns add-result returns-2)

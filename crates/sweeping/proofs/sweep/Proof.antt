@@ -1,0 +1,16 @@
+use Rattle.sweeping.proofs.Sweeps.{ready-fillable}
+use borrow.Author.Needs.{needs}
+use Rattle.sweeping.proofs.sweep.Statement.{statement}
+use Rattle.sweeping.proofs.sweep.Tie as tie
+use Rattle.sweeping.proofs.sweep.Reads as reads
+use Rattle.sweeping.proofs.sweep.Lts as lts
+use Rattle.sweeping.proofs.sweep_part.Reads as sweep-part-reads
+
+sweep-part-requires : tie.Need-sweep-part-requires
+sweep-part-requires c κs = ready-fillable _ _ _ (c .before .before .before .pre)
+
+returns : tie.Need-returns
+returns c = search needs
+
+pub sweep-spec : {M : Type 1} → statement M
+sweep-spec = tie.close (tie.spec sweep-part-requires returns)
