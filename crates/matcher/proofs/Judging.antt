@@ -1,6 +1,6 @@
 -- Judging the tables one after the other: a step's refusal is the first cause that holds, since no earlier one did. From the rows of each
 -- step, joined. Assumes nothing.
-use mathlib.Core.Path.{_≡_, refl, sym, _∙_, subst}
+use mathlib.Core.Path.{_≡_, refl, sym, ap, _∙_, subst}
 use mathlib.Core.Bool.{Bool, true, false, not}
 use mathlib.Core.Option.{Option, none, some}
 use mathlib.Core.List.{List, _++_}
@@ -25,17 +25,13 @@ use Rattle.assignments.proofs.Entries.{given-stored, stored-given, occurs-menti
 use Rattle.matcher.specs.declared.Verdict.{Verdict}
 use Rattle.matcher.specs.declared.Refusal.{Refusal}
 use Rattle.matcher.specs.Operations.{number}
-use Rattle.matcher.specs.Steps.{Judged, Ready}
+use Rattle.matcher.specs.Steps.{Judged, firstOf, Ready}
 
 -- one step after the other
 module _ (rows : List Row) (W : Type 0) (v : Verdict) (x : Judged rows W v) where
   pub judged-stop : (more : List Row) (X : Type 0) (c : Refusal) → v ≡ Verdict.Refused c → Judged (rows ++ more) X (Verdict.Refused c)
   unfolding Judged
   judged-stop more X c e = refused-first rows more (number c) (subst (Judged rows W) e x)
-
-  pub judged-last : (X : Type 0) (c : Refusal) → v ≡ Verdict.Refused c → Judged rows X (Verdict.Refused c)
-  unfolding Judged
-  judged-last X c e = subst (Judged rows W) e x
 
   right-at : v ≡ Verdict.Right → Passed rows × W
   unfolding Judged
@@ -51,6 +47,21 @@ module _ (rows : List Row) (W : Type 0) (v : Verdict) (x : Judged rows W v) wher
       go : (u : Verdict) → Judged more X u → Judged (rows ++ more) Y u
       go Verdict.Right y = let r = right-at e in (passed-both rows more (r .0) (y .0), f (r .1) (y .1))
       go (Verdict.Refused c) y = refused-later rows more (number c) (right-at e .0) y
+
+-- two verdicts
+pub first-refused : (a b : Verdict) (c : Refusal) → a ≡ Verdict.Refused c → Verdict.Refused c ≡ firstOf a b
+first-refused a b c e = sym (ap (λ (v : Verdict). firstOf v b) e)
+
+pub first-right : (a b : Verdict) → a ≡ Verdict.Right → b ≡ firstOf a b
+first-right a b e = sym (ap (λ (v : Verdict). firstOf v b) e)
+
+pub judged-first :
+    (rows more : List Row) (W X : Type 0) (a b r : Verdict) → Judged rows W a → Judged more X b → r ≡ firstOf a b → Judged (rows ++ more) (W × X) r
+judged-first rows more W X a b r x y e = subst (Judged (rows ++ more) (W × X)) (sym e) (go a x)
+  where
+    go : (a : Verdict) → Judged rows W a → Judged (rows ++ more) (W × X) (firstOf a b)
+    go Verdict.Right x = judged-next rows W Verdict.Right x more X (W × X) b refl (λ w z. (w, z)) y
+    go (Verdict.Refused c) x = judged-stop rows W (Verdict.Refused c) x more (W × X) c refl
 
 -- a check of a table, as a verdict
 module _ (rows : List Row) (W : Type 0) (o : Option ℕ) (x : Answers rows W o) where

@@ -39,14 +39,14 @@ number Refusal.NoMatch = 14
 -- "Order: 8; pattern 1, 2, 3; recipe 4 to 7; right side 1, 2, 3; then [..] 11, 12 on left, 14, 12 on right, 13. For right, 11 covers its
 -- variables too." Check: pattern p, recipe r, line l, value table s, work area w
 abbrev pub lentForCheck : List ℕ → List ℕ → List ℕ → List ℕ → List ℕ → List Row
-lentForCheck p r l s w = assignmentTables l s w ++ (pattern p ++ (recipe r ++ assignment (OccursIn p) l s))
+lentForCheck p r l s w = (assignmentTables l s w ++ (pattern p ++ recipe r)) ++ assignment (OccursIn p) l s
 
 abbrev pub checkRows : List ℕ → List ℕ → List ℕ → List ℕ → List ℕ → List Row
 checkRows p r l s w = lentForCheck p r l s w ++ swept p l s
 
 -- sweep: output table o
 abbrev pub lentForSweep : List ℕ → List ℕ → List ℕ → List ℕ → List ℕ → List Row
-lentForSweep p l s o w = assignmentTables l s w ++ (outputTable o ++ (pattern p ++ assignment (OccursIn p) l s))
+lentForSweep p l s o w = (assignmentTables l s w ++ (outputTable o ++ pattern p)) ++ assignment (OccursIn p) l s
 
 abbrev pub sweepRows : List ℕ → List ℕ → List ℕ → List ℕ → List ℕ → List Row
 sweepRows p l s o w = lentForSweep p l s o w ++ (swept p l s ++ output p l s o)
@@ -54,7 +54,7 @@ sweepRows p l s o w = lentForSweep p l s o w ++ (swept p l s ++ output p l s o)
 -- rewrite: left side p, right side q
 abbrev pub lentForRewrite : List ℕ → List ℕ → List ℕ → List ℕ → List ℕ → List ℕ → List ℕ → List Row
 lentForRewrite p q r l s o w =
-    assignmentTables l s w ++ (outputTable o ++ (pattern p ++ (recipe r ++ (pattern q ++ assignment (λ i. OccursIn p i ⊎ OccursIn q i) l s))))
+    (assignmentTables l s w ++ (outputTable o ++ (pattern p ++ (recipe r ++ pattern q)))) ++ assignment (λ i. OccursIn p i ⊎ OccursIn q i) l s
 
 abbrev pub rewriteRows : List ℕ → List ℕ → List ℕ → List ℕ → List ℕ → List ℕ → List ℕ → List Row
 rewriteRows p q r l s o w = lentForRewrite p q r l s o w ++ (swept p l s ++ (unmatched p l s r ++ (swept q l s ++ output q l s o)))

@@ -1,5 +1,6 @@
 -- What the steps of an operation answer.
 --   Judged rows W v    the verdict v is the first row whose cause holds; or none does, and W
+--   firstOf a b        the first of two verdicts that refuses
 --   Ready p l s        the pattern's table p can be filled from the line l and the value table s
 --   SweptSide ..       the swept form of the filled pattern, or that some part's is too long
 --   Matched ..         whether the filled pattern sweeps to the recipe
@@ -23,6 +24,11 @@ use Rattle.matcher.specs.Operations.{number, Written}
 unfoldable pub Judged : List Row → Type 0 → Verdict → Type 0
 Judged rows W Verdict.Right = Passed rows × W
 Judged rows W (Verdict.Refused c) = Refused rows (number c)
+
+-- the first verdict that refuses
+abbrev pub firstOf : Verdict → Verdict → Verdict
+firstOf Verdict.Right b = b
+firstOf (Verdict.Refused c) b = Verdict.Refused c
 
 pub record Ready (p l s : List ℕ) : Type 0 where
   pub checked : Pattern p

@@ -22,7 +22,7 @@ ghost use Rattle.terms.specs.Refusal.{OccursIn, BadTable, assignmentTables, out
 ghost use Rattle.records.specs.Tests.{Says};
 ghost use Rattle.records.specs.Checks.{Pattern, Recipe};
 ghost use Rattle.matcher.specs.Operations.{lentForCheck, lentForSweep, lentForRewrite, cleared, overwritten, Checked, Swept, Rewritten};
-ghost use Rattle.matcher.specs.Steps.{Judged, Ready, SweptSide, Matched, Put};
+ghost use Rattle.matcher.specs.Steps.{Judged, firstOf, Ready, SweptSide, Matched, Put};
 
 // The bytes of a work area, and the most of a line, value or output table.
 const TABLE_BYTES: usize = 65536;
@@ -134,6 +134,16 @@ fn judge_recipe(s: &[u8]) -> Verdict
     }
 }
 
+// The first of two verdicts that refuses.
+fn first(a: Verdict, b: Verdict) -> Verdict
+    ensures { λ r. ⌜ r ≡ firstOf a b ⌝ }
+{
+    match a {
+        Verdict::Refused(c) => Verdict::Refused(c),
+        Verdict::Right => b,
+    }
+}
+
 // Whether each variable of a pattern has a value.
 fn judge_assignment(p: &[u8], line: &[u8], values: &[u8]) -> Verdict
     requires { ⌜ Pattern (now p) × (length (now line) ≡ 4 * variables) ⌝ }
@@ -152,8 +162,8 @@ fn judge_sides(left: &[u8], right: &[u8], line: &[u8], values: &[u8]) -> Verdict
     ensures { λ r. ⌜ Judged (assignment (λ i. OccursIn (now (left .entry)) i ⊎ OccursIn (now (right .entry)) i) (now (line .entry)) (now (values .entry)))
         (Ready (now (left .entry)) (now (line .entry)) (now (values .entry)) × Ready (now (right .entry)) (now (line .entry)) (now (values .entry))) r ⌝ }
 {
-    let first = judge_assignment(left, line, values);
-    match first {
+    let one = judge_assignment(left, line, values);
+    match one {
         Verdict::Refused(c) => return Verdict::Refused(c),
         Verdict::Right => {}
     }
@@ -165,18 +175,9 @@ fn judge_check(pattern: &[u8], recipe: &[u8], line: &[u8], values: &[u8], work: 
     ensures { λ r. ⌜ Judged (lentForCheck (now (pattern .entry)) (now (recipe .entry)) (now (line .entry)) (now (values .entry)) (now (work .entry)))
         (Ready (now (pattern .entry)) (now (line .entry)) (now (values .entry)) × Recipe (now (recipe .entry))) r ⌝ }
 {
-    let tables = judge_tables(line, values, work);
-    match tables {
-        Verdict::Refused(c) => return Verdict::Refused(c),
-        Verdict::Right => {}
-    }
-    let left = judge_pattern(pattern);
-    match left {
-        Verdict::Refused(c) => return Verdict::Refused(c),
-        Verdict::Right => {}
-    }
-    let whole = judge_recipe(recipe);
-    match whole {
+    let sides = first(judge_pattern(pattern), judge_recipe(recipe));
+    let lent = first(judge_tables(line, values, work), sides);
+    match lent {
         Verdict::Refused(c) => return Verdict::Refused(c),
         Verdict::Right => {}
     }
@@ -188,18 +189,9 @@ fn judge_sweep(pattern: &[u8], line: &[u8], values: &[u8], out: &[u8], work: &[u
     ensures { λ r. ⌜ Judged (lentForSweep (now (pattern .entry)) (now (line .entry)) (now (values .entry)) (now (out .entry)) (now (work .entry)))
         (Ready (now (pattern .entry)) (now (line .entry)) (now (values .entry))) r ⌝ }
 {
-    let tables = judge_tables(line, values, work);
-    match tables {
-        Verdict::Refused(c) => return Verdict::Refused(c),
-        Verdict::Right => {}
-    }
-    let output = judge_output(out);
-    match output {
-        Verdict::Refused(c) => return Verdict::Refused(c),
-        Verdict::Right => {}
-    }
-    let left = judge_pattern(pattern);
-    match left {
+    let sides = first(judge_output(out), judge_pattern(pattern));
+    let lent = first(judge_tables(line, values, work), sides);
+    match lent {
         Verdict::Refused(c) => return Verdict::Refused(c),
         Verdict::Right => {}
     }
@@ -219,28 +211,11 @@ fn judge_rewrite(
     ensures { λ r. ⌜ Judged (lentForRewrite (now (left .entry)) (now (right .entry)) (now (recipe .entry)) (now (line .entry)) (now (values .entry)) (now (out .entry)) (now (work .entry)))
         ((Ready (now (left .entry)) (now (line .entry)) (now (values .entry)) × Ready (now (right .entry)) (now (line .entry)) (now (values .entry))) × Recipe (now (recipe .entry))) r ⌝ }
 {
-    let tables = judge_tables(line, values, work);
-    match tables {
-        Verdict::Refused(c) => return Verdict::Refused(c),
-        Verdict::Right => {}
-    }
-    let output = judge_output(out);
-    match output {
-        Verdict::Refused(c) => return Verdict::Refused(c),
-        Verdict::Right => {}
-    }
-    let one = judge_pattern(left);
-    match one {
-        Verdict::Refused(c) => return Verdict::Refused(c),
-        Verdict::Right => {}
-    }
-    let whole = judge_recipe(recipe);
-    match whole {
-        Verdict::Refused(c) => return Verdict::Refused(c),
-        Verdict::Right => {}
-    }
-    let other = judge_pattern(right);
-    match other {
+    let sides = first(judge_recipe(recipe), judge_pattern(right));
+    let terms = first(judge_pattern(left), sides);
+    let tables = first(judge_output(out), terms);
+    let lent = first(judge_tables(line, values, work), tables);
+    match lent {
         Verdict::Refused(c) => return Verdict::Refused(c),
         Verdict::Right => {}
     }

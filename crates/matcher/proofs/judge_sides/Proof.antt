@@ -8,11 +8,11 @@ use Rattle.matcher.proofs.judge_sides.Tie as tie
 judge-assignment-requires : tie.Need-judge-assignment-requires
 judge-assignment-requires c κs = search needs
 
-enum-known-first : tie.Need-enum-known-first
-enum-known-first c = search needs
+enum-known-one : tie.Need-enum-known-one
+enum-known-one c = search needs
 
 returns : tie.Need-returns
-returns c = side-stop (OccursIn (c .before .before .before .before .before .before .before .before .args .left .now)) (OccursIn (c .before .before .before .before .before .before .before .before .args .right .now)) _ _ _ _ _ (c .before .before .before .judge-assignment .ensures) _ (c .before .first .given .1)
+returns c = side-stop (OccursIn (c .before .before .before .before .before .before .before .before .args .left .now)) (OccursIn (c .before .before .before .before .before .before .before .before .args .right .now)) _ _ _ _ _ (c .before .before .before .judge-assignment .ensures) _ (c .before .one .given .1)
 
 enum-told : tie.Need-enum-told
 enum-told c = search needs
@@ -28,7 +28,7 @@ judge-sides-spec =
     tie.close
     (tie.spec
     judge-assignment-requires
-    enum-known-first
+    enum-known-one
     returns
     enum-told
     judge-assignment-requires-2
