@@ -52,9 +52,6 @@ module _ (rows : List Row) (W : Type 0) (v : Verdict) (x : Judged rows W v) wher
 pub first-refused : (a b : Verdict) (c : Refusal) → a ≡ Verdict.Refused c → Verdict.Refused c ≡ firstOf a b
 first-refused a b c e = sym (ap (λ (v : Verdict). firstOf v b) e)
 
-pub first-right : (a b : Verdict) → a ≡ Verdict.Right → b ≡ firstOf a b
-first-right a b e = sym (ap (λ (v : Verdict). firstOf v b) e)
-
 pub judged-first :
     (rows more : List Row) (W X : Type 0) (a b r : Verdict) → Judged rows W a → Judged more X b → r ≡ firstOf a b → Judged (rows ++ more) (W × X) r
 judged-first rows more W X a b r x y e = subst (Judged (rows ++ more) (W × X)) (sym e) (go a x)

@@ -1,6 +1,6 @@
 -- A variable's value: it stands in the value table where the entry says, and is its own swept form, being normal. By the entry, and by
 -- induction on the value. Assumes nothing.
-use mathlib.Core.Path.{_≡_, refl, ap, ap₂, _∙_, subst}
+use mathlib.Core.Path.{_≡_, refl, ap, _∙_, subst}
 use mathlib.Core.List.{List}
 use Prim.Native.Nat.{ℕ, _+_, _-_, _*_, _≤_, _<_}
 use native.Mathlib.Omega.{arith}
@@ -47,12 +47,8 @@ given-below s a i v g = go (decLt i (length a))
     go (yes h) = h
     go (no h) = open-not s a i v g (List·getD-eq-default a Open (omega arith))
 
-pub value-written : (s : List ℕ) (x : Span) (v : Term) (out after : List ℕ) → Held s x v → after ≡ sets out 0 (take (x .first * 4 + x .count * 4 - x .first * 4) (drop (x .first * 4) s)) → Written v out (Records (x .count)) after
-value-written s x v out after h e =
-    let n : x .first * 4 + x .count * 4 - x .first * 4 ≡ 4 * x .count = omega arith in
-    let m : x .first * 4 ≡ 4 * x .first = omega arith in
-    written v out after (x .count) (omega (arith, h .exact)) (h .most)
-    (e ∙ ap₂ (λ (i j : ℕ). sets out 0 (take i (drop j s))) n m ∙ ap (sets out 0) (h .bytes))
+pub value-written : (s : List ℕ) (x : Span) (v : Term) (out b after : List ℕ) → Held s x v → b ≡ take (4 * x .count) (drop (4 * x .first) s) → after ≡ sets out 0 b → Written v out (Records (x .count)) after
+value-written s x v out b after h e q = written v out after (x .count) (omega (arith, h .exact)) (h .most) (q ∙ ap (sets out 0) (e ∙ h .bytes))
 
 -- the parts of a normal term sweep to themselves, and it is the largest
 pub largest-normal : (t : Term) → Normal t → largest t ≡ size t

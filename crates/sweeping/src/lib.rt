@@ -281,9 +281,7 @@ fn write_value(i: usize, values: &[u8], a: [Entry; 8], out: &mut [u8; SWEPT_BYTE
         // never so: a variable that occurs is assigned
         Entry::Open => Length::TooLong,
         Entry::Assigned(span) => {
-            let from = span.first * RECORD;
-            let to = from + span.count * RECORD;
-            copy_into(&values[from..to], out, 0);
+            copy_into(assignments::value_of(values, span), out, 0);
             Length::Records(span.count)
         }
     }

@@ -1,3 +1,4 @@
+-- `sweeping::count_uses` meets its contract. The uses of an application are those of its head and of its argument; the measure is what is left of the table. Assumes nothing.
 use Prim.Native.Nat.{_-_}
 use lib.ListN.{length}
 use native.Mathlib.Omega.{arith}

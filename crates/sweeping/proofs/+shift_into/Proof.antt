@@ -1,3 +1,4 @@
+-- `sweeping::shift_into` meets its contract. Each record is written as its term's shifted one, and a part's bytes follow its record's; the measure is what is left of the table. Assumes nothing.
 use mathlib.Core.Path.{_∙_}
 use Prim.Native.Nat.{_-_}
 use lib.ListN.{length}

@@ -1,3 +1,4 @@
+-- `sweeping::substitute_into` meets its contract. Each record is written as its term's substituted one, a use as the shifted argument; the measure is what is left of the table. Assumes nothing.
 use mathlib.Core.Path.{_∙_}
 use Prim.Native.Nat.{_-_}
 use lib.ListN.{length}

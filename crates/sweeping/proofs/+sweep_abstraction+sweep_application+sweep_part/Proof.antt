@@ -1,3 +1,4 @@
+-- `sweep_part`, `sweep_application` and `sweep_abstraction` of `sweeping` meet their contracts. The sweep of a term follows from those of its parts, whose tables are shorter; the measure is the table's length. Assumes nothing.
 use Prim.Native.Nat.{_+_, _*_}
 use lib.ListN.{length}
 use native.Mathlib.Omega.{arith}

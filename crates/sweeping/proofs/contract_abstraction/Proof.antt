@@ -1,14 +1,9 @@
+-- `sweeping::contract_abstraction` meets its contract, by whether the abstraction contracts. Assumes nothing.
 use native.Mathlib.Omega.{arith}
 use Rattle.sweeping.proofs.Contraction.{eta-substitution, eta-written, abstracted-too-long, abstracted-written}
 use borrow.Author.Needs.{needs}
 use Rattle.sweeping.proofs.contract_abstraction.Statement.{statement}
 use Rattle.sweeping.proofs.contract_abstraction.Tie as tie
-use Rattle.sweeping.proofs.contract_abstraction.Reads as reads
-use Rattle.sweeping.proofs.contract_abstraction.Lts as lts
-use Rattle.records.proofs.put_record.Reads as put-record-reads
-use Rattle.sweeping.proofs.contracts.Reads as contracts-reads
-use Rattle.sweeping.proofs.copy_into.Reads as copy-into-reads
-use Rattle.sweeping.proofs.substitute_into.Reads as substitute-into-reads
 
 contracts-requires : tie.Need-contracts-requires
 contracts-requires c κs = search needs

@@ -1,12 +1,8 @@
+-- `sweeping::contract_application` meets its contract, by whether the head is an abstraction. Assumes nothing.
 use Rattle.sweeping.proofs.Contraction.{applied-too-long, applied-written}
 use borrow.Author.Needs.{needs}
 use Rattle.sweeping.proofs.contract_application.Statement.{statement}
 use Rattle.sweeping.proofs.contract_application.Tie as tie
-use Rattle.sweeping.proofs.contract_application.Reads as reads
-use Rattle.sweeping.proofs.contract_application.Lts as lts
-use Rattle.records.proofs.put_record.Reads as put-record-reads
-use Rattle.sweeping.proofs.contract_redex.Reads as contract-redex-reads
-use Rattle.sweeping.proofs.copy_into.Reads as copy-into-reads
 
 shared-slice-read-if1 : tie.Need-shared-slice-read-if1
 shared-slice-read-if1 c = search needs

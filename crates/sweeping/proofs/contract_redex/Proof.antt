@@ -1,12 +1,9 @@
+-- `sweeping::contract_redex` meets its contract: the size of the substituted body is known from its uses before it is written. Assumes nothing.
 use native.Mathlib.Omega.{arith}
 use Rattle.sweeping.proofs.Contraction.{redex-whole, uses-bytes, redex-too-long, redex-substitution, redex-written}
 use borrow.Author.Needs.{needs}
 use Rattle.sweeping.proofs.contract_redex.Statement.{statement}
 use Rattle.sweeping.proofs.contract_redex.Tie as tie
-use Rattle.sweeping.proofs.contract_redex.Reads as reads
-use Rattle.sweeping.proofs.contract_redex.Lts as lts
-use Rattle.sweeping.proofs.count_uses.Reads as count-uses-reads
-use Rattle.sweeping.proofs.substitute_into.Reads as substitute-into-reads
 
 count-uses-requires : tie.Need-count-uses-requires
 count-uses-requires c κs = (redex-whole _ (c .before .before .pre .0 .head) (c .before .before .pre .0 .head-bytes) (c .before .before .pre .1), omega (arith, c .before .before .pre .0 .head-most))

@@ -1,12 +1,9 @@
+-- `sweeping::contracts` meets its contract: each test is one of the conditions of the sweep's second rule. Assumes nothing.
 use native.Mathlib.Omega.{arith}
 use Rattle.sweeping.proofs.Contraction.{no-application, body-whole, argument-whole, head-abstraction, argument-no-local, argument-outer, counted-uses}
 use borrow.Author.Needs.{needs}
 use Rattle.sweeping.proofs.contracts.Statement.{statement}
 use Rattle.sweeping.proofs.contracts.Tie as tie
-use Rattle.sweeping.proofs.contracts.Reads as reads
-use Rattle.sweeping.proofs.contracts.Lts as lts
-use Rattle.records.proofs.number_at.Reads as number-at-reads
-use Rattle.sweeping.proofs.count_uses.Reads as count-uses-reads
 
 shared-slice-read-if1 : tie.Need-shared-slice-read-if1
 shared-slice-read-if1 c = search needs

@@ -1,3 +1,4 @@
+-- `sweeping::copy_into` meets its contract. The loop's invariant: the bytes passed are stored from o on. Assumes nothing.
 use Prim.Native.Nat.{_≤_, _-_}
 use mathlib.Core.Path.{_≡_, refl}
 use native.Mathlib.Omega.{arith}
@@ -7,8 +8,6 @@ use Rattle.sweeping.proofs.Stores.{copied-more, copied-all}
 use borrow.Author.Needs.{needs}
 use Rattle.sweeping.proofs.copy_into.Statement.{statement}
 use Rattle.sweeping.proofs.copy_into.Tie as tie
-use Rattle.sweeping.proofs.copy_into.Reads as reads
-use Rattle.sweeping.proofs.copy_into.Lts as lts
 
 abbrev Inv-loop : tie.InvT-loop
 Inv-loop src out₀ o i₀ out i = (i ≤ length src) × (length out ≡ length out₀) × (out ≡ sets out₀ o (take i src))

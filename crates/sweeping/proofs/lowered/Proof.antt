@@ -1,10 +1,9 @@
+-- `sweeping::lowered` meets its contract, by whether the local is above k. Assumes nothing.
 use native.Mathlib.Omega.{arith}
 use Rattle.sweeping.proofs.Writers.{lowered-low, lowered-high}
 use borrow.Author.Needs.{needs}
 use Rattle.sweeping.proofs.lowered.Statement.{statement}
 use Rattle.sweeping.proofs.lowered.Tie as tie
-use Rattle.sweeping.proofs.lowered.Reads as reads
-use Rattle.sweeping.proofs.lowered.Lts as lts
 
 returns : tie.Need-returns
 returns c = (lowered-low _ _ (c .if1 .taken), c .before .pre .1)

@@ -1,3 +1,4 @@
+-- `sweeping::same_bytes` meets its contract. The loop's invariant: the bytes passed are equal. Assumes nothing.
 use Prim.Native.Nat.{_≤_, _-_}
 use mathlib.Core.Path.{_≡_, refl}
 use native.Mathlib.Omega.{arith}
@@ -6,8 +7,6 @@ use Rattle.sweeping.proofs.Stores.{longer-not, same-more, same-not, sam
 use borrow.Author.Needs.{needs}
 use Rattle.sweeping.proofs.same_bytes.Statement.{statement}
 use Rattle.sweeping.proofs.same_bytes.Tie as tie
-use Rattle.sweeping.proofs.same_bytes.Reads as reads
-use Rattle.sweeping.proofs.same_bytes.Lts as lts
 
 abbrev Inv-loop : tie.InvT-loop
 Inv-loop a b i₀ i = (i ≤ length a) × (take i a ≡ take i b)

@@ -1,9 +1,8 @@
+-- `sweeping::shifted` meets its contract, by whether the local is below the cutoff. Assumes nothing.
 use native.Mathlib.Omega.{arith}
 use Rattle.sweeping.proofs.Writers.{shift-low, shift-high, shift-fits}
 use Rattle.sweeping.proofs.shifted.Statement.{statement}
 use Rattle.sweeping.proofs.shifted.Tie as tie
-use Rattle.sweeping.proofs.shifted.Reads as reads
-use Rattle.sweeping.proofs.shifted.Lts as lts
 
 returns : tie.Need-returns
 returns c = shift-low _ _ _ (c .before .pre) (c .if1 .taken)

@@ -1,10 +1,8 @@
+-- `sweeping::sweep` meets its contract, which is that of `sweep_part` at no binder. Assumes nothing.
 use Rattle.sweeping.proofs.Sweeps.{ready-fillable}
 use borrow.Author.Needs.{needs}
 use Rattle.sweeping.proofs.sweep.Statement.{statement}
 use Rattle.sweeping.proofs.sweep.Tie as tie
-use Rattle.sweeping.proofs.sweep.Reads as reads
-use Rattle.sweeping.proofs.sweep.Lts as lts
-use Rattle.sweeping.proofs.sweep_part.Reads as sweep-part-reads
 
 sweep-part-requires : tie.Need-sweep-part-requires
 sweep-part-requires c κs = ready-fillable _ _ _ (c .before .before .before .pre)

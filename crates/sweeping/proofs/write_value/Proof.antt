@@ -1,12 +1,12 @@
+-- `sweeping::write_value` meets its contract: the span's records are the value's table. Assumes nothing.
+use mathlib.Core.Path.{ap, _∙_}
+use Rattle.terms.proofs.Table.{encode-length}
 use native.Mathlib.Omega.{arith}
-use lib.ListN.{length-take}
+use lib.ListN.{length}
 use Rattle.sweeping.proofs.Values.{held, open-not, given-below, value-written}
 use borrow.Author.Needs.{needs}
 use Rattle.sweeping.proofs.write_value.Statement.{statement}
 use Rattle.sweeping.proofs.write_value.Tie as tie
-use Rattle.sweeping.proofs.write_value.Reads as reads
-use Rattle.sweeping.proofs.write_value.Lts as lts
-use Rattle.sweeping.proofs.copy_into.Reads as copy-into-reads
 
 mul-e : tie.Need-mul-e
 mul-e c = omega (arith, given-below _ _ _ _ (c .before .pre .given))
@@ -20,32 +20,17 @@ enum-told c = search needs
 enum-known-e : tie.Need-enum-known-e
 enum-known-e c = search needs
 
-mul-from : tie.Need-mul-from
-mul-from c = omega (arith, held _ _ _ _ (c .before .before .before .before .before .before .pre .given) _ (c .before .before .e2 .given .1) .within)
-
-mul-to : tie.Need-mul-to
-mul-to c = omega (arith, held _ _ _ _ (c .before .before .before .before .before .before .before .pre .given) _ (c .before .before .before .e2 .given .1) .within)
-
-add-to : tie.Need-add-to
-add-to c = omega (arith, held _ _ _ _ (c .before .before .before .before .before .before .before .pre .given) _ (c .before .before .before .e2 .given .1) .within)
-
-sub-copy-into : tie.Need-sub-copy-into
-sub-copy-into c = search needs
-
-part-copy-into-start : tie.Need-part-copy-into-start
-part-copy-into-start c = search needs
-
-part-copy-into-end : tie.Need-part-copy-into-end
-part-copy-into-end c = omega (arith, held _ _ _ _ (c .before .before .before .before .before .before .before .pre .given) _ (c .before .before .before .e2 .given .1) .within)
+value-of-requires : tie.Need-value-of-requires
+value-of-requires c κs = held _ _ _ _ (c .before .before .before .before .before .pre .given) _ (c .before .e2 .given .1) .within
 
 copy-into-requires : tie.Need-copy-into-requires
-copy-into-requires c κs = simp length-take (omega (arith, held _ _ _ _ (c .before .before .before .before .before .before .before .before .before .pre .given) _ (c .before .before .before .before .before .e2 .given .1) .most))
+copy-into-requires c κs = let h = held _ _ _ _ (c .before .before .before .before .before .before .before .pre .given) _ (c .before .before .before .e2 .given .1) in omega (arith, h .most, h .exact, ap length (c .before .value-of .ensures) ∙ ap length (h .bytes) ∙ encode-length (c .before .before .before .before .before .before .before .pre .value))
 
 returns : tie.Need-returns
 returns c = λ v g. open-not _ _ _ _ g (c .enum-told .given .1)
 
 returns-2 : tie.Need-returns-2
-returns-2 c = λ v g. value-written _ _ _ _ _ (held _ _ _ _ g _ (c .before .before .before .before .before .before .e2 .given .1)) (c .copy-into .ensures)
+returns-2 c = λ v g. value-written _ _ _ _ _ _ (held _ _ _ _ g _ (c .before .before .before .before .e2 .given .1)) (c .before .before .value-of .ensures) (c .copy-into .ensures)
 
 pub write-value-spec : {M : Type 1} → statement M
 write-value-spec =
@@ -55,12 +40,7 @@ write-value-spec =
     array-copy-out-e
     enum-told
     enum-known-e
-    mul-from
-    mul-to
-    add-to
-    sub-copy-into
-    part-copy-into-start
-    part-copy-into-end
+    value-of-requires
     copy-into-requires
     returns
     returns-2)
