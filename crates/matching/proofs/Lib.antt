@@ -11,4 +11,5 @@ pub mod Unique
 pub mod Listing
 pub mod Sizes
 pub mod Prune
+pub mod Goals
 pub mod Cases

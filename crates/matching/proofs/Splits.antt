@@ -5,7 +5,7 @@
 use mathlib.Core.Path.{_≡_, refl, sym, ap, _∙_, subst}
 use mathlib.Core.Bool.{true, not}
 use mathlib.Core.Logic.{inl, ⊎-elim}
-use mathlib.Core.List.{List, [], _∷_, _++_}
+use mathlib.Core.List.{List, [], _∷_, _++_, map}
 use Prim.Native.Nat.{ℕ, suc}
 use lib.Dec.{T}
 use borrow.Author.Tests.{eqb-true}
@@ -18,8 +18,8 @@ use Rattle.terms.proofs.Members.{Distinct, in-left, in-right, in-append, distin
 use Rattle.matching.specs.Abstractions.{same, abstractions}
 use Rattle.matching.proofs.Abstractions.{abstractions-iff, abstractions-distinct}
 use Rattle.matching.proofs.Decide.{normal?, dec-T, dec-×}
-use Rattle.matching.proofs.Members.{guard, flatMap, nub, in-guard, guard-in, distinct-guard, in-flatMap, flatMap-in, distinct-flatMap, in-nub, distinct-nub}
-use Rattle.matching.proofs.Step.{Split, Split.parts, Split.body}
+use Rattle.matching.proofs.Members.{guard, flatMap, nub, in-guard, guard-in, distinct-guard, in-map, map-in, distinct-map, in-flatMap, flatMap-in, distinct-flatMap, in-nub, distinct-nub}
+use Rattle.matching.proofs.Step.{lam-inj, Split, Split.parts, Split.body}
 
 -- a term that stands below d binders, moved out of them, if it uses none
 abbrev movable : ℕ → Term → List Term
@@ -43,12 +43,18 @@ ownParts (loc n) = []
 ownParts (con n) = []
 ownParts (var n) = []
 
--- the abstraction over b, if it uses its local and is normal
-abbrev usable : Term → Term → List (Term × Term)
-usable e b = guard (dec-× (dec-T (uses 0 b)) (normal? (lam b))) (lam b, e)
+-- the bodies that use their local, have a normal abstraction, and come to t with e put in
+abbrev built : Term → List Term
+built b = guard (dec-× (dec-T (uses 0 b)) (normal? (lam b))) b
+
+abbrev pub buildable : Term → Term → List Term
+buildable t e = flatMap built (abstractions e 0 t)
+
+abbrev withArgument : Term → Term → Term × Term
+withArgument e b = (lam b, e)
 
 abbrev bodies : Term → Term → List (Term × Term)
-bodies t e = flatMap (usable e) (abstractions e 0 t)
+bodies t e = map (withArgument e) (buildable t e)
 
 abbrev pub splits : Term → List (Term × Term)
 splits t = ownParts t ++ flatMap (bodies t) (candidates t)
@@ -84,19 +90,25 @@ ownParts-in (loc n) q p = absurd p
 ownParts-in (con n) q p = absurd p
 ownParts-in (var n) q p = absurd p
 
--- what a member of the bodies for e says
-record Body (t e : Term) (q : Term × Term) : Type 0 where
-  b : Term
-  is : q ≡ (lam b, e)
-  puts : substitute 0 e b ≡ t
-  used : uses 0 b ≡ true
-  normal : Normal (lam b)
+-- the bodies
+pub buildable-in : (t e b : Term) → In b (buildable t e) → (substitute 0 e b ≡ t) × (uses 0 b ≡ true) × Normal (lam b)
+buildable-in t e b p =
+    let r = flatMap-in built b (abstractions e 0 t) p in
+    let u = guard-in (dec-× (dec-T (uses 0 (r .0))) (normal? (lam (r .0)))) (r .0) b (r .2) in
+    rw (u .0) (abstractions-iff e 0 t (r .0) .0 (r .1), true-of (uses 0 (r .0)) (u .1 .0), u .1 .1)
 
-bodies-in : (t e : Term) (q : Term × Term) → In q (bodies t e) → Body t e q
-bodies-in t e q p =
-    let s = flatMap-in (usable e) q (abstractions e 0 t) p in
-    let u = guard-in (dec-× (dec-T (uses 0 (s .0))) (normal? (lam (s .0)))) (lam (s .0), e) q (s .2) in
-    record { b = s .0; is = u .0; puts = abstractions-iff e 0 t (s .0) .0 (s .1); used = true-of (uses 0 (s .0)) (u .1 .0); normal = u .1 .1 }
+pub in-buildable : (t e b : Term) → substitute 0 e b ≡ t → uses 0 b ≡ true → Normal (lam b) → In b (buildable t e)
+in-buildable t e b p u n =
+    in-flatMap built b b (abstractions e 0 t) (abstractions-iff e 0 t b .1 p) (in-guard (dec-× (dec-T (uses 0 b)) (normal? (lam b))) b (rw u tt, n))
+
+pub buildable-distinct : (t e : Term) → Distinct (buildable t e)
+buildable-distinct t e =
+    distinct-flatMap built (abstractions e 0 t) (abstractions-distinct e 0 t) (λ b i. distinct-guard (dec-× (dec-T (uses 0 b)) (normal? (lam b))) b)
+    (λ b c d i j p q.
+    sym (guard-in (dec-× (dec-T (uses 0 b)) (normal? (lam b))) b d p .0) ∙ guard-in (dec-× (dec-T (uses 0 c)) (normal? (lam c))) c d q .0)
+
+bodies-in : (t e : Term) (q : Term × Term) → In q (bodies t e) → (b : Term) × In b (buildable t e) × (q ≡ (lam b, e))
+bodies-in t e q p = map-in (withArgument e) q (buildable t e) p
 
 pub splits-in : (t : Term) (q : Term × Term) → In q (splits t) → Split (q .0) (q .1) t
 splits-in t q p = ⊎-elim (λ r. parts (ownParts-in t q r)) go (in-append q (ownParts t) _ p)
@@ -105,15 +117,15 @@ splits-in t q p = ⊎-elim (λ r. parts (ownParts-in t q r)) go (in-append q (ow
     go p =
         let r = flatMap-in (bodies t) q (candidates t) p in
         let s = bodies-in t (r .0) q (r .2) in
-        rw (s .is) (body (s .b) refl (s .puts) (s .used) (s .normal))
+        let k = buildable-in t (r .0) (s .0) (s .1) in
+        rw (s .2) (body (s .0) refl (k .0) (k .1) (k .2))
 
 pub in-splits : (f e t : Term) → Split f e t → In (f, e) (splits t)
 in-splits f e t (parts p) = rw p (inl refl)
 in-splits f e t (body b p q u n) =
     rw p (in-right (lam b, e) (ownParts t) _
     (in-flatMap (bodies t) e (lam b, e) (candidates t) (in-candidates e b t q u)
-    (in-flatMap (usable e) b (lam b, e) (abstractions e 0 t) (abstractions-iff e 0 t b .1 q)
-    (in-guard (dec-× (dec-T (uses 0 b)) (normal? (lam b))) (lam b, e) (rw u tt, n)))))
+    (in-map (withArgument e) b (buildable t e) (in-buildable t e b q u n))))
 
 -- none twice
 ownParts-distinct : (t : Term) → Distinct (ownParts t)
@@ -123,22 +135,15 @@ ownParts-distinct (loc n) = tt
 ownParts-distinct (con n) = tt
 ownParts-distinct (var n) = tt
 
-lam-inj : (b c : Term) → lam b ≡ lam c → b ≡ c
-lam-inj b c p = cc
-
 bodies-distinct : (t e : Term) → Distinct (bodies t e)
-bodies-distinct t e =
-    distinct-flatMap (usable e) (abstractions e 0 t) (abstractions-distinct e 0 t)
-    (λ b i. distinct-guard (dec-× (dec-T (uses 0 b)) (normal? (lam b))) (lam b, e))
-    (λ b c q i j p r.
-    lam-inj b c (ap (λ z. z .0) (sym (guard-in (dec-× (dec-T (uses 0 b)) (normal? (lam b))) (lam b, e) q p .0) ∙ guard-in (dec-× (dec-T (uses 0 c)) (normal? (lam c))) (lam c, e) q r .0)))
+bodies-distinct t e = distinct-map (withArgument e) (λ b c p. lam-inj b c (ap (λ z. z .0) p)) (buildable t e) (buildable-distinct t e)
 
 pub splits-distinct : (t : Term) → Normal t → Distinct (splits t)
 splits-distinct t h =
     distinct-append (ownParts t) (flatMap (bodies t) (candidates t)) (ownParts-distinct t)
     (distinct-flatMap (bodies t) (candidates t) (distinct-nub same (movableParts 0 t)) (λ e i. bodies-distinct t e)
-    (λ e d q i j p r. ap (λ z. z .1) (sym (bodies-in t e q p .is) ∙ bodies-in t d q r .is)))
+    (λ e d q i j p r. ap (λ z. z .1) (sym (bodies-in t e q p .2) ∙ bodies-in t d q r .2)))
     (λ q p r.
     let a = flatMap-in (bodies t) q (candidates t) r in
     let n : Normal (app (q .0) (q .1)) = rw (ownParts-in t q p) at h in
-    subst (λ z. T (not (isAbstraction (z .0)))) (bodies-in t (a .0) q (a .2) .is) (n .0))
+    subst (λ z. T (not (isAbstraction (z .0)))) (bodies-in t (a .0) q (a .2) .2) (n .0))

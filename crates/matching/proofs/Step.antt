@@ -49,6 +49,9 @@ contract-to s (con n) h = contract-to-other s (con n) refl
 contract-to s (var n) h = contract-to-other s (var n) refl
 
 -- applications
+pub lam-inj : (b c : Term) → lam b ≡ lam c → b ≡ c
+lam-inj b c p = cc
+
 pub data Split (f e t : Term) : Type 0 where
   -- the target is an application of the two
   parts : t ≡ app f e → Split f e t
@@ -66,11 +69,14 @@ lam-normal (loc n) o h = (tt, h)
 lam-normal (con n) o h = (tt, h)
 lam-normal (var n) o h = (tt, h)
 
+pub lam-normal-of : (b e t : Term) → Normal t → Contracted (lam b) → substitute 0 e b ≡ t → Normal (lam b)
+lam-normal-of b e t h g p = lam-normal b (g .0) (normal-substitute 0 e b (rw p h))
+
 split-lam : (b e t : Term) → Contracted (lam b) → Normal t → substitute 0 e b ≡ t → Split (lam b) e t ⊎ (lam b ≡ constant t)
 split-lam b e t g h p = go (uses 0 b) refl
   where
     go : (u : Bool) → uses 0 b ≡ u → Split (lam b) e t ⊎ (lam b ≡ constant t)
-    go true u = inl (body b refl p u (lam-normal b (g .0) (normal-substitute 0 e b (rw p h))))
+    go true u = inl (body b refl p u (lam-normal-of b e t h g p))
     go false u = inr (ap lam (sym (shift-unshift 0 b u) ∙ ap (shift 1 0) (sym (substitute-unused 0 e b u) ∙ p)))
 
 split-to : (f e t : Term) → Contracted f → Normal t → contract (app f e) ≡ t → Split f e t ⊎ (f ≡ constant t)

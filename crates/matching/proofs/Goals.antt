@@ -1,0 +1,86 @@
+-- The goals of a search, and that lines which list their assignments exist, whatever a search has done of them. A goal that builds a head is
+-- one of several matches, one for each body; goals are met together. Assumes nothing.
+--   Goal              a part has to sweep to a target; or a head to an abstraction that comes to a target with an argument put in
+--   Meets g φ         φ satisfies the goal g
+--   All gs φ          φ satisfies each goal of gs
+--   Searches gs l φ   φ satisfies the goals gs and extends the line l
+--   Listable n S g    the goal's variables are below n and in S, and its target is normal
+use mathlib.Core.Path.{_≡_, refl, sym, _∙_}
+use mathlib.Core.List.{List, [], _∷_}
+use mathlib.Core.Logic.{inl, inr}
+use Prim.Native.Nat.{ℕ}
+use lib.ListN.{length}
+use Rattle.terms.specs.Term.{Term, lam, Normal, Below, Occurs}
+use Rattle.terms.specs.Sweep.{fill}
+use Rattle.terms.specs.Assignment.{Assigns}
+use Rattle.terms.specs.Listing.{In, Line}
+use Rattle.terms.proofs.Contracted.{contracted-sweep}
+use Rattle.matching.proofs.Members.{flatMap}
+use Rattle.matching.proofs.Step.{lam-inj, lam-normal-of}
+use Rattle.matching.proofs.Splits.{buildable, buildable-in, in-buildable, buildable-distinct}
+use Rattle.matching.proofs.Lines.{Extends, blank, length-blank, extends-blank, assigns-blank}
+use Rattle.matching.proofs.Lists.{Predicate, Lists, lists-same, lists-more, lists-one, lists-some, lists-and}
+use Rattle.matching.proofs.Lister.{Sweeps, solve, lists-solve}
+use Rattle.matching.proofs.Prune.{Build}
+
+pub data Goal : Type 0 where
+  match : Term → Term → Goal
+  build : Term → Term → Term → Goal
+
+abbrev pub Meets : Goal → Predicate
+Meets (match p t) φ = Sweeps p t φ
+Meets (build f t e) φ = Build f t e φ
+
+abbrev pub All : List Goal → Predicate
+All [] φ = Unit {0}
+All (g ∷ gs) φ = Meets g φ × All gs φ
+
+abbrev pub Searches : List Goal → Line → Predicate
+Searches gs l φ = All gs φ × Extends φ l
+
+abbrev Suits : ℕ → (ℕ → Type 0) → Term → Type 0
+Suits n S p = Below n p × ((i : ℕ) → Occurs i p → S i)
+
+abbrev pub Listable : ℕ → (ℕ → Type 0) → Goal → Type 0
+Listable n S (match p t) = Suits n S p × Normal t
+Listable n S (build f t e) = Suits n S f × Normal t
+
+module _ (n : ℕ) (S : ℕ → Type 0) where
+  lists-match : (p t : Term) → Suits n S p → Normal t → Lists n S (Sweeps p t) (solve n p t)
+  lists-match p t s h = lists-more n S (λ i. Occurs i p) (Sweeps p t) (solve n p t) (s .1) (lists-solve n p t (s .0) h)
+
+  lists-build : (f t e : Term) → Suits n S f → Normal t → Lists n S (Build f t e) (flatMap (λ b. solve n f (lam b)) (buildable t e))
+  lists-build f t e s h =
+      lists-same n S (Build f t e) (λ φ. (b : Term) × In b (buildable t e) × Sweeps f (lam b) φ) (flatMap (λ b. solve n f (lam b)) (buildable t e))
+      (λ φ v. (λ x. (x .0, in-buildable t e (x .0) (x .2) (x .3) (normal φ x), x .1), λ x. let k = buildable-in t e (x .0) (x .1) in (x .0, x .2, k .0, k .1)))
+      (lists-some n S (λ b. Sweeps f (lam b)) (λ b. solve n f (lam b)) (buildable t e) (buildable-distinct t e)
+      (λ φ v b c i j p q. lam-inj b c (sym p ∙ q)) (λ b i. lists-match f (lam b) s (buildable-in t e b i .2)))
+    where
+      normal : (φ : ℕ → Term) (x : Build f t e φ) → Normal (lam (x .0))
+      normal φ x = lam-normal-of (x .0) e t h (rw (x .1) at (contracted-sweep (fill φ f))) (x .2)
+
+  -- there are lines for any goals
+  pub record Listing (Q : Predicate) : Type 0 where
+    pub lines : List Line
+    pub lists : Lists n S Q lines
+
+  pub listing-goal : (g : Goal) → Listable n S g → Listing (Meets g)
+  listing-goal (match p t) x = record { lines = solve n p t; lists = lists-match p t (x .0) (x .1) }
+  listing-goal (build f t e) x = record { lines = flatMap (λ b. solve n f (lam b)) (buildable t e); lists = lists-build f t e (x .0) (x .1) }
+
+  pub listing-both : (Q R : Predicate) → Listing Q → Listing R → Listing (λ φ. Q φ × R φ)
+  listing-both Q R x y = record { lines = _; lists = lists-and n S Q R (x .lines) (y .lines) (x .lists) (y .lists) }
+
+  listing-line : (l : Line) → length l ≡ n → Assigns S l → Listing (λ φ. Extends φ l)
+  listing-line l e a = record { lines = l ∷ []; lists = lists-one n S (λ φ. Extends φ l) l e a (λ φ v. (λ x. x, λ x. x)) }
+
+  pub listing-goals : (gs : List Goal) → ((g : Goal) → In g gs → Listable n S g) → Listing (All gs)
+  listing-goals [] x = record {
+    lines = blank n ∷ [];
+    lists = lists-one n S (λ φ. Unit {0}) (blank n) (length-blank n) (assigns-blank S n) (λ φ v. (λ _. extends-blank φ n, λ _. tt));
+  }
+  listing-goals (g ∷ gs) x = listing-both (Meets g) (All gs) (listing-goal g (x g (inl refl))) (listing-goals gs (λ h i. x h (inr i)))
+
+  -- and for goals together with a line
+  pub listing-search : (gs : List Goal) (l : Line) → ((g : Goal) → In g gs → Listable n S g) → length l ≡ n → Assigns S l → Listing (Searches gs l)
+  listing-search gs l x e a = listing-both (All gs) (λ φ. Extends φ l) (listing-goals gs x) (listing-line l e a)
