@@ -1,0 +1,513 @@
+// The answers of check, sweep and rewrite, case by case.
+//
+// The program reads a table of cases from standard input, runs the operations of `matcher` on them, and prints a line for each: its name,
+// the operation, the answer, and whether the bytes behind the answer (`rest`: the whole output table, if the answer is a refusal) and the
+// work area are as they were. The table that is kept beside it has document 01's cases 8, 9 and 10, every refusal that the three operations
+// can give, both sides of each limit, and the order of the refusals. It promises that it is safe, that it ends, and that a refusal is
+// printed as document 01's number; `matcher` promises the answers. It rests on `matcher` and, for the kinds, on `records`.
+//
+// A case is one line of fields, each ended by `;` or the line:
+//     NAME; check; PATTERN; RECIPE; LINE; VALUES; WORK
+//     NAME; sweep; PATTERN; LINE; VALUES; OUTPUT; WORK
+//     NAME; rewrite; LEFT; RIGHT; RECIPE; LINE; VALUES; OUTPUT; WORK
+// WORK and OUTPUT are numbers of bytes; without one the work area has its right length. The others are tables, written in items, each a
+// sign and a number, which is 0 if it is left out: `@`, `\`, `#n`, `kn`, `pn` are records, `=n:n` an assigned entry by its first record
+// and its count, `-` an open one, `!n` one byte, and `*n` has the next item n times. Any other line is a heading, and printed as it is.
+// Cases behind the first 65,536 bytes, and bytes of a table behind the room that is named below, are cut off.
+
+use libc::STDIN_FILENO;
+use libc::STDOUT_FILENO;
+use matcher::CheckAnswer;
+use matcher::Refusal;
+use matcher::RewriteAnswer;
+use matcher::SweepAnswer;
+use records::Kind;
+use records::RECORD;
+ghost use mathlib.Core.Path.{_≡_};
+ghost use Prim.Native.Nat.{_≤_};
+ghost use lib.ListN.{length};
+ghost use Rattle.io.specs.Counts.{Counts};
+ghost use Rattle.matcher.specs.Operations.{number};
+
+// The bytes of a work area, and the most of a value or output table.
+const TABLE_BYTES: usize = 65536;
+
+// Room for a table that is one record too long.
+const LENT: usize = 65540;
+
+// Room for a pattern, a recipe or a line that is too long.
+const SHORT: usize = 512;
+
+// What the bytes of an output table and a work area are before a call.
+const MARK: u8 = 238;
+
+// How many values one byte has.
+const BYTE: usize = 256;
+
+// The base of a text's numbers.
+const TEN: usize = 10;
+
+// An item of a text, and how many times it stands there.
+struct Item {
+    sign: u8,
+    number: usize,
+    times: usize,
+}
+
+// Puts one byte, if there is room.
+fn put(out: &mut [u8], at: usize, b: usize) -> usize
+    requires { ⌜ at ≤ length (now out) ⌝ }
+    ensures { λ r. ⌜ r ≤ length (now (out .exit)) ⌝ }
+{
+    if at == out.len() {
+        return at;
+    }
+    out[at] = (b % BYTE) as u8;
+    at + 1
+}
+
+// Puts a number, high byte first.
+fn put_number(out: &mut [u8], at: usize, number: usize) -> usize
+    requires { ⌜ at ≤ length (now out) ⌝ }
+    ensures { λ r. ⌜ r ≤ length (now (out .exit)) ⌝ }
+{
+    let low = put(out, at, number / BYTE);
+    put(out, low, number)
+}
+
+fn put_record(out: &mut [u8], at: usize, kind: u8, number: usize) -> usize
+    requires { ⌜ at ≤ length (now out) ⌝ }
+    ensures { λ r. ⌜ r ≤ length (now (out .exit)) ⌝ }
+{
+    let zero = put(out, at, kind as usize);
+    let high = put(out, zero, 0);
+    put_number(out, high, number)
+}
+
+// Puts the record, the half of an entry or the byte that a sign and a number stand for.
+fn put_item(out: &mut [u8], at: usize, sign: u8, number: usize) -> usize
+    requires { ⌜ at ≤ length (now out) ⌝ }
+    ensures { λ r. ⌜ r ≤ length (now (out .exit)) ⌝ }
+{
+    match sign {
+        b'@' | b'-' => put_record(out, at, Kind::APPLICATION.code, number),
+        b'\\' => put_record(out, at, Kind::ABSTRACTION.code, number),
+        b'#' => put_record(out, at, Kind::LOCAL.code, number),
+        b'k' => put_record(out, at, Kind::CONSTANT.code, number),
+        b'p' => put_record(out, at, Kind::VARIABLE.code, number),
+        b'=' | b':' => put_number(out, at, number),
+        b'!' => put(out, at, number),
+        _ => at,
+    }
+}
+
+fn put_items(out: &mut [u8], at: usize, item: Item) -> usize
+    requires { ⌜ at ≤ length (now out) ⌝ }
+    ensures { λ r. ⌜ r ≤ length (now (out .exit)) ⌝ }
+{
+    let mut end = at;
+    let mut i = 0;
+    while i < item.times {
+        end = put_item(out, end, item.sign, item.number);
+        i += 1;
+    }
+    end
+}
+
+// Puts the items before the character c, unless c is a digit of their number.
+fn put_before(out: &mut [u8], at: usize, item: Item, c: u8) -> usize
+    requires { ⌜ at ≤ length (now out) ⌝ }
+    ensures { λ r. ⌜ r ≤ length (now (out .exit)) ⌝ }
+{
+    if is_digit(c) {
+        return at;
+    }
+    put_items(out, at, item)
+}
+
+fn is_digit(c: u8) -> bool {
+    b'0' <= c && c <= b'9'
+}
+
+// A number with the digit c behind it; no text has a number of more than five digits.
+fn with_digit(number: usize, c: u8) -> usize {
+    if TABLE_BYTES < number || c < b'0' {
+        return number;
+    }
+    number * TEN + (c - b'0') as usize
+}
+
+// The item that is being read, after the character c.
+fn read(item: Item, c: u8) -> Item {
+    if is_digit(c) {
+        return Item {
+            sign: item.sign,
+            number: with_digit(item.number, c),
+            times: item.times,
+        };
+    }
+    if item.sign == b'*' {
+        return Item {
+            sign: c,
+            number: 0,
+            times: item.number,
+        };
+    }
+    Item {
+        sign: c,
+        number: 0,
+        times: 1,
+    }
+}
+
+// Builds the table that a text writes, and gives its length.
+fn build(text: &[u8], out: &mut [u8]) -> usize
+    ensures { λ r. ⌜ Counts r (now (out .exit)) ⌝ }
+{
+    let mut end = 0;
+    let mut item = Item {
+        sign: b' ',
+        number: 0,
+        times: 1,
+    };
+    let mut i = 0;
+    while i < text.len() {
+        let c = text[i];
+        end = put_before(out, end, item, c);
+        item = read(item, c);
+        i += 1;
+    }
+    put_items(out, end, item)
+}
+
+// The number of bytes that a field gives, or `none` if it is empty.
+fn bytes_in(field: &[u8], none: usize) -> usize {
+    if field.len() == 0 {
+        return none;
+    }
+    let mut number = 0;
+    let mut i = 0;
+    while i < field.len() {
+        number = with_digit(number, field[i]);
+        i += 1;
+    }
+    number
+}
+
+// A number of bytes, cut to those that a table has.
+fn within(bytes: usize, table: &[u8]) -> usize
+    ensures { λ r. ⌜ Counts r (now (table .entry)) ⌝ }
+{
+    if table.len() < bytes {
+        return table.len();
+    }
+    bytes
+}
+
+// Where the first `sign` from `at` on stands, or the end.
+fn find(text: &[u8], at: usize, sign: u8) -> usize
+    requires { ⌜ at ≤ length (now text) ⌝ }
+    ensures { λ r. ⌜ (at ≤ r) × (r ≤ length (now (text .entry))) ⌝ }
+{
+    let mut i = at;
+    while i < text.len() {
+        if text[i] == sign {
+            return i;
+        }
+        i += 1;
+    }
+    i
+}
+
+// Where the field after the one from `at` on starts, or the end.
+fn next_field(case: &[u8], at: usize) -> usize
+    requires { ⌜ at ≤ length (now case) ⌝ }
+    ensures { λ r. ⌜ r ≤ length (now (case .entry)) ⌝ }
+{
+    let end = find(case, at, b';');
+    if end == case.len() {
+        return end;
+    }
+    end + 1
+}
+
+// The k-th field of a case, from 0; empty if it has none.
+fn field(case: &[u8], k: usize) -> &[u8] {
+    let mut at = 0;
+    let mut i = 0;
+    while i < k {
+        at = next_field(case, at);
+        i += 1;
+    }
+    let end = find(case, at, b';');
+    &case[at..end]
+}
+
+// Builds the table of the k-th field, and gives its length.
+fn build_field(case: &[u8], k: usize, out: &mut [u8]) -> usize
+    ensures { λ r. ⌜ Counts r (now (out .exit)) ⌝ }
+{
+    build(field(case, k), out)
+}
+
+// How many bytes of a table the k-th field lends.
+fn lend_field(case: &[u8], k: usize, none: usize, table: &[u8]) -> usize
+    ensures { λ r. ⌜ Counts r (now (table .entry)) ⌝ }
+{
+    within(bytes_in(field(case, k), none), table)
+}
+
+fn say(text: &[u8]) {
+    io::write_all(STDOUT_FILENO, text);
+}
+
+fn wide(b: u8) -> u64 {
+    b as u64
+}
+
+// Prints the records of a table.
+fn say_table(table: &[u8]) {
+    let mut i = 0;
+    while i < table.len() {
+        if i % RECORD == 0 {
+            say(b" ");
+        }
+        io::print_hex(STDOUT_FILENO, wide(table[i]), 2);
+        i += 1;
+    }
+}
+
+// Prints a count of records, the records and what became of the bytes behind.
+fn say_records(n: usize, out: &[u8]) {
+    say(b"records ");
+    io::print_decimal(STDOUT_FILENO, n as u64);
+    if n <= SHORT {
+        let end = within(n * RECORD, out);
+        say_table(&out[..end]);
+        say(b"; rest");
+        say_left(&out[end..]);
+    }
+}
+
+// Document 01's number of a refusal.
+fn number_of(c: Refusal) -> u64
+    ensures { λ r. ⌜ r ≡ number c ⌝ }
+{
+    match c {
+        Refusal::PatternLength => 1,
+        Refusal::PatternRecord => 2,
+        Refusal::PatternTerm => 3,
+        Refusal::RecipeLength => 4,
+        Refusal::RecipeRecord => 5,
+        Refusal::RecipeTerm => 6,
+        Refusal::RecipeRedex => 7,
+        Refusal::Tables => 8,
+        Refusal::Assignment => 11,
+        Refusal::SweptForm => 12,
+        Refusal::Output => 13,
+        Refusal::NoMatch => 14,
+    }
+}
+
+fn say_refused(c: Refusal) {
+    say(b"refused ");
+    io::print_decimal(STDOUT_FILENO, number_of(c));
+}
+
+fn say_untouched(c: Refusal, out: &[u8]) {
+    say_refused(c);
+    say(b"; rest");
+    say_left(out);
+}
+
+fn is_all(table: &[u8], b: u8) -> bool {
+    let mut i = 0;
+    while i < table.len() {
+        if table[i] != b {
+            return false;
+        }
+        i += 1;
+    }
+    true
+}
+
+// Prints what became of bytes that held MARK.
+fn say_left(table: &[u8]) {
+    if is_all(table, MARK) {
+        say(b" kept");
+    } else if is_all(table, 0) {
+        say(b" zero");
+    } else {
+        say(b" changed");
+    }
+}
+
+fn say_work(work: &[u8]) {
+    say(b"; work");
+    say_left(work);
+    say(b"\n");
+}
+
+fn run_check(
+    name: &[u8],
+    pattern: &[u8],
+    recipe: &[u8],
+    line: &[u8],
+    values: &[u8],
+    work: &mut [u8],
+) {
+    let answer = matcher::check(pattern, recipe, line, values, work);
+    say(name);
+    say(b": check ");
+    match answer {
+        CheckAnswer::Yes => say(b"yes"),
+        CheckAnswer::No => say(b"no"),
+        CheckAnswer::Refused(c) => say_refused(c),
+    }
+    say_work(work);
+}
+
+fn check(case: &[u8]) {
+    let mut p = [0u8; SHORT];
+    let mut r = [0u8; SHORT];
+    let mut l = [0u8; SHORT];
+    let mut v = [0u8; LENT];
+    let mut w = [MARK; LENT];
+    let p_end = build_field(case, 2, &mut p);
+    let r_end = build_field(case, 3, &mut r);
+    let l_end = build_field(case, 4, &mut l);
+    let v_end = build_field(case, 5, &mut v);
+    let w_end = lend_field(case, 6, TABLE_BYTES, &w);
+    run_check(
+        field(case, 0),
+        &p[..p_end],
+        &r[..r_end],
+        &l[..l_end],
+        &v[..v_end],
+        &mut w[..w_end],
+    );
+}
+
+fn run_sweep(
+    name: &[u8],
+    pattern: &[u8],
+    line: &[u8],
+    values: &[u8],
+    out: &mut [u8],
+    work: &mut [u8],
+) {
+    let answer = matcher::sweep(pattern, line, values, out, work);
+    say(name);
+    say(b": sweep ");
+    match answer {
+        SweepAnswer::Records(n) => say_records(n, out),
+        SweepAnswer::Refused(c) => say_untouched(c, out),
+    }
+    say_work(work);
+}
+
+fn sweep(case: &[u8]) {
+    let mut p = [0u8; SHORT];
+    let mut l = [0u8; SHORT];
+    let mut v = [0u8; LENT];
+    let mut o = [MARK; LENT];
+    let mut w = [MARK; LENT];
+    let p_end = build_field(case, 2, &mut p);
+    let l_end = build_field(case, 3, &mut l);
+    let v_end = build_field(case, 4, &mut v);
+    let o_end = lend_field(case, 5, 0, &o);
+    let w_end = lend_field(case, 6, TABLE_BYTES, &w);
+    run_sweep(
+        field(case, 0),
+        &p[..p_end],
+        &l[..l_end],
+        &v[..v_end],
+        &mut o[..o_end],
+        &mut w[..w_end],
+    );
+}
+
+fn run_rewrite(
+    name: &[u8],
+    left: &[u8],
+    right: &[u8],
+    recipe: &[u8],
+    line: &[u8],
+    values: &[u8],
+    out: &mut [u8],
+    work: &mut [u8],
+) {
+    let answer = matcher::rewrite(left, right, recipe, line, values, out, work);
+    say(name);
+    say(b": rewrite ");
+    match answer {
+        RewriteAnswer::Records(n) => say_records(n, out),
+        RewriteAnswer::Refused(c) => say_untouched(c, out),
+    }
+    say_work(work);
+}
+
+fn rewrite(case: &[u8]) {
+    let mut p = [0u8; SHORT];
+    let mut q = [0u8; SHORT];
+    let mut r = [0u8; SHORT];
+    let mut l = [0u8; SHORT];
+    let mut v = [0u8; LENT];
+    let mut o = [MARK; LENT];
+    let mut w = [MARK; LENT];
+    let p_end = build_field(case, 2, &mut p);
+    let q_end = build_field(case, 3, &mut q);
+    let r_end = build_field(case, 4, &mut r);
+    let l_end = build_field(case, 5, &mut l);
+    let v_end = build_field(case, 6, &mut v);
+    let o_end = lend_field(case, 7, 0, &o);
+    let w_end = lend_field(case, 8, TABLE_BYTES, &w);
+    run_rewrite(
+        field(case, 0),
+        &p[..p_end],
+        &q[..q_end],
+        &r[..r_end],
+        &l[..l_end],
+        &v[..v_end],
+        &mut o[..o_end],
+        &mut w[..w_end],
+    );
+}
+
+// The letter that a field's word starts with, behind a blank.
+fn letter_of(field: &[u8]) -> u8 {
+    if field.len() < 2 {
+        return b' ';
+    }
+    field[1]
+}
+
+fn run(case: &[u8]) {
+    let letter = letter_of(field(case, 1));
+    match letter {
+        b'c' => check(case),
+        b's' => sweep(case),
+        b'r' => rewrite(case),
+        _ => say_heading(case),
+    }
+}
+
+fn say_heading(text: &[u8]) {
+    say(text);
+    say(b"\n");
+}
+
+fn run_all(cases: &[u8]) {
+    let mut at = 0;
+    while at < cases.len() {
+        let end = find(cases, at, b'\n');
+        run(&cases[at..end]);
+        at = end + 1;
+    }
+}
+
+fn main() {
+    let mut cases = io::large_buffer();
+    let n = io::read_full(STDIN_FILENO, &mut cases);
+    run_all(&cases[..n]);
+}
