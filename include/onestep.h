@@ -1,20 +1,22 @@
 /* onestep: a proved one-step matcher for buoy recipes.
  *
- * Each table is lent as a pointer and a length in bytes. A length of 0 may come with any pointer that is not NULL. Tables must not overlap, and
- * nobody else may write to a lent table during a call. Every call takes a work area of ONESTEP_TABLE bytes; it is all zero on return, unless its
- * own length was wrong. On a refusal every table is as it was.
+ * Each table is lent as a pointer and a length in bytes. A length of 0 may come with any pointer that is not NULL. The output table and the work
+ * area must not overlap any other table, and nobody else may write to a lent table during a call. Every call takes a work area of ONESTEP_TABLE
+ * bytes; it is all zero on return, unless its own length was wrong. On a refusal every table is as it was.
  *
  * A table holds records of 4 bytes: kind, a zero byte, and a 16-bit number, high byte first. Kinds: 0 application, followed by its head and its
- * argument; 1 abstraction, followed by its body; 2 local, 0 the innermost; 3 constant; 4 variable, 0 to 7.
+ * argument; 1 abstraction, followed by its body; 2 local, 0 the innermost; 3 constant; 4 variable, 0 to 7. A record is bad if its kind is above 4, its
+ * second byte isn't 0, its number isn't 0 in kind 0 or 1, or it is a variable above 7.
  * An assignment is one line of ONESTEP_LINE bytes (first record and count of records for each variable, 16 bits each, high byte first; a count of 0
  * is open) and a value table that the line points into.
  *
- * A negative result is minus a refusal number:
+ * A negative result is minus a refusal number. The one given is the first whose cause holds, in this order: 8; pattern or left side 1, 2, 3; recipe 4
+ * to 7; right side 1, 2, 3; 11; 12 on the left side; 14; 12 on the right side; 13.
  *    1 pattern or right side: length 0, above 128 bytes, or no multiple of 4
  *    2 one of its records is bad          3 it isn't one tree, or a local lacks a binder
  *    4 recipe: length 0, above 384 bytes, or no multiple of 4
  *    5 one of its records is bad or a variable   6 it isn't one tree, or a local lacks a binder   7 it isn't normal
- *    8 a line, value or output table or the work area has a wrong length
+ *    8 the line isn't 32 bytes, the value or output table is no multiple of 4 or above 65,536 bytes, or the work area isn't 65,536 bytes
  *   11 a variable that occurs has no usable value
  *   12 some part's swept form is above 256 records
  *   13 the output table is shorter than the swept form

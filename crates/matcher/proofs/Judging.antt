@@ -16,7 +16,7 @@ use Rattle.terms.specs.Sweep.{fill}
 use Rattle.terms.proofs.Tests.{by-eqb}
 use Rattle.terms.proofs.Refusal.{refused-first, refused-later, passed-both}
 use Rattle.terms.proofs.Table.{encode-one}
-use Rattle.terms.proofs.Occurs.{occurs-below, chosen-values}
+use Rattle.terms.proofs.Occurs.{occurs-below, Chosen, chosen-values}
 use Rattle.records.specs.Tests.{Says}
 use Rattle.records.specs.Checks.{Answers, Pattern}
 use Rattle.assignments.specs.declared.Entry.{Entry}
@@ -111,7 +111,7 @@ module _ (p l s : List ℕ) (a : List Entry) (e : length l ≡ 4 * variables) (r
 
   pub all-ready : (b : Bool) → AllGiven p s a b → b ≡ true → Judged (assignment (OccursIn p) l s) (Ready p l s) Verdict.Right
   unfolding Judged
-  all-ready b g q = ((λ c. missing (c .0) (c .1) (c .2), tt), record { checked = x; line = e; term = fill (given .0) (x .tree); filled = filled })
+  all-ready b g q = ((λ c. missing (c .0) (c .1) (c .2), tt), record { checked = x; line = e; term = fill (given .φ) (x .tree); filled = filled })
     where
       stored-at : (i : ℕ) → Occurs i (x .tree) → (v : Term) × Stored l s i v
       stored-at i o =
@@ -124,11 +124,11 @@ module _ (p l s : List ℕ) (a : List Entry) (e : length l ≡ 4 * variables) (r
           let w = stored-at i (rw t at (o .2)) in
           n (w .0) (w .1)
 
-      given : (φ : ℕ → Term) × ((i : ℕ) → Occurs i (x .tree) → Stored l s i (φ i))
+      given : Chosen (Stored l s) (x .tree)
       given = chosen-values (Stored l s) (x .tree) stored-at
 
-      filled : Filled p l s (fill (given .0) (x .tree))
-      filled = record { term = x .tree; table = x .table; φ = given .0; stored = given .1; is = refl }
+      filled : Filled p l s (fill (given .φ) (x .tree))
+      filled = record { term = x .tree; table = x .table; φ = given .φ; stored = given .holds; is = refl }
 
   pub one-missing : (b : Bool) → AllGiven p s a b → b ≡ false → Judged (assignment (OccursIn p) l s) (Ready p l s) (Verdict.Refused Refusal.Assignment)
   unfolding Judged

@@ -1,4 +1,4 @@
--- The operations' answers as one number: "records, or 1 and 0 for yes and no, or minus the refusal number".
+-- The operations' answers as one number: records, or 1 and 0 for yes and no, or minus the refusal number.
 --   refusalCode c     minus document 01's number of the refusal c
 --   checkCode a, sweepCode a, rewriteCode a    the number of an answer
 --   CheckedAs, SweptAs, RewrittenAs            some answer that the operation may give has this number

@@ -211,7 +211,9 @@ fn judge_rewrite(
     ensures { λ r. ⌜ Judged (lentForRewrite (now (left .entry)) (now (right .entry)) (now (recipe .entry)) (now (line .entry)) (now (values .entry)) (now (out .entry)) (now (work .entry)))
         ((Ready (now (left .entry)) (now (line .entry)) (now (values .entry)) × Ready (now (right .entry)) (now (line .entry)) (now (values .entry))) × Recipe (now (recipe .entry))) r ⌝ }
 {
-    let sides = first(judge_recipe(recipe), judge_pattern(right));
+    let whole = judge_recipe(recipe);
+    let other = judge_pattern(right);
+    let sides = first(whole, other);
     let terms = first(judge_pattern(left), sides);
     let tables = first(judge_output(out), terms);
     let lent = first(judge_tables(line, values, work), tables);

@@ -15,7 +15,7 @@ use Rattle.terms.specs.Sweep.{sweep, fill}
 use Rattle.terms.specs.Assignment.{Assignment, entry, values, Assigned, Assigns, Entries, Complete}
 use Rattle.terms.specs.Listing.{In, Full}
 use Rattle.matching.specs.Abstractions.{same}
-use Rattle.matching.specs.Cases.{Case, Case.lists, Case.rejects, Case.sweeps, Holds, cases}
+use Rattle.matching.specs.Cases.{Case, Case.lists, Case.rejects, Case.sweeps, Case.reducible, Holds, cases}
 use Rattle.matching.proofs.Decide.{dec-×, normal?, value?}
 use Rattle.matching.proofs.Listing.{listing, full}
 
@@ -94,16 +94,19 @@ abbrev Test : Case → Type 0
 Test (lists p t ls) = (Below variables p × Normal t) × (listing variables p t ≡ ls)
 Test (rejects p t a) = Entries variables a × (FilledIn a p × ¬ (sweep (fill (values a) p) ≡ t))
 Test (sweeps t s) = sweep t ≡ s
+Test (reducible t) = ¬ Normal t
 
 abbrev test? : (c : Case) → Dec (Test c)
 test? (lists p t ls) = dec-× (dec-× (below? variables p) (normal? t)) (same-list (same-list same-option) (listing variables p t) ls)
 test? (rejects p t a) = dec-× (dec-× (ℕ-discrete (length a) variables) (assigns? a)) (dec-× (filledIn? a p) (dec-¬ (same (sweep (fill (values a) p)) t)))
 test? (sweeps t s) = same (sweep t) s
+test? (reducible t) = dec-¬ (normal? t)
 
 test-holds : (c : Case) → Test c → Holds c
 test-holds (lists p t ls) h = subst (Full variables p t) (h .1) (full variables p t (h .0 .0) (h .0 .1))
 test-holds (rejects p t a) h = (h .0, complete-of a p (h .1 .0), λ m. h .1 .1 (m .2))
 test-holds (sweeps t s) h = h
+test-holds (reducible t) h = h
 
 -- all rows at once
 abbrev Tests : List Case → Type 0

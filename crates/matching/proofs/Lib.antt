@@ -12,4 +12,5 @@ pub mod Listing
 pub mod Sizes
 pub mod Prune
 pub mod Goals
+pub mod Tables
 pub mod Cases

@@ -2,6 +2,7 @@
 --   lists p t ls     the full listing of the pattern p and the recipe t is ls; "No match is a count of 0": ls is empty
 --   rejects p t a    check says no: the assignment a is complete, and no match
 --   sweeps t s       t sweeps to s
+--   reducible t      t is not normal
 --   from es          the line whose first entries are es, the others open
 use mathlib.Core.Path.{_≡_}
 use mathlib.Core.Option.{Option, none, some}
@@ -9,7 +10,7 @@ use mathlib.Core.List.{List, [], _∷_, _++_}
 use Prim.Native.Nat.{_-_}
 use lib.ListN.{length, replicate}
 use Rattle.terms.specs.Figures.{variables}
-use Rattle.terms.specs.Term.{Term, app, lam, loc, con, var}
+use Rattle.terms.specs.Term.{Term, app, lam, loc, con, var, Normal}
 use Rattle.terms.specs.Sweep.{sweep}
 use Rattle.terms.specs.Assignment.{Assignment, Entries, Complete, Match}
 use Rattle.terms.specs.Listing.{Line, Full}
@@ -18,11 +19,13 @@ pub data Case : Type 0 where
   lists : Term → Term → List Line → Case
   rejects : Term → Term → Assignment → Case
   sweeps : Term → Term → Case
+  reducible : Term → Case
 
 abbrev pub Holds : Case → Type 0
 Holds (lists p t ls) = Full variables p t ls
 Holds (rejects p t a) = Entries variables a × Complete p a × ¬ Match variables p t a
 Holds (sweeps t s) = sweep t ≡ s
+Holds (reducible t) = ¬ Normal t
 
 abbrev pub from : List (Option Term) → Line
 from es = es ++ replicate (variables - length es) none
@@ -58,7 +61,7 @@ cases =
     -- 9. `@ @ \ #0 \ #0 @ \ #0 \ #0` sweeps to `\ #0`
     ∷ sweeps (app (app identity identity) (app identity identity)) identity
     -- 10. `@ \ @ #0 k0 \ #0` sweeps to `@ \ #0 k0`, which is not normal
-    ∷ sweeps (app (lam (app (loc 0) (con 0))) identity) (app identity (con 0))
+    ∷ sweeps (app (lam (app (loc 0) (con 0))) identity) (app identity (con 0)) ∷ reducible (app identity (con 0))
     -- 11. `@ k1 p0`, `@ k1 \ #0`: only p0=`\ #0`
     ∷ lists (app (con 1) (var 0)) (app (con 1) identity) (from (some identity ∷ []) ∷ [])
     -- besides the document's: "Open comes before assigned": `@ p1 p0`, `k0`: p1=`\ k0`; then p0=`k0`, p1=`\ #0`

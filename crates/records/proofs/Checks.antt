@@ -13,7 +13,8 @@ use lib.Seq.{getD-append-add}
 use Rattle.terms.specs.Figures.{variables, patternRecords, valueRecords}
 use Rattle.terms.specs.Term.{Term, app, lam, loc, con, var, size, Normal, Closed, Below, Ground}
 use Rattle.terms.specs.Table.{encode, goodRecords, IsTable}
-use Rattle.terms.specs.Refusal.{Row, Refused, Passed, BadLength, NoTerm, pattern}
+use Rattle.terms.specs.Refusal.{Row, Refused, Passed, BadLength, NoTerm, pattern, recipeRows}
+use Rattle.terms.proofs.Refusal.{refused-passed}
 use Rattle.terms.proofs.Tests.{by-ltb}
 use Rattle.terms.proofs.Table.{encode-length, good-below}
 use Rattle.records.specs.declared.End.{End}
@@ -22,7 +23,7 @@ use Rattle.records.specs.declared.PatternCheck.{PatternCheck}
 use Rattle.records.specs.declared.RecipeCheck.{RecipeCheck}
 use Rattle.records.specs.Parts.{Ended, Tree}
 use Rattle.records.specs.Tests.{Says, Tells}
-use Rattle.records.specs.Checks.{patternRefusal, recipeRefusal, Answers, Pattern, NormalTable, ValueTable, recipeRows, OneTerm, Good, Checked}
+use Rattle.records.specs.Checks.{patternRefusal, recipeRefusal, Answers, Pattern, NormalTable, ValueTable, OneTerm, Good, Checked}
 use Rattle.records.proofs.Record.{Bytes, rest-bytes, number-fits}
 use Rattle.records.proofs.Parts.{at-start, tree, size-some}
 use Rattle.records.proofs.Tests.{says}
@@ -199,11 +200,6 @@ ground-good (loc n) r h g = g
 ground-good (con n) r h g = g
 ground-good (var n) r h g = absurd h
 
-passed-refused : (rows : List Row) (k : ℕ) → Passed rows → Refused rows k → ⊥
-passed-refused [] k p r = r
-passed-refused (x ∷ rows) k p (inl r) = p .0 (r .0)
-passed-refused (x ∷ rows) k p (inr r) = passed-refused rows k (p .1) (r .1)
-
 value-passed : (l : List ℕ) → ValueTable l → Passed (recipeRows valueRecords l)
 value-passed l x =
     let t = x .tree in
@@ -215,7 +211,7 @@ value-passed l x =
 pub value-refused : (l : List ℕ) (r : RecipeCheck) (k : ℕ) → Answers (recipeRows valueRecords l) (NormalTable valueRecords l) (recipeRefusal r) → recipeRefusal r ≡ some k → ¬ ValueTable l
 value-refused l r k x e y =
     let z : Refused (recipeRows valueRecords l) k = subst (λ (o : Option ℕ). Answers (recipeRows valueRecords l) (NormalTable valueRecords l) o) e x in
-    passed-refused (recipeRows valueRecords l) k (value-passed l y) z
+    refused-passed (recipeRows valueRecords l) k z (value-passed l y)
 
 pub value-right : (l : List ℕ) (r : RecipeCheck) → Answers (recipeRows valueRecords l) (NormalTable valueRecords l) (recipeRefusal r) → recipeRefusal r ≡ none → ValueTable l
 value-right l r x e =

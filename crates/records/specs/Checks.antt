@@ -6,14 +6,13 @@
 --   NormalTable m l    l is the table of a normal term without variables, of at most m records
 --   Recipe l           l is the table of a recipe
 --   ValueTable l       l is the table of a value of at most 160 records
---   recipeRows m l     the rows 4 to 7 of a table of at most m records
 --   Checked m v l c    what is known of a table l once c is found, where m records and v variables are allowed
 --   OneTerm l          l is the table of a term
 --   Good l             the records of l are good for some number of variables
 use mathlib.Core.Path.{_≡_}
 use mathlib.Core.Bool.{true, false}
 use mathlib.Core.Option.{Option, none, some}
-use mathlib.Core.List.{List, [], _∷_}
+use mathlib.Core.List.{List}
 use Prim.Native.Nat.{ℕ, _≤_}
 use Rattle.terms.specs.Figures.{variables, patternRecords, recipeRecords, valueRecords}
 use Rattle.terms.specs.Term.{Term, size, Normal, Below, Ground, Value}
@@ -62,10 +61,6 @@ pub record ValueTable (l : List ℕ) : Type 0 where
   pub bytes : l ≡ encode tree
   pub value : Value tree
   pub most : size tree ≤ valueRecords
-
--- with m the most records of a recipe these are the rows of a recipe
-abbrev pub recipeRows : ℕ → List ℕ → List Row
-recipeRows m l = (4, BadLength m l) ∷ (5, goodRecords 0 l ≡ false) ∷ (6, NoTerm l) ∷ (7, (t : Term) → IsTable l t → ¬ Normal t) ∷ []
 
 pub record OneTerm (l : List ℕ) : Type 0 where
   pub tree : Term

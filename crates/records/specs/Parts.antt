@@ -43,7 +43,7 @@ Found l at r = Ends l at r × ((v : ℕ) → goodRecords v (drop at l) ≡ true 
 abbrev pub Nothing : List ℕ → ℕ → Type 0
 Nothing l at = (t : Term) → ¬ Part l at t
 
--- parts are still missing exactly where no term stands at `at`
+-- where parts are still missing no term stands at `at`
 unfoldable pub Reached : List ℕ → ℕ → ℕ → ℕ → Type 0
 Reached l at zero r = Found l at r
 Reached l at (suc n) r = Nothing l at

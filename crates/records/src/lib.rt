@@ -4,7 +4,7 @@
 // the kinds, one record read and written, the parts of a table, tests of the term that a table holds (closed, normal, uses a local), and
 // the checks by which bytes from outside come in. It promises that each check gives exactly the first of document 01's causes 1 to 7 that
 // holds, for any bytes at all, and that each test answers for the very term whose table it was lent. It rests on the definitions of
-// `terms`; only the functions of one record, and `proofs/Record.antt`, know how a record's four bytes lie.
+// `terms`; that a record begins with its kind is used throughout, how its other bytes lie only by the functions of one record.
 
 ghost use mathlib.Core.Path.{_≡_};
 ghost use mathlib.Core.Bool.{true, false};
@@ -13,15 +13,15 @@ ghost use mathlib.Core.List.{[]};
 ghost use Prim.Native.Nat.{_+_, _-_, _*_, _≤_, _<_};
 ghost use lib.ListN.{length, getD};
 ghost use lib.Seq.{sets};
-ghost use Rattle.terms.specs.Figures.{constants, tableBytes};
+ghost use Rattle.terms.specs.Figures.{numbers, tableBytes};
 ghost use Rattle.terms.specs.Term.{Term, uses, isInnermost, isEta, Normal, Closed};
-ghost use Rattle.terms.specs.Refusal.{BadLength, pattern, recipe};
+ghost use Rattle.terms.specs.Refusal.{BadLength, pattern, recipe, recipeRows};
 ghost use Rattle.terms.specs.Table.{encode, bytes, allowed, goodRecords};
 ghost use Rattle.terms.specs.Layout.{wordAt};
 ghost use Rattle.records.specs.Record.{kindOf, parts as partsOf, numberAt, recordAt};
 ghost use Rattle.records.specs.Parts.{Whole, Ends, Reached, Ended, Tree, Divided, Lies};
 ghost use Rattle.records.specs.Tests.{Says, Tells, Equals, Head, asked, Asks, Walked};
-ghost use Rattle.records.specs.Checks.{patternRefusal, recipeRefusal, Answers, Pattern, NormalTable, Recipe, ValueTable, recipeRows, OneTerm, Good, Checked};
+ghost use Rattle.records.specs.Checks.{patternRefusal, recipeRefusal, Answers, Pattern, NormalTable, Recipe, ValueTable, OneTerm, Good, Checked};
 
 // The bytes of one record.
 pub const RECORD: usize = 4;
@@ -107,14 +107,14 @@ pub fn word_at(s: &[u8], at: usize) -> usize
 // The number of the record whose first byte is at `at`.
 pub fn number_at(s: &[u8], at: usize) -> usize
     requires { ⌜ at + 4 ≤ length (now s) ⌝ }
-    ensures { λ r. ⌜ (r ≡ numberAt (now (s .entry)) at) × (r < constants) ⌝ }
+    ensures { λ r. ⌜ (r ≡ numberAt (now (s .entry)) at) × (r < numbers) ⌝ }
 {
     word_at(s, at + 2)
 }
 
 // Writes one record at byte `at`; nothing else changes.
 pub fn put_record(out: &mut [u8], at: usize, kind: Kind, number: usize)
-    requires { ⌜ (at + 4 ≤ length (now out)) × (number < constants) ⌝ }
+    requires { ⌜ (at + 4 ≤ length (now out)) × (number < numbers) ⌝ }
     ensures { λ _. ⌜ now (out .exit) ≡ sets (now (out .entry)) at (bytes (kind .code) number []) ⌝ }
 {
     let code = kind.code;
@@ -360,7 +360,7 @@ pub fn is_normal(s: &[u8]) -> bool
     is_head(s)
 }
 
-// Whether the term s is normal and no abstraction, so that it may be a head. The head is passed over once, to find where it ends.
+// Whether the term s is normal and no abstraction, so that it may be a head. Where the head ends is found by one pass over it.
 pub fn is_head(s: &[u8]) -> bool
     requires { ⌜ Tree (now s) × (length (now s) ≤ tableBytes) ⌝ }
     ensures { λ r. ⌜ Tells (now (s .entry)) Head r ⌝ }

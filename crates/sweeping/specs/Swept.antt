@@ -17,7 +17,7 @@ use mathlib.Core.List.{List}
 use Prim.Native.Nat.{ℕ, _+_, _*_, _≤_, _<_}
 use lib.ListN.{length}
 use lib.Seq.{sets}
-use Rattle.terms.specs.Figures.{constants, sweptRecords}
+use Rattle.terms.specs.Figures.{numbers, sweptRecords}
 use Rattle.terms.specs.Term.{Term, app, lam, size, Closed}
 use Rattle.terms.specs.Sweep.{contract, sweep, largest, fill}
 use Rattle.terms.specs.Table.{encode, IsTable}
@@ -29,7 +29,7 @@ use Rattle.sweeping.specs.declared.Length.the-variants.{Records, TooLong
 abbrev pub sweptBytes : ℕ
 sweptBytes = 4 * sweptRecords
 
--- patterns and right sides have at most 32; a recipe of 96 into which a swept form of 256 was put has at most 352
+-- more than is swept now: patterns and right sides have at most 32 records, a recipe of 96 with a swept form of 256 in it would have 351
 abbrev pub sweepRecords : ℕ
 sweepRecords = 384
 
@@ -52,7 +52,7 @@ pub record Applied (f a : List ℕ) : Type 0 where
   pub head-most : length f ≤ sweptBytes
   pub argument-most : length a ≤ sweptBytes
   pub depth : ℕ
-  pub shallow : depth + sweptRecords ≤ constants
+  pub shallow : depth + sweptRecords ≤ numbers
   pub closed : Closed depth (contract (app head argument))
 
 abbrev pub Applies : List ℕ → List ℕ → List ℕ → Length → List ℕ → Type 0
@@ -64,7 +64,7 @@ pub record Abstracted (b : List ℕ) : Type 0 where
   pub least : 4 ≤ length b
   pub most : length b ≤ sweptBytes
   pub depth : ℕ
-  pub shallow : depth + sweptRecords ≤ constants
+  pub shallow : depth + sweptRecords ≤ numbers
   pub closed : Closed depth (contract (lam body))
 
 abbrev pub Abstracts : List ℕ → List ℕ → Length → List ℕ → Type 0
@@ -79,7 +79,7 @@ pub record Ready (l s : List ℕ) (a : List Entry) : Type 0 where
   pub bytes : l ≡ encode tree
   pub least : 4 ≤ length l
   pub depth : ℕ
-  pub shallow : depth + size tree + sweptRecords ≤ constants
+  pub shallow : depth + size tree + sweptRecords ≤ numbers
   pub closed : Closed depth tree
   pub φ : ℕ → Term
   pub gives : Gives s a φ tree

@@ -15,7 +15,7 @@ use Prim.Native.Nat.{ℕ, suc, _+_, _*_, _≤_, _<_}
 use lib.Dec.{eqb}
 use lib.ListN.{length}
 use lib.Seq.{sets}
-use Rattle.terms.specs.Figures.{constants}
+use Rattle.terms.specs.Figures.{numbers}
 use Rattle.terms.specs.Term.{Term, app, lam, loc, con, var, size, substitute}
 use Rattle.terms.specs.Table.{encode}
 use Rattle.records.specs.Parts.{Part, Ends}
@@ -30,11 +30,11 @@ count k (loc n) = cond (eqb n k) 1 0
 count k (con n) = 0
 count k (var n) = 0
 
--- the numbers of constants and variables fit where they are copied from a record
+-- the numbers of numbers and variables fit where they are copied from a record
 abbrev pub Fits : Term → Type 0
 Fits (app f a) = Fits f × Fits a
 Fits (lam b) = Fits b
-Fits (loc n) = n < constants
+Fits (loc n) = n < numbers
 Fits (con n) = Unit {0}
 Fits (var n) = Unit {0}
 
@@ -42,7 +42,7 @@ pub record Source (g : ℕ → Term → Term) (l : List ℕ) (at k room o : ℕ)
   pub tree : Term
   pub part : Part l at tree
   pub fits : Fits (g k tree)
-  pub shallow : k + size tree ≤ constants
+  pub shallow : k + size tree ≤ numbers
   pub enough : o + 4 * size (g k tree) ≤ room
   pub least : at + 4 ≤ length l
   pub first : o + 4 ≤ room
@@ -55,7 +55,7 @@ pub record Wrote (g : ℕ → Term → Term) (l : List ℕ) (at k : ℕ) (out : 
 pub record Substitution (b : List ℕ) (at k : ℕ) (e out : List ℕ) (o : ℕ) : Type 0 where
   pub argument : Term
   pub table : e ≡ encode argument
-  pub few : size argument ≤ constants
+  pub few : size argument ≤ numbers
   pub source : Source (replace argument) b at k (length out) o
 
 pub record Used (l : List ℕ) (at k next n : ℕ) : Type 0 where

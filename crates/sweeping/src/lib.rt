@@ -13,7 +13,7 @@ ghost use mathlib.Core.Bool.{true, false, not, _&&_};
 ghost use Prim.Native.Nat.{_+_, _-_, _*_, _≤_, _<_};
 ghost use lib.ListN.{length, getD};
 ghost use lib.Seq.{sets};
-ghost use Rattle.terms.specs.Figures.{constants};
+ghost use Rattle.terms.specs.Figures.{numbers};
 ghost use Rattle.terms.specs.Term.{Term, loc, shift, isEta, isAbstraction};
 ghost use Rattle.terms.specs.Table.{encode};
 ghost use Rattle.terms.specs.Sweep.{headOf};
@@ -75,7 +75,7 @@ pub fn copy_into(src: &[u8], out: &mut [u8], o: usize)
 // The number of local n, shifted by d from local c on.
 fn shifted(n: usize, d: usize, c: usize) -> usize
     requires { ⌜ Fits (shift d c (loc n)) ⌝ }
-    ensures { λ r. ⌜ (loc r ≡ shift d c (loc n)) × (r < constants) ⌝ }
+    ensures { λ r. ⌜ (loc r ≡ shift d c (loc n)) × (r < numbers) ⌝ }
 {
     if n < c {
         return n;
@@ -115,8 +115,8 @@ fn shift_into(s: &[u8], at: usize, d: usize, c: usize, out: &mut [u8], o: usize)
 
 // The number of local n, which is not k, where a term was put for local k.
 fn lowered(n: usize, k: usize) -> usize
-    requires { ⌜ (n ≡ k → ⊥) × (n < constants) ⌝ }
-    ensures { λ r. ⌜ ((e : Term) → loc r ≡ replace e k (loc n)) × (r < constants) ⌝ }
+    requires { ⌜ (n ≡ k → ⊥) × (n < numbers) ⌝ }
+    ensures { λ r. ⌜ ((e : Term) → loc r ≡ replace e k (loc n)) × (r < numbers) ⌝ }
 {
     if n < k {
         return n;
@@ -164,7 +164,7 @@ fn substitute_into(b: &[u8], at: usize, k: usize, e: &[u8], out: &mut [u8], o: u
 
 // How often the part of b at byte `at` uses local k.
 fn count_uses(b: &[u8], at: usize, k: usize) -> Uses
-    requires { ⌜ Whole (now b) at × (k + length (now b) ≤ at + constants) ⌝ }
+    requires { ⌜ Whole (now b) at × (k + length (now b) ≤ at + numbers) ⌝ }
     ensures { λ r. ⌜ Used (now (b .entry)) at k (r .next) (r .count) ⌝ }
 {
     let kind = b[at];

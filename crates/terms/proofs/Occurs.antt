@@ -31,6 +31,20 @@ module _ {A : Type 0} {P : Term → Type 0} (f : A → (v : Term) × P v) where
   chosen-holds (yes a) b = f a .1
   chosen-holds (no a) b = absurd (a b)
 
--- a value for each variable that occurs
-pub chosen-values : (P : ℕ → Term → Type 0) (p : Term) → ((i : ℕ) → Occurs i p → (v : Term) × P i v) → (φ : ℕ → Term) × ((i : ℕ) → Occurs i p → P i (φ i))
-chosen-values P p f = (λ i. chosen (f i) (occurs? i p), λ i o. chosen-holds (f i) (occurs? i p) o)
+  chosen-each : (Q : Term → Type 0) → Q (con 0) → ((v : Term) → P v → Q v) → (d : Dec A) → Q (chosen d)
+  unfolding chosen
+  chosen-each Q z g (yes a) = g (f a .0) (f a .1)
+  chosen-each Q z g (no a) = z
+
+-- a value for each variable that occurs, and `k0` for the others
+pub record Chosen (P : ℕ → Term → Type 0) (p : Term) : Type 1 where
+  pub φ : ℕ → Term
+  pub holds : (i : ℕ) → Occurs i p → P i (φ i)
+  pub each : (Q : Term → Type 0) → Q (con 0) → ((i : ℕ) (v : Term) → P i v → Q v) → (i : ℕ) → Q (φ i)
+
+pub chosen-values : (P : ℕ → Term → Type 0) (p : Term) → ((i : ℕ) → Occurs i p → (v : Term) × P i v) → Chosen P p
+chosen-values P p f = record {
+  φ = λ i. chosen (f i) (occurs? i p);
+  holds = λ i o. chosen-holds (f i) (occurs? i p) o;
+  each = λ Q z g i. chosen-each (f i) Q z (g i) (occurs? i p);
+}

@@ -1,6 +1,7 @@
 -- The figures of document 01, each in this one place.
 --   variables       "variable, number 0 to 7": how many there are
 --   constants       "constant, number 0 to 65,535": how many there are
+--   numbers         "a 16-bit number": how many numbers a record can hold
 --   patternRecords  "Sizes: pattern and right side 1 to 32 records"
 --   recipeRecords   "recipe 1 to 96"
 --   valueRecords    "value 1 to 160"
@@ -13,6 +14,9 @@ variables = 8
 
 abbrev pub constants : ℕ
 constants = 65536
+
+abbrev pub numbers : ℕ
+numbers = 65536
 
 abbrev pub patternRecords : ℕ
 patternRecords = 32

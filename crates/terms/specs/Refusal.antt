@@ -43,10 +43,12 @@ NoTerm l = (t : Term) → ¬ IsTable l t
 abbrev pub pattern : List ℕ → List Row
 pattern l = (1, BadLength patternRecords l) ∷ (2, goodRecords variables l ≡ false) ∷ (3, NoTerm l) ∷ []
 
--- "Recipe not normal"
+-- "Recipe not normal", for a table of at most so many records
+abbrev pub recipeRows : ℕ → List ℕ → List Row
+recipeRows most l = (4, BadLength most l) ∷ (5, goodRecords 0 l ≡ false) ∷ (6, NoTerm l) ∷ (7, (t : Term) → IsTable l t → ¬ Normal t) ∷ []
+
 abbrev pub recipe : List ℕ → List Row
-recipe l =
-    (4, BadLength recipeRecords l) ∷ (5, goodRecords 0 l ≡ false) ∷ (6, NoTerm l) ∷ (7, (t : Term) → IsTable l t → ¬ Normal t) ∷ []
+recipe l = recipeRows recipeRecords l
 
 -- "no multiple of 32 or above 65,536 bytes", "no multiple of 4 or above 65,536": a table of places of so many bytes
 abbrev pub BadTable : ℕ → List ℕ → Type 0

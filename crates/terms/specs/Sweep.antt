@@ -7,6 +7,7 @@ use mathlib.Core.Bool.{not, cond, _&&_}
 use Prim.Native.Nat.{ℕ, max}
 use Rattle.terms.specs.Term.{Term, app, lam, loc, con, var, size, unshift, substitute, isAbstraction, redex}
 
+-- the head of an application and the body of an abstraction; `contract` asks for them where the term is one
 abbrev pub headOf : Term → Term
 headOf (app f a) = f
 headOf (lam b) = lam b

@@ -28,7 +28,7 @@ pub data Term : Type 0 where
   var : ℕ → Term
   deriving Discrete as Term-discrete
 
--- "A part of a term is a run of records [..]. It is one whole subtree."
+-- the number of records
 abbrev pub size : Term → ℕ
 size (app f a) = suc (size f + size a)
 size (lam b) = suc (size b)
