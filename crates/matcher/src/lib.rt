@@ -353,6 +353,6 @@ pub fn rewrite(
     let put = put_swept(right, line, values, out);
     match put {
         SweepAnswer::Refused(c) => RewriteAnswer::Refused(c),
-        SweepAnswer::Records(n) => RewriteAnswer::Records(n),
+        SweepAnswer::Records(m) => RewriteAnswer::Records(m),
     }
 }
