@@ -1,4 +1,7 @@
--- It is decided which terms are normal and which are values. By recursion on the term. Assumes nothing.
+-- It is decided which terms are normal and which are values, and what is chosen by a decision. By recursion on the term, and by cases on
+-- the decision. Assumes nothing.
+--   either o x y    x where o decides that it holds, and y where it does not
+use mathlib.Core.Path.{_≡_, refl}
 use mathlib.Core.Bool.{Bool, true, false, not}
 use Prim.Native.Nat.{ℕ, suc}
 use native.Mathlib.Decide.{decLt}
@@ -43,3 +46,22 @@ ground? (var n) = no (λ x. x)
 
 abbrev pub value? : (t : Term) → Dec (Value t)
 value? t = dec-×₃ (closed? _ t) (normal? t) (ground? t)
+
+-- a choice by what is decided
+module _ {A : Type 0} where
+  pub by-dec : (P : Dec A → Type 0) (o : Dec A) → ((a : A) → P (yes a)) → ((n : ¬ A) → P (no n)) → P o
+  by-dec P (yes a) y n = y a
+  by-dec P (no a) y n = n a
+
+  module _ {B : Type 0} where
+    abbrev pub either : Dec A → B → B → B
+    either (yes p) x y = x
+    either (no p) x y = y
+
+    pub either-yes : (o : Dec A) (x y : B) → A → either o x y ≡ x
+    either-yes (yes p) x y h = refl
+    either-yes (no p) x y h = absurd (p h)
+
+    pub either-no : (o : Dec A) (x y : B) → ¬ A → either o x y ≡ y
+    either-no (yes p) x y h = absurd (h p)
+    either-no (no p) x y h = refl

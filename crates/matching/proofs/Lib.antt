@@ -12,5 +12,7 @@ pub mod Listing
 pub mod Sizes
 pub mod Prune
 pub mod Goals
+pub mod Occurrences
+pub mod Bodies
 pub mod Tables
 pub mod Cases

@@ -18,6 +18,7 @@ use Rattle.terms.proofs.Shift.{shift-unshift, size-shift, uses-above}
 use Rattle.terms.proofs.Substitute.{by-substitute, substitute-unused, substitute-low, substitute-high, size-used}
 use Rattle.matching.specs.Abstractions.{same}
 use Rattle.terms.proofs.Locals.{rigid, rigid-sweep, unused-sweep}
+use Rattle.matching.proofs.Decide.{either, either-yes, either-no}
 use Rattle.matching.proofs.Step.{lam-inj, Split, Split.parts, Split.body, constant, match-variable, match-application}
 use Rattle.matching.proofs.Splits.{candidates, in-candidates}
 use Rattle.matching.proofs.Lines.{Values}
@@ -71,18 +72,6 @@ argument-first φ f a t h = (λ s. to (m .0 s), from)
     from (inr (inr p)) = m .1 (inr p)
 
 -- cut 3 again: where the argument uses a local that the head lacks, every occurrence is replaced
-abbrev either : {A : Type 0} → Dec A → Term → Term → Term
-either (yes p) x y = x
-either (no p) x y = y
-
-either-yes : {A : Type 0} (o : Dec A) (x y : Term) → A → either o x y ≡ x
-either-yes (yes p) x y h = refl
-either-yes (no p) x y h = absurd (p h)
-
-either-no : {A : Type 0} (o : Dec A) (x y : Term) → ¬ A → either o x y ≡ y
-either-no (yes p) x y h = absurd (h p)
-either-no (no p) x y h = refl
-
 -- t with each outermost occurrence of e replaced
 abbrev pub replaceAll : Term → ℕ → Term → Term
 replaceAll e d (app f a) = either (same (app f a) (shift d 0 e)) (loc d) (app (replaceAll e d f) (replaceAll e d a))
