@@ -3,12 +3,22 @@
 --   parts d t    the parts of t in table order, each with the number of binders above it, counted from d
 --   partAt d t j the j-th of them
 --   First t j e  the j-th part of t is the first that is e, moved in below the binders above that part
-use mathlib.Core.Path.{_≡_, refl, ap, _∙_}
+use mathlib.Core.Path.{_≡_, refl, sym, ap, _∙_, subst}
+use mathlib.Core.Bool.{true}
 use mathlib.Core.List.{List, [], _∷_, _++_}
-use Prim.Native.Nat.{ℕ, suc, _+_, _<_}
+use mathlib.Core.Logic.{_⊎_, inl, inr, ⊎-elim}
+use Prim.Native.Nat.{ℕ, zero, suc, _+_, _<_}
 use native.Mathlib.Omega.{arith}
-use lib.ListN.{length, getD, length-append}
-use Rattle.terms.specs.Term.{Term, app, lam, loc, con, var, size, shift}
+use native.Mathlib.Decide.{decLt}
+use lib.Dec.{T}
+use lib.ListN.{length, getD, length-append, List·getD-append}
+use lib.Seq.{getD-append-add}
+use borrow.Author.Tests.{eqb-true}
+use Rattle.terms.specs.Term.{Term, app, lam, loc, con, var, size, shift, unshift, substitute, uses}
+use Rattle.terms.proofs.Tests.{or-true}
+use Rattle.terms.proofs.Shift.{unshift-shift}
+use Rattle.terms.proofs.Substitute.{size-pos, substitute-here}
+use Rattle.matching.specs.Abstractions.{same}
 
 abbrev pub parts : ℕ → Term → List (ℕ × Term)
 parts d (app f a) = (d, app f a) ∷ (parts d f ++ parts d a)
@@ -35,3 +45,94 @@ length-parts d (lam b) = ap suc (length-parts (suc d) b)
 length-parts d (loc n) = refl
 length-parts d (con n) = refl
 length-parts d (var n) = refl
+
+-- the parts of a head and of an argument among those of the application
+pub partAt-head : (d : ℕ) (f a : Term) (j : ℕ) → j < size f → partAt d (app f a) (suc j) ≡ partAt d f j
+partAt-head d f a j h = List·getD-append (parts d f) (parts d a) (0, con 0) j (omega (arith, length-parts d f))
+
+pub partAt-argument : (d : ℕ) (f a : Term) (j : ℕ) → partAt d (app f a) (suc (size f + j)) ≡ partAt d a j
+partAt-argument d f a j =
+    ap (λ n. getD (parts d f ++ parts d a) (n + j) (0, con 0)) (sym (length-parts d f)) ∙ getD-append-add (parts d f) (parts d a) j (0, con 0)
+
+pub partAt-first : (d : ℕ) (t : Term) → partAt d t 0 ≡ (d, t)
+partAt-first d (app f a) = refl
+partAt-first d (lam b) = refl
+partAt-first d (loc n) = refl
+partAt-first d (con n) = refl
+partAt-first d (var n) = refl
+
+-- what is put for a used local is one of the parts
+abbrev Found : ℕ → Term → Term → Type 0
+Found d t e = (j : ℕ) × (j < size t) × Copy (partAt d t j) e
+
+found-head : (d : ℕ) (f a e : Term) → Found d f e → Found d (app f a) e
+found-head d f a e (j, h, c) = (suc j, omega arith, subst (λ q. Copy q e) (sym (partAt-head d f a j h)) c)
+
+found-argument : (d : ℕ) (f a e : Term) → Found d a e → Found d (app f a) e
+found-argument d f a e (j, h, c) = (suc (size f + j), omega arith, subst (λ q. Copy q e) (sym (partAt-argument d f a j)) c)
+
+found-used : (d : ℕ) (e b : Term) → uses d b ≡ true → Found d (substitute d e b) e
+found-used d e (app f a) u =
+    ⊎-elim (λ p. found-head d (substitute d e f) (substitute d e a) e (found-used d e f p))
+    (λ p. found-argument d (substitute d e f) (substitute d e a) e (found-used d e a p)) (or-true (uses d f) (uses d a) u)
+found-used d e (lam b) u = let r = found-used (suc d) e b u in (suc (r .0), omega (arith, r .1), r .2)
+found-used d e (loc n) u =
+    rw (substitute-here d e n (eqb-true n d u)) (0, size-pos (shift d 0 e), subst (λ q. Copy q e) (sym (partAt-first d (shift d 0 e))) refl)
+found-used d e (con n) u = absurd (subst T (sym u) tt)
+found-used d e (var n) u = absurd (subst T (sym u) tt)
+
+-- the first number with a property that is decided
+module _ (P : ℕ → Type 0) (decide : (i : ℕ) → Dec (P i)) where
+  abbrev Least : ℕ → Type 0
+  Least n = (i : ℕ) × (i < n) × P i × ((k : ℕ) → k < i → ¬ P k)
+
+  least-next : (n : ℕ) → Dec (P n) → ((i : ℕ) → i < n → ¬ P i) → Least (suc n) ⊎ ((i : ℕ) → i < suc n → ¬ P i)
+  least-next n (yes p) f = inl (n, omega arith, p, f)
+  least-next n (no p) f = inr go
+    where
+      go : (i : ℕ) → i < suc n → ¬ P i
+      go i h x = by (decLt i n)
+        where
+          by : Dec (i < n) → ⊥
+          by (yes l) = f i l x
+          by (no l) = let q : i ≡ n = omega arith in p (subst P q x)
+
+  least-below : (n : ℕ) → Least n ⊎ ((i : ℕ) → i < n → ¬ P i)
+  least-below zero = inr (λ i h x. omega arith)
+  least-below (suc n) = ⊎-elim (λ r. inl (r .0, omega (arith, r .1), r .2, r .3)) (least-next n (decide n)) (least-below n)
+
+  least : (j : ℕ) → P j → Least (suc j)
+  least j p = ⊎-elim (λ r. r) (λ f. absurd (f j (omega arith) p)) (least-below (suc j))
+
+-- an argument whose local is used has a first occurrence
+pub first-of : (e b t : Term) → substitute 0 e b ≡ t → uses 0 b ≡ true → (j : ℕ) × First t j e
+first-of e b t p u =
+    let (j, h, c) : Found 0 t e = rw p at (found-used 0 e b u) in
+    let r = least (λ i. Copy (partAt 0 t i) e) (λ i. same (partAt 0 t i .1) (shift (partAt 0 t i .0) 0 e)) j c in
+    (r .0, record { within = omega (arith, r .1, h); copy = r .2; none-before = r .3 })
+
+-- and one only
+pub first-one : (t : Term) (i j : ℕ) (e : Term) → First t i e → First t j e → i ≡ j
+first-one t i j e x y = go (decLt i j) (decLt j i)
+  where
+    go : Dec (i < j) → Dec (j < i) → i ≡ j
+    go (yes l) o = absurd (y .none-before i l (x .copy))
+    go (no l) (yes m) = absurd (x .none-before j m (y .copy))
+    go (no l) (no m) = omega arith
+
+-- the part at a first occurrence, moved out of the binders above it, is the argument
+pub first-lowered : (t : Term) (j : ℕ) (e : Term) → First t j e → e ≡ unshift (partAt 0 t j .0) 0 (partAt 0 t j .1)
+first-lowered t j e x = sym (unshift-shift (partAt 0 t j .0) 0 e) ∙ ap (unshift (partAt 0 t j .0) 0) (sym (x .copy))
+
+-- so a part that uses a binder above it is none
+pub first-movable : (t : Term) (j : ℕ) (e : Term) → First t j e → Copy (partAt 0 t j) (unshift (partAt 0 t j .0) 0 (partAt 0 t j .1))
+first-movable t j e x = subst (Copy (partAt 0 t j)) (first-lowered t j e x) (x .copy)
+
+-- nor is one whose argument stands earlier
+pub first-not-again :
+    (t : Term) (i j : ℕ) (e : Term) → i < j → Copy (partAt 0 t i) (unshift (partAt 0 t j .0) 0 (partAt 0 t j .1)) → ¬ First t j e
+first-not-again t i j e h c x = x .none-before i h (subst (Copy (partAt 0 t i)) (sym (first-lowered t j e x)) c)
+
+-- what code finds by looking
+pub first-from : (t : Term) (j : ℕ) (e : Term) → j < size t → Copy (partAt 0 t j) e → ((i : ℕ) → i < j → ¬ Copy (partAt 0 t i) e) → First t j e
+first-from t j e h c f = record { within = h; copy = c; none-before = f }
