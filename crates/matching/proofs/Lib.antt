@@ -12,7 +12,9 @@ pub mod Listing
 pub mod Sizes
 pub mod Prune
 pub mod Goals
+pub mod Targets
 pub mod Occurrences
 pub mod Bodies
+pub mod Alternatives
 pub mod Tables
 pub mod Cases

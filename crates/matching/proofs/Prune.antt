@@ -80,7 +80,7 @@ replaceAll e d (loc n) = either (same (loc n) (shift d 0 e)) (loc d) (cond (ltb 
 replaceAll e d (con n) = either (same (con n) (shift d 0 e)) (loc d) (con n)
 replaceAll e d (var n) = either (same (var n) (shift d 0 e)) (loc d) (var n)
 
-replaceAll-here : (e : Term) (d : ℕ) (t : Term) → t ≡ shift d 0 e → replaceAll e d t ≡ loc d
+pub replaceAll-here : (e : Term) (d : ℕ) (t : Term) → t ≡ shift d 0 e → replaceAll e d t ≡ loc d
 replaceAll-here e d (app f a) p = either-yes (same (app f a) (shift d 0 e)) (loc d) _ p
 replaceAll-here e d (lam b) p = either-yes (same (lam b) (shift d 0 e)) (loc d) _ p
 replaceAll-here e d (loc n) p = either-yes (same (loc n) (shift d 0 e)) (loc d) _ p
