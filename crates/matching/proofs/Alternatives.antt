@@ -4,18 +4,21 @@
 --   Alternative f a t i φ    the filled application of f and a comes to t in way i
 use mathlib.Core.Path.{_≡_, refl, sym, ap, _∙_, subst}
 use mathlib.Core.Bool.{true, false, not}
+use mathlib.Core.List.{List, _∷_}
 use mathlib.Core.Logic.{_⊎_, inl, inr, _↔_}
 use Prim.Native.Nat.{ℕ, zero, suc, _+_, _<_}
 use native.Mathlib.Omega.{arith}
 use lib.Dec.{T}
-use Rattle.terms.specs.Term.{Term, app, lam, loc, con, var, Normal, size, uses, isAbstraction}
+use Rattle.terms.specs.Term.{Term, app, lam, loc, con, var, Normal, size, shift, uses, isAbstraction}
 use Rattle.terms.specs.Sweep.{sweep, fill}
 use Rattle.terms.proofs.Shift.{unused-shift}
+use Rattle.terms.proofs.Table.{kind}
 use Rattle.matching.proofs.Step.{lam-inj, constant}
 use Rattle.matching.proofs.Lists.{Predicate}
 use Rattle.matching.proofs.Lister.{Sweeps}
 use Rattle.matching.proofs.Prune.{Build, Choice, argument-first}
-use Rattle.matching.proofs.Occurrences.{First, first-of, first-one}
+use Rattle.matching.proofs.Goals.{Goal, Goal.match, Goal.build, All}
+use Rattle.matching.proofs.Occurrences.{First, first-of, first-one, first-same}
 
 abbrev pub Alternative : Term → Term → Term → ℕ → Predicate
 Alternative f a t zero φ = t ≡ app (sweep (fill φ f)) (sweep (fill φ a))
@@ -34,3 +37,45 @@ alternatives φ f a t h = (λ s. to (argument-first φ f a t h .0 s), λ (i, _, 
     from zero p = argument-first φ f a t h .1 (inl p)
     from (suc zero) p = argument-first φ f a t h .1 (inr (inr p))
     from (suc (suc j)) (e, x, s, (b, p, q, u)) = rw (p, s) q
+
+-- no two ways at once
+apart-parts : (φ : ℕ → Term) (f a t b : Term) → Normal t → Alternative f a t 0 φ → ¬ Sweeps f (lam b) φ
+apart-parts φ f a t b h p s =
+    let n : Normal (app (sweep (fill φ f)) (sweep (fill φ a))) = rw p at h in
+    subst (λ x. T (not (isAbstraction x))) s (n .0)
+
+apart-constant : (φ : ℕ → Term) (f a t : Term) (j : ℕ) → Alternative f a t 1 φ → ¬ Alternative f a t (suc (suc j)) φ
+apart-constant φ f a t j s (e, x, _, (b, p, q, u)) = subst T (sym u ∙ ap (uses 0) (lam-inj b (shift 1 0 t) (sym p ∙ s)) ∙ unused-shift 0 t) tt
+
+pub alternatives-apart : (φ : ℕ → Term) (f a t : Term) (i j : ℕ) → Normal t → Alternative f a t i φ → Alternative f a t j φ → i ≡ j
+alternatives-apart φ f a t zero zero h s r = refl
+alternatives-apart φ f a t zero (suc zero) h s r = absurd (apart-parts φ f a t (shift 1 0 t) h s r)
+alternatives-apart φ f a t zero (suc (suc j)) h s (e, x, _, b) = absurd (apart-parts φ f a t (b .0) h s (b .1))
+alternatives-apart φ f a t (suc zero) zero h s r = absurd (apart-parts φ f a t (shift 1 0 t) h r s)
+alternatives-apart φ f a t (suc zero) (suc zero) h s r = refl
+alternatives-apart φ f a t (suc zero) (suc (suc j)) h s r = absurd (apart-constant φ f a t j s r)
+alternatives-apart φ f a t (suc (suc i)) zero h (e, x, _, b) r = absurd (apart-parts φ f a t (b .0) h r (b .1))
+alternatives-apart φ f a t (suc (suc i)) (suc zero) h s r = absurd (apart-constant φ f a t i r s)
+alternatives-apart φ f a t (suc (suc i)) (suc (suc j)) h (e, x, p, _) (e′, y, q, _) =
+    ap (λ n. suc (suc n)) (first-one t i j e x (subst (First t j) (sym q ∙ p) y))
+
+-- the goals that each way leaves, before the other goals
+module _ (φ : ℕ → Term) (f a : Term) (gs : List Goal) where
+  pub alternative-parts : (t u : Term) → (Alternative f a (app t u) 0 φ × All gs φ) ↔ All (match f t ∷ match a u ∷ gs) φ
+  alternative-parts t u = (λ (p, r). (cc, (cc, r)), λ (p, (q, r)). (cc, r))
+
+  pub alternative-no-parts : (t : Term) → ¬ (kind t ≡ 0) → ¬ Alternative f a t 0 φ
+  alternative-no-parts t n p = n (ap kind p)
+
+  pub alternative-constant : (t : Term) → (Alternative f a t 1 φ × All gs φ) ↔ All (match f (constant t) ∷ gs) φ
+  alternative-constant t = (λ s. s, λ s. s)
+
+  pub alternative-argument :
+      (t : Term) (j : ℕ) (e : Term) → First t j e → (Alternative f a t (suc (suc j)) φ × All gs φ) ↔ All (match a e ∷ build f t e ∷ gs) φ
+  alternative-argument t j e x = (
+    λ ((e′, y, s, b), r). let q = first-same t j e′ e y x in (s ∙ q, (subst (λ z. Build f t z φ) q b, r)),
+    λ (s, (b, r)). ((e, x, s, b), r),
+  )
+
+  pub alternative-no-argument : (t : Term) (j : ℕ) → ((e : Term) → ¬ First t j e) → ¬ Alternative f a t (suc (suc j)) φ
+  alternative-no-argument t j n s = n (s .0) (s .1)

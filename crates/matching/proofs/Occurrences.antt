@@ -124,6 +124,9 @@ first-one t i j e x y = go (decLt i j) (decLt j i)
 pub first-lowered : (t : Term) (j : ℕ) (e : Term) → First t j e → e ≡ unshift (partAt 0 t j .0) 0 (partAt 0 t j .1)
 first-lowered t j e x = sym (unshift-shift (partAt 0 t j .0) 0 e) ∙ ap (unshift (partAt 0 t j .0) 0) (sym (x .copy))
 
+pub first-same : (t : Term) (j : ℕ) (e e′ : Term) → First t j e → First t j e′ → e ≡ e′
+first-same t j e e′ x y = first-lowered t j e x ∙ sym (first-lowered t j e′ y)
+
 -- so a part that uses a binder above it is none
 pub first-movable : (t : Term) (j : ℕ) (e : Term) → First t j e → Copy (partAt 0 t j) (unshift (partAt 0 t j .0) 0 (partAt 0 t j .1))
 first-movable t j e x = subst (Copy (partAt 0 t j)) (first-lowered t j e x) (x .copy)
