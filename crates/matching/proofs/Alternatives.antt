@@ -64,9 +64,6 @@ module _ (φ : ℕ → Term) (f a : Term) (gs : List Goal) where
   pub alternative-parts : (t u : Term) → (Alternative f a (app t u) 0 φ × All gs φ) ↔ All (match f t ∷ match a u ∷ gs) φ
   alternative-parts t u = (λ (p, r). (cc, (cc, r)), λ (p, (q, r)). (cc, r))
 
-  pub alternative-no-parts : (t : Term) → ¬ (kind t ≡ 0) → ¬ Alternative f a t 0 φ
-  alternative-no-parts t n p = n (ap kind p)
-
   pub alternative-constant : (t : Term) → (Alternative f a t 1 φ × All gs φ) ↔ All (match f (constant t) ∷ gs) φ
   alternative-constant t = (λ s. s, λ s. s)
 
@@ -77,5 +74,10 @@ module _ (φ : ℕ → Term) (f a : Term) (gs : List Goal) where
     λ (s, (b, r)). ((e, x, s, b), r),
   )
 
-  pub alternative-no-argument : (t : Term) (j : ℕ) → ((e : Term) → ¬ First t j e) → ¬ Alternative f a t (suc (suc j)) φ
-  alternative-no-argument t j n s = n (s .0) (s .1)
+-- and where a way is none: a target that is no application, and a part that is no argument's first occurrence
+module _ (φ : ℕ → Term) (f a t : Term) where
+  pub alternative-no-parts : ¬ (kind t ≡ 0) → ¬ Alternative f a t 0 φ
+  alternative-no-parts n p = n (ap kind p)
+
+  pub alternative-no-argument : (j : ℕ) → ((e : Term) → ¬ First t j e) → ¬ Alternative f a t (suc (suc j)) φ
+  alternative-no-argument j n s = n (s .0) (s .1)

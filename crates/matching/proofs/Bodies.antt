@@ -21,9 +21,10 @@ use Rattle.terms.proofs.Contracted.{contracted-sweep}
 use Rattle.matching.specs.Abstractions.{same}
 use Rattle.matching.proofs.Decide.{by-dec, either, either-no}
 use Rattle.matching.proofs.Step.{lam-inj, lam-normal-of}
+use Rattle.matching.proofs.Lines.{Values}
 use Rattle.matching.proofs.Lists.{Predicate}
 use Rattle.matching.proofs.Lister.{Sweeps}
-use Rattle.matching.proofs.Prune.{Build, replaceAll, replaceAll-here}
+use Rattle.matching.proofs.Prune.{Build, replaceAll, replaceAll-here, one-body}
 use Rattle.matching.proofs.Targets.{closed-shift, ground-shift}
 
 abbrev pub copies : Term → ℕ → Term → ℕ
@@ -330,3 +331,19 @@ chosen-all φ f t e c k l = (
   (s .1 ∙ ap lam q, ap (uses 0) (sym q) ∙ s .2),
   λ s. (body e 0 t c 0, s .0, s .1, c, λ i _. refl, refl),
 )
+
+-- where the argument uses a local that the head lacks, every copy is chosen
+pub build-forced :
+    (φ : ℕ → Term) → Values φ → (f t e : Term) (j : ℕ) → uses j e ≡ true → uses j f ≡ false
+    → Build f t e φ ↔ (Sweeps f (lam (replaceAll e 0 t)) φ × (uses 0 (replaceAll e 0 t) ≡ true))
+build-forced φ v f t e j u n = (
+  λ x. let q = one-body φ v f t e j u n x in (x .1 ∙ ap lam q, ap (uses 0) (sym q) ∙ x .3),
+  λ x. (replaceAll e 0 t, x .0, ap (substitute 0 e) (sym (body-all e 0 t 0)) ∙ body-substitute e 0 t (λ _. true) 0, x .1),
+)
+
+pub chosen-forced :
+    (φ : ℕ → Term) → Values φ → (f t e : Term) (j : ℕ) (c : ℕ → Bool) → uses j e ≡ true → uses j f ≡ false → ((i : ℕ) → i < copies e 0 t → c i ≡ true)
+    → Build f t e φ ↔ (Sweeps f (lam (body e 0 t c 0)) φ × (uses 0 (body e 0 t c 0) ≡ true))
+chosen-forced φ v f t e j c u n h =
+    let q : body e 0 t c 0 ≡ replaceAll e 0 t = body-same e 0 t c (λ _. true) 0 (λ i _ l. h i (omega arith)) ∙ body-all e 0 t 0 in
+    rw q (build-forced φ v f t e j u n)

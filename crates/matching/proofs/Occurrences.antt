@@ -7,7 +7,7 @@ use mathlib.Core.Path.{_≡_, refl, sym, ap, _∙_, subst}
 use mathlib.Core.Bool.{true}
 use mathlib.Core.List.{List, [], _∷_, _++_}
 use mathlib.Core.Logic.{_⊎_, inl, inr, ⊎-elim}
-use Prim.Native.Nat.{ℕ, zero, suc, _+_, _<_}
+use Prim.Native.Nat.{ℕ, zero, suc, _+_, _-_, _<_}
 use native.Mathlib.Omega.{arith}
 use native.Mathlib.Decide.{decLt}
 use lib.Dec.{T}
@@ -19,6 +19,7 @@ use Rattle.terms.proofs.Tests.{or-true}
 use Rattle.terms.proofs.Shift.{unshift-shift}
 use Rattle.terms.proofs.Substitute.{size-pos, substitute-here}
 use Rattle.matching.specs.Abstractions.{same}
+use Rattle.matching.proofs.Decide.{by-dec}
 
 abbrev pub parts : ℕ → Term → List (ℕ × Term)
 parts d (app f a) = (d, app f a) ∷ (parts d f ++ parts d a)
@@ -60,6 +61,32 @@ partAt-first d (lam b) = refl
 partAt-first d (loc n) = refl
 partAt-first d (con n) = refl
 partAt-first d (var n) = refl
+
+-- a part of a term is the term itself or a part of its own parts
+module _ (Q : ℕ × Term → Type 0) (d : ℕ) where
+  by-app : (f a : Term) (j : ℕ) → j < size (app f a) → Q (d, app f a) → ((i : ℕ) → i < size f → Q (partAt d f i)) → ((i : ℕ) → i < size a → Q (partAt d a i)) → Q (partAt d (app f a) j)
+  by-app f a zero h q x y = q
+  by-app f a (suc j) h q x y = by-dec (λ _. Q (partAt d (app f a) (suc j))) (decLt j (size f)) (λ l. subst Q (sym (partAt-head d f a j l)) (x j l))
+      (λ l.
+      let m : suc j ≡ suc (size f + (j - size f)) = omega arith in
+      subst Q (sym (ap (partAt d (app f a)) m ∙ partAt-argument d f a (j - size f))) (y (j - size f) (omega arith)))
+
+  by-lam : (b : Term) (j : ℕ) → j < size (lam b) → Q (d, lam b) → ((i : ℕ) → i < size b → Q (partAt (suc d) b i)) → Q (partAt d (lam b) j)
+  by-lam b zero h q x = q
+  by-lam b (suc j) h q x = x j (omega arith)
+
+  by-leaf : (t : Term) (j : ℕ) → j < 1 → Q (d, t) → Q (partAt d t j)
+  by-leaf t zero h q = subst Q (sym (partAt-first d t)) q
+  by-leaf t (suc j) h q = absurd (omega arith)
+
+-- what goes down to the parts of a term holds of each
+module _ (P : ℕ → Term → Type 0) (at-app : (d : ℕ) (f a : Term) → P d (app f a) → P d f × P d a) (at-lam : (d : ℕ) (b : Term) → P d (lam b) → P (suc d) b) where
+  pub each-part : (d : ℕ) (t : Term) (j : ℕ) → j < size t → P d t → P (partAt d t j .0) (partAt d t j .1)
+  each-part d (app f a) j h p = by-app (λ q. P (q .0) (q .1)) d f a j h p (λ i l. each-part d f i l (at-app d f a p .0)) (λ i l. each-part d a i l (at-app d f a p .1))
+  each-part d (lam b) j h p = by-lam (λ q. P (q .0) (q .1)) d b j h p (λ i l. each-part (suc d) b i l (at-lam d b p))
+  each-part d (loc n) j h p = by-leaf (λ q. P (q .0) (q .1)) d (loc n) j h p
+  each-part d (con n) j h p = by-leaf (λ q. P (q .0) (q .1)) d (con n) j h p
+  each-part d (var n) j h p = by-leaf (λ q. P (q .0) (q .1)) d (var n) j h p
 
 -- what is put for a used local is one of the parts
 abbrev Found : ℕ → Term → Term → Type 0

@@ -15,7 +15,7 @@ use Rattle.terms.specs.Sweep.{sweep, fill}
 use Rattle.terms.specs.Listing.{In, Line}
 use Rattle.terms.proofs.Tests.{or-false, or-true}
 use Rattle.terms.proofs.Shift.{shift-unshift, size-shift, uses-above}
-use Rattle.terms.proofs.Substitute.{by-substitute, substitute-unused, substitute-low, substitute-high, size-used}
+use Rattle.terms.proofs.Substitute.{by-substitute, substitute-unused, substitute-low, substitute-high, size-used, unused-substitute}
 use Rattle.matching.specs.Abstractions.{same}
 use Rattle.terms.proofs.Locals.{rigid, rigid-sweep, unused-sweep}
 use Rattle.matching.proofs.Decide.{either, either-yes, either-no}
@@ -122,6 +122,15 @@ module _ (e : Term) (i : ℕ) (u : uses i e ≡ true) where
 pub one-body : (φ : ℕ → Term) → Values φ → (f t e : Term) (j : ℕ) → uses j e ≡ true → uses j f ≡ false → (x : Build f t e φ) → x .0 ≡ replaceAll e 0 t
 one-body φ v f t e j u c x =
     forced e j u 0 j (omega arith) (x .0) (sym (ap (uses j) (x .1)) ∙ unused-sweep φ v j f c) ∙ ap (replaceAll e 0) (x .2)
+
+-- cut 3 once more: each loose local of the target is the head's or the argument's
+pub build-local :
+    (φ : ℕ → Term) → Values φ → (f t e : Term) (j : ℕ) → Build f t e φ → uses j t ≡ true → uses j f ≡ false → uses j e ≡ true
+build-local φ v f t e j (b, s, p, _) u c = go (uses j e) refl
+  where
+    go : (x : Bool) → uses j e ≡ x → x ≡ true
+    go true q = refl
+    go false q = absurd (subst T (sym u ∙ ap (uses j) (sym p) ∙ unused-substitute j j 0 e b (omega arith) (sym (ap (uses j) s) ∙ unused-sweep φ v j f c) q) tt)
 
 -- cut 5, the known head: where the head is a variable that is assigned, its value decides
 pub known-body : (φ : ℕ → Term) → Values φ → (i : ℕ) (t e b : Term) → φ i ≡ lam b → Build (var i) t e φ ↔ ((substitute 0 e b ≡ t) × (uses 0 b ≡ true))

@@ -29,7 +29,7 @@ pub data Goal (p t : Term) : Term → Term → Type 0 where
   argument : (f a s g e : Term) → Goal p t (app f a) s → Split g e s → Goal p t a e
   alone : (f a s : Term) → Goal p t (app f a) s → Goal p t f (constant s)
 
-size-bodyTarget : (t : Term) → size (bodyTarget t) ≤ size t + 2
+pub size-bodyTarget : (t : Term) → size (bodyTarget t) ≤ size t + 2
 size-bodyTarget (app f a) = omega (arith, size-shift 1 0 (app f a))
 size-bodyTarget (lam b) = omega arith
 size-bodyTarget (loc n) = omega (arith, size-shift 1 0 (loc n))
