@@ -4,17 +4,18 @@
 --   Alternative f a t i φ    the filled application of f and a comes to t in way i
 use mathlib.Core.Path.{_≡_, refl, sym, ap, _∙_, subst}
 use mathlib.Core.Bool.{true, false, not}
-use mathlib.Core.List.{List, _∷_}
+use mathlib.Core.List.{List, _∷_, _++_}
 use mathlib.Core.Logic.{_⊎_, inl, inr, _↔_}
 use Prim.Native.Nat.{ℕ, zero, suc, _+_, _<_}
 use native.Mathlib.Omega.{arith}
 use lib.Dec.{T}
 use Rattle.terms.specs.Term.{Term, app, lam, loc, con, var, Normal, size, shift, uses, isAbstraction}
 use Rattle.terms.specs.Sweep.{sweep, fill}
+use Rattle.terms.specs.Listing.{Line}
 use Rattle.terms.proofs.Shift.{unused-shift}
 use Rattle.terms.proofs.Table.{kind}
 use Rattle.matching.proofs.Step.{lam-inj, constant}
-use Rattle.matching.proofs.Lists.{Predicate}
+use Rattle.matching.proofs.Lists.{Predicate, Lists, Under, lists-same, lists-under-next}
 use Rattle.matching.proofs.Lister.{Sweeps}
 use Rattle.matching.proofs.Prune.{Build, Choice, argument-first}
 use Rattle.matching.proofs.Goals.{Goal, Goal.match, Goal.build, All}
@@ -25,10 +26,10 @@ Alternative f a t zero φ = t ≡ app (sweep (fill φ f)) (sweep (fill φ a))
 Alternative f a t (suc zero) φ = Sweeps f (constant t) φ
 Alternative f a t (suc (suc j)) φ = (e : Term) × First t j e × Sweeps a e φ × Build f t e φ
 
-pub alternatives : (φ : ℕ → Term) (f a t : Term) → Normal t → Sweeps (app f a) t φ ↔ ((i : ℕ) × (i < size t + 2) × Alternative f a t i φ)
+pub alternatives : (φ : ℕ → Term) (f a t : Term) → Normal t → Sweeps (app f a) t φ ↔ Under (Alternative f a t) (size t + 2) φ
 alternatives φ f a t h = (λ s. to (argument-first φ f a t h .0 s), λ (i, _, s). from i s)
   where
-    to : Choice f a t φ → (i : ℕ) × (i < size t + 2) × Alternative f a t i φ
+    to : Choice f a t φ → Under (Alternative f a t) (size t + 2) φ
     to (inl p) = (0, omega arith, p)
     to (inr (inl (e, _, s, b))) = let (j, x) = first-of e (b .0) t (b .2) (b .3) in (suc (suc j), omega (arith, x .within), (e, x, s, b))
     to (inr (inr p)) = (1, omega arith, p)
@@ -81,3 +82,17 @@ module _ (φ : ℕ → Term) (f a t : Term) where
 
   pub alternative-no-argument : (j : ℕ) → ((e : Term) → ¬ First t j e) → ¬ Alternative f a t (suc (suc j)) φ
   alternative-no-argument j n s = n (s .0) (s .1)
+
+-- so a search takes the ways in turn, together with whatever else is to be satisfied
+module _ (n : ℕ) (S : ℕ → Type 0) (f a t : Term) (R : Predicate) (h : Normal t) where
+  abbrev Way : ℕ → Predicate
+  Way i φ = Alternative f a t i φ × R φ
+
+  pub lists-alternatives : (ls : List Line) → Lists n S (Under Way (size t + 2)) ls → Lists n S (λ φ. Sweeps (app f a) t φ × R φ) ls
+  lists-alternatives ls x =
+      lists-same n S (λ φ. Sweeps (app f a) t φ × R φ) (Under Way (size t + 2)) ls
+      (λ φ v. (λ (s, r). let (i, l, w) = alternatives φ f a t h .0 s in (i, l, (w, r)), λ (i, l, (w, r)). (alternatives φ f a t h .1 (i, l, w), r))) x
+
+  pub lists-alternative-next : (i : ℕ) (ls ms : List Line) → Lists n S (Under Way i) ls → Lists n S (Way i) ms → Lists n S (Under Way (suc i)) (ls ++ ms)
+  lists-alternative-next i ls ms x y =
+      lists-under-next n S Way i ls ms (λ φ v j l s r. omega (arith, alternatives-apart φ f a t j i h (s .0) (r .0))) x y

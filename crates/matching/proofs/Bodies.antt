@@ -25,6 +25,7 @@ use Rattle.matching.proofs.Lines.{Values}
 use Rattle.matching.proofs.Lists.{Predicate}
 use Rattle.matching.proofs.Lister.{Sweeps}
 use Rattle.matching.proofs.Prune.{Build, replaceAll, replaceAll-here, one-body}
+use Rattle.matching.proofs.Occurrences.{partAt, Copy, by-app, by-lam, by-leaf}
 use Rattle.matching.proofs.Targets.{closed-shift, ground-shift}
 
 abbrev pub copies : Term → ℕ → Term → ℕ
@@ -244,6 +245,19 @@ body-all e =
         ap (λ m. cond (ltb n d) (loc n) (loc m)) (add-one n) ∙ sym (either-no (same (loc n) (shift d 0 e)) _ _ q)
     leaf d (con n) l q k = sym (either-no (same (con n) (shift d 0 e)) _ _ q)
     leaf d (var n) l q k = sym (either-no (same (var n) (shift d 0 e)) _ _ q)
+
+-- a copy among the parts is counted, and no part twice
+pub copies-part : (e : Term) (d : ℕ) (t : Term) (j : ℕ) → j < size t → Copy (partAt d t j) e → 0 < copies e d t
+copies-part e =
+    body-induction e (λ d t n x. (j : ℕ) → j < size t → Copy (partAt d t j) e → 0 < n) (λ d t p j l c. omega arith)
+    (λ d f a m n x y q hf ha j l.
+    by-app (λ z. Copy z e → 0 < m + n) d f a j l (λ c. absurd (q c)) (λ i u c. omega (arith, hf i u c)) (λ i u c. omega (arith, ha i u c)))
+    (λ d b n x q hb j l. by-lam (λ z. Copy z e → 0 < n) d b j l (λ c. absurd (q c)) hb)
+    (λ d t u q j l. by-leaf (λ z. Copy z e → 0 < 0) d t j (omega (arith, size-leaf t u)) (λ c. absurd (q c)))
+
+pub copies-size : (e : Term) (d : ℕ) (t : Term) → copies e d t ≤ size t
+copies-size e =
+    body-induction e (λ d t n x. n ≤ size t) (λ d t p. size-pos t) (λ d f a m n x y q hf ha. omega arith) (λ d b n x q h. omega arith) (λ d t _ q. omega arith)
 
 -- its length, its locals and its constants
 pub body-size : (e : Term) (d : ℕ) (t : Term) (c : ℕ → Bool) (k : ℕ) → size (body e d t c k) ≤ size t

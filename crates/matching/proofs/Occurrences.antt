@@ -64,18 +64,18 @@ partAt-first d (var n) = refl
 
 -- a part of a term is the term itself or a part of its own parts
 module _ (Q : ℕ × Term → Type 0) (d : ℕ) where
-  by-app : (f a : Term) (j : ℕ) → j < size (app f a) → Q (d, app f a) → ((i : ℕ) → i < size f → Q (partAt d f i)) → ((i : ℕ) → i < size a → Q (partAt d a i)) → Q (partAt d (app f a) j)
+  pub by-app : (f a : Term) (j : ℕ) → j < size (app f a) → Q (d, app f a) → ((i : ℕ) → i < size f → Q (partAt d f i)) → ((i : ℕ) → i < size a → Q (partAt d a i)) → Q (partAt d (app f a) j)
   by-app f a zero h q x y = q
   by-app f a (suc j) h q x y = by-dec (λ _. Q (partAt d (app f a) (suc j))) (decLt j (size f)) (λ l. subst Q (sym (partAt-head d f a j l)) (x j l))
       (λ l.
       let m : suc j ≡ suc (size f + (j - size f)) = omega arith in
       subst Q (sym (ap (partAt d (app f a)) m ∙ partAt-argument d f a (j - size f))) (y (j - size f) (omega arith)))
 
-  by-lam : (b : Term) (j : ℕ) → j < size (lam b) → Q (d, lam b) → ((i : ℕ) → i < size b → Q (partAt (suc d) b i)) → Q (partAt d (lam b) j)
+  pub by-lam : (b : Term) (j : ℕ) → j < size (lam b) → Q (d, lam b) → ((i : ℕ) → i < size b → Q (partAt (suc d) b i)) → Q (partAt d (lam b) j)
   by-lam b zero h q x = q
   by-lam b (suc j) h q x = x j (omega arith)
 
-  by-leaf : (t : Term) (j : ℕ) → j < 1 → Q (d, t) → Q (partAt d t j)
+  pub by-leaf : (t : Term) (j : ℕ) → j < 1 → Q (d, t) → Q (partAt d t j)
   by-leaf t zero h q = subst Q (sym (partAt-first d t)) q
   by-leaf t (suc j) h q = absurd (omega arith)
 
