@@ -3,13 +3,13 @@
 -- other because the target is normal. Assumes nothing.
 --   Alternative f a t i φ    the filled application of f and a comes to t in way i
 use mathlib.Core.Path.{_≡_, refl, sym, ap, _∙_, subst}
-use mathlib.Core.Bool.{true, false, not}
+use mathlib.Core.Bool.{not}
 use mathlib.Core.List.{List, _∷_, _++_}
-use mathlib.Core.Logic.{_⊎_, inl, inr, _↔_}
-use Prim.Native.Nat.{ℕ, zero, suc, _+_, _<_}
+use mathlib.Core.Logic.{inl, inr, _↔_}
+use Prim.Native.Nat.{ℕ, zero, suc, _+_}
 use native.Mathlib.Omega.{arith}
 use lib.Dec.{T}
-use Rattle.terms.specs.Term.{Term, app, lam, loc, con, var, Normal, size, shift, uses, isAbstraction}
+use Rattle.terms.specs.Term.{Term, app, lam, Normal, size, shift, uses, isAbstraction}
 use Rattle.terms.specs.Sweep.{sweep, fill}
 use Rattle.terms.specs.Listing.{Line}
 use Rattle.terms.proofs.Shift.{unused-shift}

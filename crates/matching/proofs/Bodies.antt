@@ -184,8 +184,8 @@ given-app : (e : Term) (d : ℕ) (f a : Term) (k : ℕ) (g b : Term) → ¬ (app
 given-app e d f a k g b n x y = (
   both (k + copies e d f) (x .0) (y .0),
   ap₂ app (x .1 ∙ body-same e d f (x .0) (both (k + copies e d f) (x .0) (y .0)) k (λ i l u. rw (lt-ltb i (k + copies e d f) u)))
-  (y .1 ∙ body-same e d a (y .0) (both (k + copies e d f) (x .0) (y .0)) (k + copies e d f) (λ i l u. rw (le-ltb i (k + copies e d f) l)))
-  ∙ sym (either-no (same (app f a) (shift d 0 e)) _ _ n),
+      (y .1 ∙ body-same e d a (y .0) (both (k + copies e d f) (x .0) (y .0)) (k + copies e d f) (λ i l u. rw (le-ltb i (k + copies e d f) l)))
+      ∙ sym (either-no (same (app f a) (shift d 0 e)) _ _ n),
 )
 
 body-here : (e : Term) (d : ℕ) (t : Term) (c : ℕ → Bool) (k : ℕ) → t ≡ shift d 0 e → body e d t c k ≡ choose (c k) d t
@@ -341,8 +341,8 @@ pub chosen-all :
     → Chosen f t e c k φ ↔ (Sweeps f (lam (body e 0 t c 0)) φ × (uses 0 (body e 0 t c 0) ≡ true))
 chosen-all φ f t e c k l = (
   λ s.
-  let q : s .0 ≡ body e 0 t c 0 = s .5 ∙ body-same e 0 t (s .3) c 0 (λ i _ u. s .4 i (omega arith)) in
-  (s .1 ∙ ap lam q, ap (uses 0) (sym q) ∙ s .2),
+      let q : s .0 ≡ body e 0 t c 0 = s .5 ∙ body-same e 0 t (s .3) c 0 (λ i _ u. s .4 i (omega arith)) in
+      (s .1 ∙ ap lam q, ap (uses 0) (sym q) ∙ s .2),
   λ s. (body e 0 t c 0, s .0, s .1, c, λ i _. refl, refl),
 )
 

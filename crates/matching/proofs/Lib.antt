@@ -15,6 +15,7 @@ pub mod Goals
 pub mod Targets
 pub mod Occurrences
 pub mod Bodies
+pub mod Choices
 pub mod Alternatives
 pub mod Tables
 pub mod Cases

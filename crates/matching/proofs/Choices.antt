@@ -1,0 +1,114 @@
+-- A search makes the choices at the copies one after the other, and the lines that it finds either way list the bodies still left. By the
+-- laws of lines that list a predicate, each choice being seen in the body. Assumes nothing.
+--   chooseAt c k b    the choices c, but b at the copy k
+use mathlib.Core.Path.{_≡_, refl, sym, _∙_, subst}
+use mathlib.Core.Bool.{Bool, true, false, cond}
+use mathlib.Core.List.{List, [], _++_}
+use mathlib.Core.Logic.{_⊎_, inl, inr, ⊎-elim}
+use Prim.Native.Nat.{ℕ, zero, suc, _+_, _≤_, _<_}
+use native.Mathlib.Omega.{arith}
+use native.Mathlib.Decide.{decLt}
+use lib.Dec.{T, eqb}
+use borrow.Author.Tests.{eq-eqb, ne-eqb}
+use Rattle.terms.specs.Term.{Term, lam, Normal, uses, isEta}
+use Rattle.terms.specs.Listing.{Line}
+use Rattle.matching.proofs.Decide.{by-dec}
+use Rattle.matching.proofs.Lists.{Predicate, Lists, lists-same, lists-none, lists-or}
+use Rattle.matching.proofs.Lister.{Sweeps}
+use Rattle.matching.proofs.Prune.{Build}
+use Rattle.matching.proofs.Goals.{Goal.match, Goal.build, Listable, Listing, listing-goal}
+use Rattle.matching.proofs.Bodies.{copies, body, body-normal, body-eta, Chosen, chosen-none, chosen-next, chosen-apart, chosen-all}
+
+abbrev pub chooseAt : (ℕ → Bool) → ℕ → Bool → ℕ → Bool
+chooseAt c k b i = cond (eqb i k) b (c i)
+
+pub chooseAt-here : (c : ℕ → Bool) (k : ℕ) (b : Bool) → chooseAt c k b k ≡ b
+chooseAt-here c k b = rw (eq-eqb k k refl)
+
+pub chooseAt-below : (c : ℕ → Bool) (k : ℕ) (b : Bool) (i : ℕ) → i < k → chooseAt c k b i ≡ c i
+chooseAt-below c k b i l = rw (ne-eqb i k (omega arith))
+
+-- together with whatever else is to be satisfied
+module _ (n : ℕ) (S : ℕ → Type 0) (f t e : Term) (R : Predicate) where
+  abbrev pub Left : (ℕ → Bool) → ℕ → Predicate
+  Left c k φ = Chosen f t e c k φ × R φ
+
+  -- before the first choice
+  pub lists-chosen-none : (c : ℕ → Bool) (ls : List Line) → Lists n S (Left c 0) ls → Lists n S (λ φ. Build f t e φ × R φ) ls
+  lists-chosen-none c ls x =
+      lists-same n S (λ φ. Build f t e φ × R φ) (Left c 0) ls
+      (λ φ v. (λ (s, r). (chosen-none φ f t e c .0 s, r), λ (s, r). (chosen-none φ f t e c .1 s, r))) x
+
+  -- at a copy
+  pub lists-chosen-next :
+      (c c₀ c₁ : ℕ → Bool) (k : ℕ) (ls ms : List Line) → ((i : ℕ) → i < k → c₀ i ≡ c i) → ((i : ℕ) → i < k → c₁ i ≡ c i) → c₀ k ≡ false → c₁ k ≡ true
+      → k < copies e 0 t → Lists n S (Left c₀ (suc k)) ls → Lists n S (Left c₁ (suc k)) ms → Lists n S (Left c k) (ls ++ ms)
+  lists-chosen-next c c₀ c₁ k ls ms a₀ a₁ h₀ h₁ l x y =
+      lists-same n S (Left c k) (λ φ. Left c₀ (suc k) φ ⊎ Left c₁ (suc k) φ) (ls ++ ms) (λ φ v. (to φ, from φ))
+      (lists-or n S (Left c₀ (suc k)) (Left c₁ (suc k)) ls ms (λ φ v s r. chosen-apart φ f t e c c₀ c₁ k a₀ a₁ h₀ h₁ l (s .0) (r .0)) x y)
+    where
+      to : (φ : ℕ → Term) → Left c k φ → Left c₀ (suc k) φ ⊎ Left c₁ (suc k) φ
+      to φ (s, r) = ⊎-elim (λ q. inl (q, r)) (λ q. inr (q, r)) (chosen-next φ f t e c c₀ c₁ k a₀ a₁ h₀ h₁ .0 s)
+
+      from : (φ : ℕ → Term) → Left c₀ (suc k) φ ⊎ Left c₁ (suc k) φ → Left c k φ
+      from φ (inl (s, r)) = (chosen-next φ f t e c c₀ c₁ k a₀ a₁ h₀ h₁ .1 (inl s), r)
+      from φ (inr (s, r)) = (chosen-next φ f t e c c₀ c₁ k a₀ a₁ h₀ h₁ .1 (inr s), r)
+
+  -- after the last one
+  module _ (c : ℕ → Bool) (k : ℕ) (l : copies e 0 t ≤ k) where
+    pub lists-chosen-all :
+        (ls : List Line) → uses 0 (body e 0 t c 0) ≡ true → Lists n S (λ φ. Sweeps f (lam (body e 0 t c 0)) φ × R φ) ls → Lists n S (Left c k) ls
+    lists-chosen-all ls u x =
+        lists-same n S (Left c k) (λ φ. Sweeps f (lam (body e 0 t c 0)) φ × R φ) ls
+        (λ φ v. (λ (s, r). (chosen-all φ f t e c k l .0 s .0, r), λ (s, r). (chosen-all φ f t e c k l .1 (s, u), r))) x
+
+    -- no copy was chosen, or the abstraction is an eta-redex
+    pub lists-chosen-unused : uses 0 (body e 0 t c 0) ≡ false → Lists n S (Left c k) []
+    lists-chosen-unused u = lists-none n S (Left c k) (λ φ v (s, r). subst T (sym (chosen-all φ f t e c k l .0 s .1) ∙ u) tt)
+
+    pub lists-chosen-eta : Normal t → isEta (body e 0 t c 0) ≡ true → Lists n S (Left c k) []
+    lists-chosen-eta h p = lists-none n S (Left c k) (λ φ v (s, r). body-eta φ f e t c h p (chosen-all φ f t e c k l .0 s .0))
+
+-- there are lines for any choices
+module _ (n : ℕ) (S : ℕ → Type 0) (f t e : Term) (x : Listable n S (build f t e)) where
+  listing-made : (c : ℕ → Bool) (k : ℕ) → copies e 0 t ≤ k → Listing n S (Chosen f t e c k)
+  listing-made c k l = go (uses 0 (body e 0 t c 0)) refl (isEta (body e 0 t c 0)) refl
+    where
+      none : ((φ : ℕ → Term) → ¬ Chosen f t e c k φ) → Listing n S (Chosen f t e c k)
+      none g = record { lines = []; lists = lists-none n S (Chosen f t e c k) (λ φ v. g φ) }
+
+      go : (u : Bool) → uses 0 (body e 0 t c 0) ≡ u → (p : Bool) → isEta (body e 0 t c 0) ≡ p → Listing n S (Chosen f t e c k)
+      go false u p q = none (λ φ s. subst T (sym (chosen-all φ f t e c k l .0 s .1) ∙ u) tt)
+      go true u true q = none (λ φ s. body-eta φ f e t c (x .1) q (chosen-all φ f t e c k l .0 s .0))
+      go true u false q =
+          let y = listing-goal n S (match f (lam (body e 0 t c 0))) (x .0, body-normal e t c (x .1) q) in
+          record {
+            lines = y .lines;
+            lists = lists-same n S (Chosen f t e c k) (Sweeps f (lam (body e 0 t c 0))) (y .lines)
+                (λ φ v. (λ s. chosen-all φ f t e c k l .0 s .0, λ s. chosen-all φ f t e c k l .1 (s, u))) (y .lists);
+          }
+
+  listing-next : (c : ℕ → Bool) (k : ℕ) → k < copies e 0 t → ((d : ℕ → Bool) → Listing n S (Chosen f t e d (suc k))) → Listing n S (Chosen f t e c k)
+  listing-next c k l g = record {
+    lines = g c₀ .lines ++ g c₁ .lines;
+    lists = lists-same n S (Chosen f t e c k) (λ φ. Chosen f t e c₀ (suc k) φ ⊎ Chosen f t e c₁ (suc k) φ) (g c₀ .lines ++ g c₁ .lines)
+        (λ φ v. chosen-next φ f t e c c₀ c₁ k (chooseAt-below c k false) (chooseAt-below c k true) (chooseAt-here c k false) (chooseAt-here c k true))
+        (lists-or n S (Chosen f t e c₀ (suc k)) (Chosen f t e c₁ (suc k)) (g c₀ .lines) (g c₁ .lines)
+        (λ φ v. chosen-apart φ f t e c c₀ c₁ k (chooseAt-below c k false) (chooseAt-below c k true) (chooseAt-here c k false) (chooseAt-here c k true) l)
+        (g c₀ .lists) (g c₁ .lists));
+  }
+    where
+      c₀ : ℕ → Bool
+      c₀ = chooseAt c k false
+
+      c₁ : ℕ → Bool
+      c₁ = chooseAt c k true
+
+  listing-left : (m k : ℕ) → copies e 0 t ≤ k + m → (c : ℕ → Bool) → Listing n S (Chosen f t e c k)
+  listing-left zero k h c = listing-made c k (omega arith)
+  listing-left (suc m) k h c =
+      by-dec (λ _. Listing n S (Chosen f t e c k)) (decLt k (copies e 0 t)) (λ l. listing-next c k l (listing-left m (suc k) (omega arith)))
+      (λ l. listing-made c k (omega arith))
+
+  pub listing-chosen : (c : ℕ → Bool) (k : ℕ) → Listing n S (Chosen f t e c k)
+  listing-chosen c k = listing-left (copies e 0 t) k (omega arith) c
