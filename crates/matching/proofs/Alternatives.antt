@@ -2,6 +2,7 @@
 -- argument thrown away, or the argument found first at one of the target's parts. By the rows of one step of matching, which exclude each
 -- other because the target is normal. Assumes nothing.
 --   Alternative f a t i φ    the filled application of f and a comes to t in way i
+--   Way f a t R i φ          and φ satisfies R
 use mathlib.Core.Path.{_≡_, refl, sym, ap, _∙_, subst}
 use mathlib.Core.Bool.{not}
 use mathlib.Core.List.{List, _∷_, _++_}
@@ -84,15 +85,15 @@ module _ (φ : ℕ → Term) (f a t : Term) where
   alternative-no-argument j n s = n (s .0) (s .1)
 
 -- so a search takes the ways in turn, together with whatever else is to be satisfied
-module _ (n : ℕ) (S : ℕ → Type 0) (f a t : Term) (R : Predicate) (h : Normal t) where
-  abbrev Way : ℕ → Predicate
-  Way i φ = Alternative f a t i φ × R φ
+abbrev pub Way : Term → Term → Term → Predicate → ℕ → Predicate
+Way f a t R i φ = Alternative f a t i φ × R φ
 
-  pub lists-alternatives : (ls : List Line) → Lists n S (Under Way (size t + 2)) ls → Lists n S (λ φ. Sweeps (app f a) t φ × R φ) ls
+module _ (n : ℕ) (S : ℕ → Type 0) (f a t : Term) (R : Predicate) (h : Normal t) where
+  pub lists-alternatives : (ls : List Line) → Lists n S (Under (Way f a t R) (size t + 2)) ls → Lists n S (λ φ. Sweeps (app f a) t φ × R φ) ls
   lists-alternatives ls x =
-      lists-same n S (λ φ. Sweeps (app f a) t φ × R φ) (Under Way (size t + 2)) ls
+      lists-same n S (λ φ. Sweeps (app f a) t φ × R φ) (Under (Way f a t R) (size t + 2)) ls
       (λ φ v. (λ (s, r). let (i, l, w) = alternatives φ f a t h .0 s in (i, l, (w, r)), λ (i, l, (w, r)). (alternatives φ f a t h .1 (i, l, w), r))) x
 
-  pub lists-alternative-next : (i : ℕ) (ls ms : List Line) → Lists n S (Under Way i) ls → Lists n S (Way i) ms → Lists n S (Under Way (suc i)) (ls ++ ms)
+  pub lists-alternative-next : (i : ℕ) (ls ms : List Line) → Lists n S (Under (Way f a t R) i) ls → Lists n S (Way f a t R i) ms → Lists n S (Under (Way f a t R) (suc i)) (ls ++ ms)
   lists-alternative-next i ls ms x y =
-      lists-under-next n S Way i ls ms (λ φ v j l s r. omega (arith, alternatives-apart φ f a t j i h (s .0) (r .0))) x y
+      lists-under-next n S (Way f a t R) i ls ms (λ φ v j l s r. omega (arith, alternatives-apart φ f a t j i h (s .0) (r .0))) x y

@@ -2,6 +2,8 @@
 -- at a copy the local stands or the copy stays, and elsewhere the body has the target's form. Assumes nothing.
 --   copies e d t         the outermost copies of e in t, where d binders stand above t
 --   body e d t c k       t with a copy replaced by local d where c says so, the copies numbered from k in table order
+--   Leaf t               t has no part but itself
+--   Some c k n           one of the n choices from k on is to replace
 --   Chosen f t e c k φ   the head f sweeps to an abstraction over such a body that uses its local, the first k choices being those of c
 use mathlib.Core.Path.{_≡_, refl, sym, ap, ap₂, _∙_, subst}
 use mathlib.Core.Bool.{Bool, true, false, cond, _||_}
@@ -39,7 +41,11 @@ copies e d (var n) = either (same (var n) (shift d 0 e)) 1 0
 abbrev pub choose : Bool → ℕ → Term → Term
 choose b d t = cond b (loc d) (shift 1 d t)
 
-abbrev pub body : Term → ℕ → Term → (ℕ → Bool) → ℕ → Term
+-- a body for each choice, and each number of the first copy
+abbrev pub Family : Type 0
+Family = (ℕ → Bool) → ℕ → Term
+
+abbrev pub body : Term → ℕ → Term → Family
 body e d (app f a) c k = either (same (app f a) (shift d 0 e)) (choose (c k) d (app f a)) (app (body e d f c k) (body e d a c (k + copies e d f)))
 body e d (lam b) c k = either (same (lam b) (shift d 0 e)) (choose (c k) d (lam b)) (lam (body e (suc d) b c k))
 body e d (loc n) c k = either (same (loc n) (shift d 0 e)) (choose (c k) d (loc n)) (shift 1 d (loc n))
@@ -55,11 +61,8 @@ Leaf (con n) = Unit {0}
 Leaf (var n) = Unit {0}
 
 -- what holds at a copy, and at any other term if it holds of the parts, holds of the copies and the bodies
-abbrev Family : Type 0
-Family = (ℕ → Bool) → ℕ → Term
-
 pub body-induction :
-    (e : Term) (P : ℕ → Term → ℕ → ((ℕ → Bool) → ℕ → Term) → Type 0)
+    (e : Term) (P : ℕ → Term → ℕ → Family → Type 0)
     → ((d : ℕ) (t : Term) → t ≡ shift d 0 e → P d t 1 (λ c k. choose (c k) d t))
     → ((d : ℕ) (f a : Term) (m n : ℕ) (x y : Family) → ¬ (app f a ≡ shift d 0 e) → P d f m x → P d a n y → P d (app f a) (m + n) (λ c k. app (x c k) (y c (k + m))))
     → ((d : ℕ) (b : Term) (n : ℕ) (x : Family) → ¬ (lam b ≡ shift d 0 e) → P (suc d) b n x → P d (lam b) n (λ c k. lam (x c k)))
@@ -80,6 +83,45 @@ body-induction e P here at-app at-lam at-leaf = go
         by-dec (λ o. P d (con n) (either o 1 0) (λ c k. either o (choose (c k) d (con n)) (con n))) (same (con n) (shift d 0 e)) (here d (con n)) (at-leaf d (con n) tt)
     go d (var n) =
         by-dec (λ o. P d (var n) (either o 1 0) (λ c k. either o (choose (c k) d (var n)) (var n))) (same (var n) (shift d 0 e)) (here d (var n)) (at-leaf d (var n) tt)
+
+-- at a copy, and at each kind of term that is none
+pub body-here : (e : Term) (d : ℕ) (t : Term) (c : ℕ → Bool) (k : ℕ) → t ≡ shift d 0 e → body e d t c k ≡ choose (c k) d t
+body-here e =
+    body-induction e (λ d t n x. (c : ℕ → Bool) (k : ℕ) → t ≡ shift d 0 e → x c k ≡ choose (c k) d t) (λ d t p c k q. refl)
+    (λ d f a m n x y q hf ha c k p. absurd (q p)) (λ d b n x q h c k p. absurd (q p)) (λ d t _ q c k p. absurd (q p))
+
+pub copies-here : (e : Term) (d : ℕ) (t : Term) → t ≡ shift d 0 e → copies e d t ≡ 1
+copies-here e =
+    body-induction e (λ d t n x. t ≡ shift d 0 e → n ≡ 1) (λ d t p q. refl) (λ d f a m n x y q hf ha p. absurd (q p)) (λ d b n x q h p. absurd (q p))
+    (λ d t _ q p. absurd (q p))
+
+module _ (e : Term) (d : ℕ) where
+  pub copies-app : (f a : Term) → ¬ (app f a ≡ shift d 0 e) → copies e d (app f a) ≡ copies e d f + copies e d a
+  copies-app f a n = either-no (same (app f a) (shift d 0 e)) _ _ n
+
+  pub body-app : (f a : Term) (c : ℕ → Bool) (k : ℕ) → ¬ (app f a ≡ shift d 0 e) → body e d (app f a) c k ≡ app (body e d f c k) (body e d a c (k + copies e d f))
+  body-app f a c k n = either-no (same (app f a) (shift d 0 e)) _ _ n
+
+  pub copies-lam : (b : Term) → ¬ (lam b ≡ shift d 0 e) → copies e d (lam b) ≡ copies e (suc d) b
+  copies-lam b n = either-no (same (lam b) (shift d 0 e)) _ _ n
+
+  pub body-lam : (b : Term) (c : ℕ → Bool) (k : ℕ) → ¬ (lam b ≡ shift d 0 e) → body e d (lam b) c k ≡ lam (body e (suc d) b c k)
+  body-lam b c k n = either-no (same (lam b) (shift d 0 e)) _ _ n
+
+pub body-leaf : (e : Term) (d : ℕ) (t : Term) (c : ℕ → Bool) (k : ℕ) → Leaf t → ¬ (t ≡ shift d 0 e) → body e d t c k ≡ shift 1 d t
+body-leaf e =
+    body-induction e (λ d t n x. (c : ℕ → Bool) (k : ℕ) → Leaf t → ¬ (t ≡ shift d 0 e) → x c k ≡ shift 1 d t) (λ d t p c k l q. absurd (q p))
+    (λ d f a m n x y q hf ha c k l p. absurd l) (λ d b n x q h c k l p. absurd l) (λ d t _ q c k l p. refl)
+
+pub copies-leaf : (e : Term) (d : ℕ) (t : Term) → Leaf t → ¬ (t ≡ shift d 0 e) → copies e d t ≡ 0
+copies-leaf e =
+    body-induction e (λ d t n x. Leaf t → ¬ (t ≡ shift d 0 e) → n ≡ 0) (λ d t p l q. absurd (q p)) (λ d f a m n x y q hf ha l p. absurd l)
+    (λ d b n x q h l p. absurd l) (λ d t _ q l p. refl)
+
+size-leaf : (t : Term) → Leaf t → size t ≡ 1
+size-leaf (loc n) l = refl
+size-leaf (con n) l = refl
+size-leaf (var n) l = refl
 
 -- the choice decides, and nothing else does
 uses-choose : (b : Bool) (d : ℕ) (t : Term) → uses d (choose b d t) ≡ b
@@ -185,26 +227,11 @@ given-app e d f a k g b n x y = (
   both (k + copies e d f) (x .0) (y .0),
   ap₂ app (x .1 ∙ body-same e d f (x .0) (both (k + copies e d f) (x .0) (y .0)) k (λ i l u. rw (lt-ltb i (k + copies e d f) u)))
       (y .1 ∙ body-same e d a (y .0) (both (k + copies e d f) (x .0) (y .0)) (k + copies e d f) (λ i l u. rw (le-ltb i (k + copies e d f) l)))
-      ∙ sym (either-no (same (app f a) (shift d 0 e)) _ _ n),
+      ∙ sym (body-app e d f a (both (k + copies e d f) (x .0) (y .0)) k n),
 )
-
-body-here : (e : Term) (d : ℕ) (t : Term) (c : ℕ → Bool) (k : ℕ) → t ≡ shift d 0 e → body e d t c k ≡ choose (c k) d t
-body-here e =
-    body-induction e (λ d t n x. (c : ℕ → Bool) (k : ℕ) → t ≡ shift d 0 e → x c k ≡ choose (c k) d t) (λ d t p c k q. refl)
-    (λ d f a m n x y q hf ha c k p. absurd (q p)) (λ d b n x q h c k p. absurd (q p)) (λ d t _ q c k p. absurd (q p))
 
 given-here : (e : Term) (d : ℕ) (b t : Term) (k : ℕ) → substitute d e b ≡ t → t ≡ shift d 0 e → Given e d t k b
 given-here e d b t k p q = let r = at-copy e d b t p q in (λ _. r .0, r .1 ∙ sym (body-here e d t (λ _. r .0) k q))
-
-size-leaf : (t : Term) → Leaf t → size t ≡ 1
-size-leaf (loc n) l = refl
-size-leaf (con n) l = refl
-size-leaf (var n) l = refl
-
-body-leaf : (e : Term) (d : ℕ) (t : Term) (c : ℕ → Bool) (k : ℕ) → Leaf t → ¬ (t ≡ shift d 0 e) → body e d t c k ≡ shift 1 d t
-body-leaf e =
-    body-induction e (λ d t n x. (c : ℕ → Bool) (k : ℕ) → Leaf t → ¬ (t ≡ shift d 0 e) → x c k ≡ shift 1 d t) (λ d t p c k l q. absurd (q p))
-    (λ d f a m n x y q hf ha c k l p. absurd l) (λ d b n x q h c k l p. absurd l) (λ d t _ q c k l p. refl)
 
 given-leaf : (e : Term) (d : ℕ) (b t : Term) (k : ℕ) → Leaf t → substitute d e b ≡ t → ¬ (t ≡ shift d 0 e) → Given e d t k b
 given-leaf e d b t k l p n =
@@ -221,7 +248,7 @@ given e d (app f a) k =
     (λ n. given-app e d (substitute d e f) (substitute d e a) k f a n (given e d f k) (given e d a (k + copies e d (substitute d e f))))
 given e d (lam b) k =
     by-dec (λ _. Given e d (substitute d e (lam b)) k (lam b)) (same (substitute d e (lam b)) (shift d 0 e)) (given-here e d (lam b) (substitute d e (lam b)) k refl)
-    (λ n. let r = given e (suc d) b k in (r .0, ap lam (r .1) ∙ sym (either-no (same (lam (substitute (suc d) e b)) (shift d 0 e)) _ _ n)))
+    (λ n. let r = given e (suc d) b k in (r .0, ap lam (r .1) ∙ sym (body-lam e d (substitute (suc d) e b) (r .0) k n)))
 given e d (loc n) k =
     by-dec (λ _. Given e d (substitute d e (loc n)) k (loc n)) (same (substitute d e (loc n)) (shift d 0 e)) (given-here e d (loc n) (substitute d e (loc n)) k refl)
     (λ q. given-leaf e d (loc n) (substitute d e (loc n)) k (leaf-of e d n q) refl q)

@@ -2,6 +2,7 @@
 -- induction on the target, whose parts stand in the order of its records. Assumes nothing.
 --   parts d t    the parts of t in table order, each with the number of binders above it, counted from d
 --   partAt d t j the j-th of them
+--   Copy q e     the part q, with its depth, is e moved in below that many binders
 --   First t j e  the j-th part of t is the first that is e, moved in below the binders above that part
 use mathlib.Core.Path.{_≡_, refl, sym, ap, _∙_, subst}
 use mathlib.Core.Bool.{true}
@@ -31,7 +32,6 @@ parts d (var n) = (d, var n) ∷ []
 abbrev pub partAt : ℕ → Term → ℕ → ℕ × Term
 partAt d t j = getD (parts d t) j (0, con 0)
 
--- the part with its depth is e, moved in below that many binders
 abbrev pub Copy : ℕ × Term → Term → Type 0
 Copy q e = q .1 ≡ shift (q .0) 0 e
 
