@@ -15,11 +15,12 @@ use Rattle.terms.specs.Sweep.{sweep, fill}
 use Rattle.terms.specs.Listing.{Line}
 use Rattle.terms.proofs.Shift.{unused-shift}
 use Rattle.terms.proofs.Table.{kind}
-use Rattle.matching.proofs.Step.{lam-inj, constant}
+use Rattle.matching.proofs.Step.{lam-inj, bodyTarget, constant, bodyTarget-normal, constant-normal}
 use Rattle.matching.proofs.Lists.{Predicate, Lists, Under, lists-same, lists-under-next}
 use Rattle.matching.proofs.Lister.{Sweeps}
 use Rattle.matching.proofs.Prune.{Build, Choice, argument-first}
-use Rattle.matching.proofs.Goals.{Goal, Goal.match, Goal.build, All}
+use Rattle.matching.proofs.Goals.{Goal, Goal.match, Goal.build, All, Suits, Listable}
+use Rattle.matching.proofs.Targets.{part-normal}
 use Rattle.matching.proofs.Occurrences.{First, first-of, first-one, first-same}
 
 abbrev pub Alternative : Term → Term → Term → ℕ → Predicate
@@ -75,6 +76,24 @@ module _ (φ : ℕ → Term) (f a : Term) (gs : List Goal) where
     λ ((e′, y, s, b), r). let q = first-same t j e′ e y x in (s ∙ q, (subst (λ z. Build f t z φ) q b, r)),
     λ (s, (b, r)). ((e, x, s, b), r),
   )
+
+-- which can be listed, as the goal before them
+module _ (n : ℕ) (S : ℕ → Type 0) where
+  suits-app : (f a : Term) → Suits n S (app f a) → Suits n S f × Suits n S a
+  suits-app f a (b, o) = ((b .0, λ i p. o i (inl p)), (b .1, λ i p. o i (inr p)))
+
+  pub listable-parts : (f a t u : Term) → Listable n S (match (app f a) (app t u)) → Listable n S (match f t) × Listable n S (match a u)
+  listable-parts f a t u (s, h) = let (sf, sa) = suits-app f a s in ((sf, h .1), (sa, h .2))
+
+  pub listable-constant : (f a t : Term) → Listable n S (match (app f a) t) → Listable n S (match f (constant t))
+  listable-constant f a t (s, h) = (suits-app f a s .0, constant-normal t h)
+
+  pub listable-argument :
+      (f a t : Term) (j : ℕ) (e : Term) → First t j e → Listable n S (match (app f a) t) → Listable n S (match a e) × Listable n S (build f t e)
+  listable-argument f a t j e x (s, h) = let (sf, sa) = suits-app f a s in ((sa, part-normal t j e (x .within) (x .copy) h), (sf, h))
+
+  pub listable-abstraction : (p t : Term) → Listable n S (match (lam p) t) → Listable n S (match p (bodyTarget t))
+  listable-abstraction p t (s, h) = (s, bodyTarget-normal t h)
 
 -- and where a way is none: a target that is no application, and a part that is no argument's first occurrence
 module _ (φ : ℕ → Term) (f a t : Term) where

@@ -70,6 +70,12 @@ module _ (n : ℕ) (S : ℕ → Type 0) (f t e : Term) (R : Predicate) where
     pub lists-chosen-eta : Normal t → isEta (body e 0 t c 0) ≡ true → Lists n S (Left f t e R c k) []
     lists-chosen-eta h p = lists-none n S (Left f t e R c k) (λ φ v (s, r). body-eta φ f e t c h p (chosen-all φ f t e c k l .0 s .0))
 
+-- the goal that is left can be listed, as the goal before it
+pub listable-chosen :
+    (n : ℕ) (S : ℕ → Type 0) (f t e : Term) (c : ℕ → Bool) → Listable n S (build f t e) → isEta (body e 0 t c 0) ≡ false
+    → Listable n S (match f (lam (body e 0 t c 0)))
+listable-chosen n S f t e c (s, h) p = (s, body-normal e t c h p)
+
 -- there are lines for any choices
 module _ (n : ℕ) (S : ℕ → Type 0) (f t e : Term) (x : Listable n S (build f t e)) where
   listing-made : (c : ℕ → Bool) (k : ℕ) → copies e 0 t ≤ k → Listing n S (Chosen f t e c k)
@@ -82,7 +88,7 @@ module _ (n : ℕ) (S : ℕ → Type 0) (f t e : Term) (x : Listable n S (build 
       go false u p q = none (λ φ s. subst T (sym (chosen-all φ f t e c k l .0 s .1) ∙ u) tt)
       go true u true q = none (λ φ s. body-eta φ f e t c (x .1) q (chosen-all φ f t e c k l .0 s .0))
       go true u false q =
-          let y = listing-goal n S (match f (lam (body e 0 t c 0))) (x .0, body-normal e t c (x .1) q) in
+          let y = listing-goal n S (match f (lam (body e 0 t c 0))) (listable-chosen n S f t e c x q) in
           record {
             lines = y .lines;
             lists = lists-same n S (Chosen f t e c k) (Sweeps f (lam (body e 0 t c 0))) (y .lines)

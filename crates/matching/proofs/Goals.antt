@@ -4,6 +4,7 @@
 --   Meets g φ         φ satisfies the goal g
 --   All gs φ          φ satisfies each goal of gs
 --   Searches gs l φ   φ satisfies the goals gs and extends the line l
+--   Suits n S p       the variables of p are below n and in S
 --   Listable n S g    the goal's variables are below n and in S, and its target is normal
 use mathlib.Core.Path.{_≡_, refl, sym, _∙_}
 use mathlib.Core.List.{List, [], _∷_}
@@ -38,7 +39,7 @@ All (g ∷ gs) φ = Meets g φ × All gs φ
 abbrev pub Searches : List Goal → Line → Predicate
 Searches gs l φ = All gs φ × Extends φ l
 
-abbrev Suits : ℕ → (ℕ → Type 0) → Term → Type 0
+abbrev pub Suits : ℕ → (ℕ → Type 0) → Term → Type 0
 Suits n S p = Below n p × ((i : ℕ) → Occurs i p → S i)
 
 abbrev pub Listable : ℕ → (ℕ → Type 0) → Goal → Type 0
