@@ -5,23 +5,24 @@
 --   Way f a t R i φ          and φ satisfies R
 use mathlib.Core.Path.{_≡_, refl, sym, ap, _∙_, subst}
 use mathlib.Core.Bool.{not}
-use mathlib.Core.List.{List, _∷_, _++_}
+use mathlib.Core.List.{List, [], _∷_, _++_}
 use mathlib.Core.Logic.{inl, inr, _↔_}
 use Prim.Native.Nat.{ℕ, zero, suc, _+_}
 use native.Mathlib.Omega.{arith}
 use lib.Dec.{T}
-use Rattle.terms.specs.Term.{Term, app, lam, Normal, size, shift, uses, isAbstraction}
+use Rattle.terms.specs.Term.{Term, app, lam, loc, con, var, Normal, size, shift, uses, isAbstraction}
 use Rattle.terms.specs.Sweep.{sweep, fill}
 use Rattle.terms.specs.Listing.{Line}
 use Rattle.terms.proofs.Shift.{unused-shift}
 use Rattle.terms.proofs.Table.{kind}
+use Rattle.matching.proofs.Decide.{by-dec}
 use Rattle.matching.proofs.Step.{lam-inj, bodyTarget, constant, bodyTarget-normal, constant-normal}
 use Rattle.matching.proofs.Lists.{Predicate, Lists, Under, lists-same, lists-under-next}
 use Rattle.matching.proofs.Lister.{Sweeps}
 use Rattle.matching.proofs.Prune.{Build, Choice, argument-first}
-use Rattle.matching.proofs.Goals.{Goal, Goal.match, Goal.build, All, Suits, Listable}
+use Rattle.matching.proofs.Goals.{Goal, Goal.match, Goal.build, Meets, All, Suits, Listable, Listing, listing-goal, listing-same, listing-none, listing-both}
 use Rattle.matching.proofs.Targets.{part-normal}
-use Rattle.matching.proofs.Occurrences.{First, first-of, first-one, first-same}
+use Rattle.matching.proofs.Occurrences.{First, first-of, first-one, first-same, dec-first}
 
 abbrev pub Alternative : Term → Term → Term → ℕ → Predicate
 Alternative f a t zero φ = t ≡ app (sweep (fill φ f)) (sweep (fill φ a))
@@ -116,3 +117,27 @@ module _ (n : ℕ) (S : ℕ → Type 0) (f a t : Term) (R : Predicate) (h : Norm
   pub lists-alternative-next : (i : ℕ) (ls ms : List Line) → Lists n S (Under (Way f a t R) i) ls → Lists n S (Way f a t R i) ms → Lists n S (Under (Way f a t R) (suc i)) (ls ++ ms)
   lists-alternative-next i ls ms x y =
       lists-under-next n S (Way f a t R) i ls ms (λ φ v j l s r. omega (arith, alternatives-apart φ f a t j i h (s .0) (r .0))) x y
+
+-- there are lines for each way
+module _ (n : ℕ) (S : ℕ → Type 0) (f a t : Term) (x : Listable n S (match (app f a) t)) where
+  listing-parts : (u : Term) → t ≡ u → Listing n S (Alternative f a u 0)
+  listing-parts (app g e) p =
+      let (y, z) = listable-parts n S f a g e (subst (λ u. Listable n S (match (app f a) u)) p x) in
+      listing-same n S (Alternative f a (app g e) 0) (λ φ. Meets (match f g) φ × Meets (match a e) φ)
+      (λ φ v. (λ q. (cc, cc), λ (q, r). cc)) (listing-both n S (Meets (match f g)) (Meets (match a e)) (listing-goal n S (match f g) y) (listing-goal n S (match a e) z))
+  listing-parts (lam b) p = listing-none n S (Alternative f a (lam b) 0) (λ φ v. alternative-no-parts φ f a (lam b) (λ q. omega (arith, q)))
+  listing-parts (loc k) p = listing-none n S (Alternative f a (loc k) 0) (λ φ v. alternative-no-parts φ f a (loc k) (λ q. omega (arith, q)))
+  listing-parts (con k) p = listing-none n S (Alternative f a (con k) 0) (λ φ v. alternative-no-parts φ f a (con k) (λ q. omega (arith, q)))
+  listing-parts (var k) p = listing-none n S (Alternative f a (var k) 0) (λ φ v. alternative-no-parts φ f a (var k) (λ q. omega (arith, q)))
+
+  pub listing-alternative : (i : ℕ) → Listing n S (Alternative f a t i)
+  listing-alternative zero = listing-parts t refl
+  listing-alternative (suc zero) = listing-goal n S (match f (constant t)) (listable-constant n S f a t x)
+  listing-alternative (suc (suc j)) =
+      by-dec (λ _. Listing n S (Alternative f a t (suc (suc j)))) (dec-first t j)
+      (λ (e, y).
+      let (z, w) = listable-argument n S f a t j e y x in
+      listing-same n S (Alternative f a t (suc (suc j))) (λ φ. Meets (match a e) φ × Meets (build f t e) φ)
+      (λ φ v. (λ q. let r = alternative-argument φ f a [] t j e y .0 (q, tt) in (r .0, r .1 .0), λ (q, r). alternative-argument φ f a [] t j e y .1 (q, (r, tt)) .0))
+      (listing-both n S (Meets (match a e)) (Meets (build f t e)) (listing-goal n S (match a e) z) (listing-goal n S (build f t e) w)))
+      (λ m. listing-none n S (Alternative f a t (suc (suc j))) (λ φ v. alternative-no-argument φ f a t j (λ e y. m (e, y))))

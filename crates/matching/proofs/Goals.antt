@@ -7,8 +7,8 @@
 --   Suits n S p       the variables of p are below n and in S
 --   Listable n S g    the goal's variables are below n and in S, and its target is normal
 use mathlib.Core.Path.{_≡_, refl, sym, _∙_}
-use mathlib.Core.List.{List, [], _∷_}
-use mathlib.Core.Logic.{inl, inr}
+use mathlib.Core.List.{List, [], _∷_, _++_}
+use mathlib.Core.Logic.{_⊎_, inl, inr, _↔_}
 use Prim.Native.Nat.{ℕ}
 use lib.ListN.{length}
 use Rattle.terms.specs.Term.{Term, lam, Normal, Below, Occurs}
@@ -19,8 +19,8 @@ use Rattle.terms.proofs.Contracted.{contracted-sweep}
 use Rattle.matching.proofs.Members.{flatMap}
 use Rattle.matching.proofs.Step.{lam-inj, lam-normal-of}
 use Rattle.matching.proofs.Splits.{buildable, buildable-in, in-buildable, buildable-distinct}
-use Rattle.matching.proofs.Lines.{Extends, blank, length-blank, extends-blank, assigns-blank}
-use Rattle.matching.proofs.Lists.{Predicate, Lists, lists-same, lists-more, lists-one, lists-some, lists-and}
+use Rattle.matching.proofs.Lines.{Values, Extends, blank, length-blank, extends-blank, assigns-blank}
+use Rattle.matching.proofs.Lists.{Predicate, Lists, lists-same, lists-more, lists-none, lists-one, lists-or, lists-some, lists-and}
 use Rattle.matching.proofs.Lister.{Sweeps, solve, lists-solve}
 use Rattle.matching.proofs.Prune.{Build}
 
@@ -69,10 +69,19 @@ module _ (n : ℕ) (S : ℕ → Type 0) where
   listing-goal (match p t) x = record { lines = solve n p t; lists = lists-match p t (x .0) (x .1) }
   listing-goal (build f t e) x = record { lines = flatMap (λ b. solve n f (lam b)) (buildable t e); lists = lists-build f t e (x .0) (x .1) }
 
+  pub listing-same : (Q R : Predicate) → ((φ : ℕ → Term) → Values φ → Q φ ↔ R φ) → Listing R → Listing Q
+  listing-same Q R e x = record { lines = x .lines; lists = lists-same n S Q R (x .lines) e (x .lists) }
+
+  pub listing-none : (Q : Predicate) → ((φ : ℕ → Term) → Values φ → ¬ Q φ) → Listing Q
+  listing-none Q g = record { lines = []; lists = lists-none n S Q g }
+
+  pub listing-or : (Q R : Predicate) → ((φ : ℕ → Term) → Values φ → Q φ → R φ → ⊥) → Listing Q → Listing R → Listing (λ φ. Q φ ⊎ R φ)
+  listing-or Q R apart x y = record { lines = x .lines ++ y .lines; lists = lists-or n S Q R (x .lines) (y .lines) apart (x .lists) (y .lists) }
+
   pub listing-both : (Q R : Predicate) → Listing Q → Listing R → Listing (λ φ. Q φ × R φ)
   listing-both Q R x y = record { lines = _; lists = lists-and n S Q R (x .lines) (y .lines) (x .lists) (y .lists) }
 
-  listing-line : (l : Line) → length l ≡ n → Assigns S l → Listing (λ φ. Extends φ l)
+  pub listing-line : (l : Line) → length l ≡ n → Assigns S l → Listing (λ φ. Extends φ l)
   listing-line l e a = record { lines = l ∷ []; lists = lists-one n S (λ φ. Extends φ l) l e a (λ φ v. (λ x. x, λ x. x)) }
 
   pub listing-goals : (gs : List Goal) → ((g : Goal) → In g gs → Listable n S g) → Listing (All gs)

@@ -166,3 +166,24 @@ first-not-again t i j e h c x = x .none-before i h (subst (Copy (partAt 0 t i)) 
 -- what code finds by looking
 pub first-from : (t : Term) (j : ℕ) (e : Term) → j < size t → Copy (partAt 0 t j) e → ((i : ℕ) → i < j → ¬ Copy (partAt 0 t i) e) → First t j e
 first-from t j e h c f = record { within = h; copy = c; none-before = f }
+
+-- whether a part is the first occurrence of an argument
+none-below : (e t : Term) (j : ℕ) → Dec ((i : ℕ) → i < j → ¬ Copy (partAt 0 t i) e)
+none-below e t zero = yes (λ i h c. omega arith)
+none-below e t (suc j) = by-dec (λ _. Dec ((i : ℕ) → i < suc j → ¬ Copy (partAt 0 t i) e)) (same (partAt 0 t j .1) (shift (partAt 0 t j .0) 0 e))
+    (λ c. no (λ f. f j (omega arith) c)) (λ n. by-dec (λ _. Dec ((i : ℕ) → i < suc j → ¬ Copy (partAt 0 t i) e)) (none-below e t j) (λ f. yes (more n f)) (λ f. no (λ g. f (λ i h. g i (omega arith)))))
+  where
+    more : ¬ Copy (partAt 0 t j) e → ((i : ℕ) → i < j → ¬ Copy (partAt 0 t i) e) → (i : ℕ) → i < suc j → ¬ Copy (partAt 0 t i) e
+    more n f i h c = by-dec (λ _. ⊥) (decLt i j) (λ l. f i l c) (λ l. let q : i ≡ j = omega arith in n (subst (λ k. Copy (partAt 0 t k) e) q c))
+
+pub dec-first : (t : Term) (j : ℕ) → Dec ((e : Term) × First t j e)
+dec-first t j =
+    by-dec (λ _. Dec ((e : Term) × First t j e)) (decLt j (size t))
+    (λ h. by-dec (λ _. Dec ((e : Term) × First t j e)) (same (partAt 0 t j .1) (shift (partAt 0 t j .0) 0 e))
+    (λ c. by-dec (λ _. Dec ((e : Term) × First t j e)) (none-below e t j) (λ f. yes (e, first-from t j e h c f))
+    (λ n. no (λ x. n (λ i l c. first-not-again t i j (x .0) l c (x .1)))))
+    (λ n. no (λ x. n (first-movable t j (x .0) (x .1)))))
+    (λ n. no (λ x. n (x .1 .within)))
+  where
+    e : Term
+    e = unshift (partAt 0 t j .0) 0 (partAt 0 t j .1)
