@@ -41,10 +41,10 @@ pub read-more : (l : List ℕ) (a : List Entry) (i : ℕ) (x : Entry) → i < le
 read-more l a i x h e r k lt =
     ⊎-elim (λ (q : k ≡ i). rw q (getD-set-same a i x Open h ∙ e)) (λ (q : k < i). getD-set-other a i k x Open (omega arith) ∙ r k q) (eq-or-lt-of-le (omega arith))
 
-open-span : {x : Span} → Open ≡ Assigned x → ⊥
+pub open-span : {x : Span} → Open ≡ Assigned x → ⊥
 open-span e = let z : _≡_ {A = ℕ} 0 1 = cc in omega arith
 
-span-inj : (x y : Span) → Assigned x ≡ Assigned y → x ≡ y
+pub span-inj : (x y : Span) → Assigned x ≡ Assigned y → x ≡ y
 span-inj x y e = cc
 
 -- a value that is given

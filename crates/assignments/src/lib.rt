@@ -29,7 +29,7 @@ pub enum Entry {
 }
 
 // The entry of variable i in a line.
-fn entry_at(line: &[u8], i: usize) -> Entry
+pub fn entry_at(line: &[u8], i: usize) -> Entry
     requires { ⌜ 4 * i + 4 ≤ length (now line) ⌝ }
     ensures { λ r. ⌜ r ≡ entryAt (now (line .entry)) i ⌝ }
 {

@@ -37,10 +37,10 @@ pub stored : (out p xs : List ℕ) (n : ℕ) → p ≡ sets out 0 xs → n ≡ l
 stored out p xs n e h w = ap (take (n - 0)) (e ∙ sets-eq xs out 0 (omega arith)) ∙ take-at xs (drop (0 + length xs) out) (n - 0) (omega arith)
 
 -- bytes compared one by one
-pub same-more : (a b : List ℕ) (i : ℕ) → length a ≡ length b → i < length a → getD a i 0 ≡ getD b i 0 → take i a ≡ take i b → take (i + 1) a ≡ take (i + 1) b
-same-more a b i n h e p =
+pub same-more : (a b : List ℕ) (i : ℕ) → i < length a → i < length b → getD a i 0 ≡ getD b i 0 → take i a ≡ take i b → take (i + 1) a ≡ take (i + 1) b
+same-more a b i h g e p =
     ap (λ (j : ℕ). take j a) (add-one i) ∙ take-suc a i 0 h ∙ ap₂ (λ (x : List ℕ) (y : ℕ). x ++ (y ∷ [])) p e
-    ∙ sym (take-suc b i 0 (omega arith)) ∙ ap (λ (j : ℕ). take j b) (sym (add-one i))
+    ∙ sym (take-suc b i 0 g) ∙ ap (λ (j : ℕ). take j b) (sym (add-one i))
 
 pub same-all : (a b : List ℕ) (i : ℕ) → length a ≡ length b → length a ≤ i → take i a ≡ take i b → Same a b true
 unfolding Same

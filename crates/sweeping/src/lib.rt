@@ -32,9 +32,9 @@ pub enum Length {
 }
 
 // Where a part ends in the table that it is read from, and where what is written for it ends.
-struct Place {
-    next: usize,
-    end: usize,
+pub struct Place {
+    pub next: usize,
+    pub end: usize,
 }
 
 // Where a part ends, and how often it uses a local.
@@ -84,7 +84,7 @@ fn shifted(n: usize, d: usize, c: usize) -> usize
 }
 
 // Writes the part of s at byte `at`, shifted by d from local c on, into out from byte o on.
-fn shift_into(s: &[u8], at: usize, d: usize, c: usize, out: &mut [u8], o: usize) -> Place
+pub fn shift_into(s: &[u8], at: usize, d: usize, c: usize, out: &mut [u8], o: usize) -> Place
     requires { ⌜ Source (shift d) (now s) at c (length (now out)) o ⌝ }
     ensures { λ r. ⌜ Wrote (shift d) (now (s .entry)) at c (now (out .entry)) o (now (out .exit)) (r .next) (r .end) ⌝ }
 {

@@ -36,7 +36,7 @@ loop-less : tie.Need-loop-less Inv-loop μ-loop
 loop-less c = search needs
 
 loop-again : tie.Need-loop-again Inv-loop μ-loop
-loop-again c = (omega arith, same-more _ _ _ (c .before .before .before .before .before .if1 .left) (c .before .before .before .loop-test .taken) (c .if2 .left) (c .before .before .before .before .loop .inv .1))
+loop-again c = (omega arith, same-more _ _ _ (c .before .before .before .loop-test .taken) (search needs) (c .if2 .left) (c .before .before .before .before .loop .inv .1))
 
 returns-3 : tie.Need-returns-3 Inv-loop μ-loop
 returns-3 c = same-all _ _ _ (c .before .before .if1 .left) (c .loop-test .left) (c .before .loop .inv .1)

@@ -1,0 +1,4 @@
+pub mod Outcome
+pub mod Writers
+pub mod Order
+pub mod Laying

@@ -1,0 +1,146 @@
+-- What becomes of the lines that a search finds, and the tables of a listing.
+--   Held s top x v            the value v stands in s where the span x says, below byte `top`
+--   EntryHeld s top e o       the entry e, with the bytes s, is the entry o of a line
+--   Holds s top a l           the entries a, with the bytes s, are the line l; every value stands below byte `top`
+--   Outcome                   the two tables, how many lines were found, and how many records their values have
+--   outcome lines values t    the tables as bytes, with the tally t
+--   fits o l                  whether the line l still fits both tables
+--   store o l                 a line more: written where it fits both tables, counted in any case
+--   stores o ls               lines one after another
+--   Finds s a L X t           what storing a found line needs
+--   Found s a L X t M Y r     the tables M and Y with the tally r are L and X with t, and the line of the entries a stored
+--   Laid X L l                L begins with the bytes of the line l, whose values stand together in X
+--   Lines X L ls              L is lines whose values stand in X, each line's together, in any order of lines
+--   Tables L X ls             L and X begin with the tables of the lines ls
+--   Sorted ls ms              ms are the lines ls in order
+--   Arranges L X n k s        what arranging a listing needs
+--   InLineOrder L X ls M Y    M and Y are the tables L and X with the lines ls in order; the bytes behind stay
+--   Arranged L X n k M Y      so it is for all n lines that L and X begin with, with k records of values
+use mathlib.Core.Path.{_≡_}
+use mathlib.Core.Bool.{Bool, cond, _&&_}
+use mathlib.Core.Option.{Option, none, some}
+use mathlib.Core.List.{List, [], _∷_, _++_}
+use mathlib.Core.Logic.{_↔_}
+use Prim.Native.Nat.{ℕ, _+_, _*_, _≤_, _<_}
+use lib.Dec.{leb}
+use lib.ListN.{length, drop}
+use lib.Seq.{sets}
+use Rattle.terms.specs.Figures as figures
+use Rattle.terms.specs.Figures.{variables, tableBytes}
+use Rattle.terms.specs.Term.{Term, size, Value}
+use Rattle.terms.specs.Listing.{In, Line, Rising}
+use Rattle.terms.specs.Layout.{valueRecords, lineBytes, lineValues, lineTable, valuesRecords, valueTable}
+use Rattle.terms.proofs.Members.{Distinct}
+use Rattle.records.specs.Parts.{Part}
+use Rattle.assignments.specs.declared.Span.{Span}
+use Rattle.assignments.specs.declared.Entry.{Entry}
+use Rattle.assignments.specs.declared.Entry.the-variants.{Open, Assigned}
+use Rattle.listing.specs.declared.Tally.{Tally}
+
+pub record Held (s : List ℕ) (top : ℕ) (x : Span) (v : Term) : Type 0 where
+  pub part : Part s (4 * x .first) v
+  pub count : x .count ≡ size v
+  pub below : 4 * (x .first + x .count) ≤ top
+  pub most : size v ≤ figures.valueRecords
+  pub value : Value v
+
+abbrev pub EntryHeld : List ℕ → ℕ → Entry → Option Term → Type 0
+EntryHeld s top Open none = Unit {0}
+EntryHeld s top Open (some v) = ⊥
+EntryHeld s top (Assigned x) none = ⊥
+EntryHeld s top (Assigned x) (some v) = Held s top x v
+
+abbrev pub Holds : List ℕ → ℕ → List Entry → Line → Type 0
+Holds s top [] [] = Unit {0}
+Holds s top [] (o ∷ l) = ⊥
+Holds s top (e ∷ a) [] = ⊥
+Holds s top (e ∷ a) (o ∷ l) = EntryHeld s top e o × Holds s top a l
+
+pub record Outcome : Type 0 where
+  pub lines : List ℕ
+  pub values : List ℕ
+  pub count : ℕ
+  pub records : ℕ
+
+abbrev pub outcome : List ℕ → List ℕ → Tally → Outcome
+outcome lines values t = record { lines = lines; values = values; count = t .lines; records = t .records }
+
+-- a line has 4 bytes for each variable, a record 4 bytes
+abbrev pub fits : Outcome → Line → Bool
+fits o l = leb (4 * variables * (o .count + 1)) (length (o .lines)) && leb (4 * (o .records + valueRecords l)) (length (o .values))
+
+-- lines stand in the order in which they are found, and so do their values
+abbrev pub written : Outcome → Line → Outcome
+written o l = record {
+  lines = sets (o .lines) (4 * variables * o .count) (lineBytes (o .records) l);
+  values = sets (o .values) (4 * o .records) (lineValues l);
+  count = o .count + 1;
+  records = o .records + valueRecords l;
+}
+
+abbrev pub counted : Outcome → Line → Outcome
+counted o l = record { lines = o .lines; values = o .values; count = o .count + 1; records = o .records + valueRecords l }
+
+unfoldable pub store : Outcome → Line → Outcome
+store o l = cond (fits o l) (written o l) (counted o l)
+
+abbrev pub stores : Outcome → List Line → Outcome
+stores o [] = o
+stores o (l ∷ ls) = stores (store o l) ls
+
+pub record Finds (s : List ℕ) (a : List Entry) (lines values : List ℕ) (done : Tally) : Type 0 where
+  pub line : Line
+  pub top : ℕ
+  pub holds : Holds s top a line
+  pub area : length s ≤ tableBytes
+  pub lines-most : length lines ≤ tableBytes
+  pub values-most : length values ≤ tableBytes
+  pub few : done .lines < 65536
+  -- 8 values of at most 160 records for each line
+  pub records-few : done .records ≤ 1280 * done .lines
+
+pub record Found (s : List ℕ) (a : List Entry) (lines values : List ℕ) (done : Tally) (lines-after values-after : List ℕ) (r : Tally) : Type 0 where
+  pub stored : (top : ℕ) (l : Line) → Holds s top a l → outcome lines-after values-after r ≡ store (outcome lines values done) l
+
+pub record Laid (values bytes : List ℕ) (l : Line) : Type 0 where
+  pub first : ℕ
+  pub rest : List ℕ
+  pub behind : List ℕ
+  pub line : bytes ≡ lineBytes first l ++ rest
+  pub stand : drop (4 * first) values ≡ lineValues l ++ behind
+  pub within : 4 * (first + valueRecords l) ≤ length values
+  pub entries : length l ≡ variables
+
+abbrev pub Lines : List ℕ → List ℕ → List Line → Type 0
+Lines values bytes [] = bytes ≡ []
+Lines values bytes (l ∷ ls) = (x : Laid values bytes l) × Lines values (x .rest) ls
+
+pub record Tables (lines values : List ℕ) (ls : List Line) : Type 0 where
+  pub entries : (l : Line) → In l ls → length l ≡ variables
+  pub lines-begin : lines ≡ lineTable 0 ls ++ drop (4 * variables * length ls) lines
+  pub values-begin : values ≡ valueTable ls ++ drop (4 * valuesRecords ls) values
+
+pub record Sorted (ls ms : List Line) : Type 0 where
+  pub rising : Rising ms
+  pub members : (l : Line) → In l ms ↔ In l ls
+  pub count : length ms ≡ length ls
+  pub records : valuesRecords ms ≡ valuesRecords ls
+
+pub record Arranges (lines values : List ℕ) (count records : ℕ) (work : List ℕ) : Type 0 where
+  pub found : List Line
+  pub tables : Tables lines values found
+  pub distinct : Distinct found
+  pub lines-are : count ≡ length found
+  pub records-are : records ≡ valuesRecords found
+  pub lines-most : length lines ≤ tableBytes
+  pub values-most : length values ≤ tableBytes
+  pub area : length work ≡ tableBytes
+
+pub record InLineOrder (lines values : List ℕ) (ls : List Line) (lines-after values-after : List ℕ) : Type 0 where
+  pub order : List Line
+  pub sorted : Sorted ls order
+  pub lines-begin : lines-after ≡ lineTable 0 order ++ drop (4 * variables * length ls) lines
+  pub values-begin : values-after ≡ valueTable order ++ drop (4 * valuesRecords ls) values
+
+pub record Arranged (lines values : List ℕ) (count records : ℕ) (lines-after values-after : List ℕ) : Type 0 where
+  pub arranged : (ls : List Line) → Tables lines values ls → Distinct ls → count ≡ length ls → records ≡ valuesRecords ls → InLineOrder lines values ls lines-after values-after
