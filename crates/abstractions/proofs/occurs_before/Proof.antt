@@ -1,0 +1,39 @@
+-- `abstractions::occurs_before` meets its contract. The first j parts are those that stand before the byte 4 * j on, and a walk looks at them.
+-- Assumes nothing.
+use Rattle.abstractions.proofs.Occurrences.{earlier-no, earlier-yes}
+use borrow.Author.Needs.{needs}
+use Rattle.abstractions.proofs.occurs_before.Statement.{statement}
+use Rattle.abstractions.proofs.occurs_before.Tie as tie
+
+mul-copy-before : tie.Need-mul-copy-before
+mul-copy-before c = search needs
+
+add-copy-before : tie.Need-add-copy-before
+add-copy-before c = search needs
+
+copy-before-requires : tie.Need-copy-before-requires
+copy-before-requires c κs = search needs
+
+enum-told : tie.Need-enum-told
+enum-told c = search needs
+
+enum-told-2 : tie.Need-enum-told-2
+enum-told-2 c = search needs
+
+returns : tie.Need-returns
+returns c = earlier-no _ _ _ _ _ _ (c .enum-told .given .1) (c .before .before .copy-before .ensures)
+
+returns-2 : tie.Need-returns-2
+returns-2 c = earlier-yes _ _ _ _ _ (c .enum-told2 .given .1) (c .before .before .copy-before .ensures)
+
+pub occurs-before-spec : {M : Type 1} → statement M
+occurs-before-spec =
+    tie.close
+    (tie.spec
+    mul-copy-before
+    add-copy-before
+    copy-before-requires
+    enum-told
+    enum-told-2
+    returns
+    returns-2)
