@@ -1,0 +1,12 @@
+pub mod Frame
+pub mod Opening
+pub mod Leaves
+pub mod Lacking
+pub mod Descents
+pub mod Applications
+pub mod Missing
+pub mod Arguments
+pub mod Heads
+pub mod Building
+pub mod Planning
+pub mod Ordering

@@ -1,0 +1,64 @@
+-- `agenda::builds::is_solved` meets its contract. The value's first record, the walk over its body and the walk over body and target decide
+-- one condition each. Assumes nothing.
+use native.Mathlib.Omega.{arith}
+use Rattle.agenda.proofs.Heads.{solved-other, body-whole, substituting, solved-unused, solved-yes, solved-no}
+use borrow.Author.Needs.{needs}
+use Rattle.agenda.proofs.builds.is_solved.Statement.{statement}
+use Rattle.agenda.proofs.builds.is_solved.Tie as tie
+
+shared-slice-read-if1 : tie.Need-shared-slice-read-if1
+shared-slice-read-if1 c = search needs
+
+returns : tie.Need-returns
+returns c = solved-other _ _ _ _ (c .if1 .taken)
+
+add-ask-at : tie.Need-add-ask-at
+add-ask-at c = search needs
+
+ask-at-requires : tie.Need-ask-at-requires
+ask-at-requires c κs = (body-whole _ _ _ _ (c .if1 .left) (c .before .before .before .before .pre), omega arith)
+
+enum-told : tie.Need-enum-told
+enum-told c = search needs
+
+returns-2 : tie.Need-returns-2
+returns-2 c = solved-unused _ _ _ _ (c .before .before .before .if1 .left) _ (c .before .before .ask-at .ensures) _ (c .enum-told .given .1)
+
+enum-told-2 : tie.Need-enum-told-2
+enum-told-2 c = search needs
+
+add-is-substituted : tie.Need-add-is-substituted
+add-is-substituted c = search needs
+
+is-substituted-requires : tie.Need-is-substituted-requires
+is-substituted-requires c κs = substituting _ _ _ _ (c .before .before .before .if1 .left) (c .before .before .before .before .before .before .before .pre)
+
+enum-told-3 : tie.Need-enum-told-3
+enum-told-3 c = search needs
+
+enum-told-4 : tie.Need-enum-told-4
+enum-told-4 c = search needs
+
+returns-3 : tie.Need-returns-3
+returns-3 c = solved-yes _ _ _ _ (c .before .before .before .before .before .before .if1 .left) _ (c .before .before .before .before .before .ask-at .ensures) (c .before .before .before .enum-told2 .given .1) _ (c .before .before .is-substituted .ensures) _ (c .enum-told3 .given .1)
+
+returns-4 : tie.Need-returns-4
+returns-4 c = solved-no _ _ _ _ (c .before .before .before .before .before .before .if1 .left) _ (c .before .before .before .before .before .ask-at .ensures) (c .before .before .before .enum-told2 .given .1) _ (c .before .before .is-substituted .ensures) (c .enum-told4 .given .1)
+
+pub is-solved-spec : {M : Type 1} → statement M
+is-solved-spec =
+    tie.close
+    (tie.spec
+    shared-slice-read-if1
+    returns
+    add-ask-at
+    ask-at-requires
+    enum-told
+    returns-2
+    enum-told-2
+    add-is-substituted
+    is-substituted-requires
+    enum-told-3
+    enum-told-4
+    returns-3
+    returns-4)

@@ -1,0 +1,28 @@
+-- `agenda::locals::is_unused` meets its contract. The walk over the part came to its end exactly if the part does not use the local. Assumes nothing.
+use native.Mathlib.Omega.{arith}
+use Rattle.agenda.proofs.Lacking.{not-unused, is-unused}
+use borrow.Author.Needs.{needs}
+use Rattle.agenda.proofs.locals.is_unused.Statement.{statement}
+use Rattle.agenda.proofs.locals.is_unused.Tie as tie
+
+returns : tie.Need-returns
+returns c = not-unused _ _ _ _
+
+ask-at-requires : tie.Need-ask-at-requires
+ask-at-requires c κs = search needs
+
+enum-told : tie.Need-enum-told
+enum-told c = search needs
+
+enum-told-2 : tie.Need-enum-told-2
+enum-told-2 c = search needs
+
+returns-2 : tie.Need-returns-2
+returns-2 c = is-unused _ _ _ _ _ _ (omega arith) (c .before .before .ask-at .ensures) (c .enum-told .given .1)
+
+returns-3 : tie.Need-returns-3
+returns-3 c = not-unused _ _ _ _
+
+pub is-unused-spec : {M : Type 1} → statement M
+is-unused-spec =
+    tie.close (tie.spec returns ask-at-requires enum-told enum-told-2 returns-2 returns-3)

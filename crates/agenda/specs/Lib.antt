@@ -1,0 +1,9 @@
+pub mod State
+pub mod Items
+pub mod Moves
+pub mod Branches
+pub mod Ordering
+pub mod Applications
+pub mod Builds
+pub mod Opening
+pub mod Locals

@@ -1,0 +1,26 @@
+-- Locals that a target has and a part of the pattern lacks.
+--   Unused P i k m b   if b, local k is marked by m, and the term of P at byte i doesn't use it
+--   Locals P i W j     terms whose loose locals can be compared stand in P at byte i and in W at byte j
+--   Lacks P i W j b    if b, the term of W at byte j has a loose local that the term of P at byte i lacks
+use mathlib.Core.Path.{_≡_}
+use mathlib.Core.Bool.{Bool, true, false}
+use mathlib.Core.List.{List}
+use Prim.Native.Nat.{ℕ, _*_, _≤_}
+use lib.ListN.{length}
+use Rattle.terms.specs.Figures.{patternRecords}
+use Rattle.terms.specs.Term.{Term, uses}
+use Rattle.records.specs.Parts.{Part, Whole}
+use Rattle.abstractions.specs.Locals.{Marks}
+
+unfoldable pub Unused : List ℕ → ℕ → ℕ → ℕ → Bool → Type 0
+Unused P i k m true = (m ≡ 1) × ((p : Term) → Part P i p → uses k p ≡ false)
+Unused P i k m false = Unit {0}
+
+pub record Locals (P : List ℕ) (i : ℕ) (W : List ℕ) (j : ℕ) : Type 0 where
+  pub part : Whole P i
+  pub short : length P ≤ 4 * patternRecords
+  pub target : Marks W j 0 patternRecords
+
+unfoldable pub Lacks : List ℕ → ℕ → List ℕ → ℕ → Bool → Type 0
+Lacks P i W j true = (k : ℕ) × ((p t : Term) → Part P i p → Part W j t → (uses k p ≡ false) × (uses k t ≡ true))
+Lacks P i W j false = Unit {0}

@@ -1,0 +1,136 @@
+-- How the goals, targets and values of a search stand in the work area.
+--   patternAt, targetAt, nextAt, argumentAt   the four fields of a goal that stands at a byte of the work area, as bytes
+--   Target W top n at t     the term t stands in W from byte `at` on, below `top`, and is small enough for a part of n records to meet
+--   GoalAt P W top at g     the goal g stands in W at byte `at`
+--   Easy g, Hard g          g may stand in the list of the easy goals, or of those put off
+--   Chain K P W top at gs   the goals gs, all of kind K, are a linked list in W that begins at byte `at`
+--   weights k gs            the bytes that the goals gs may still take up, k more for each
+--   relinking               the bytes that bringing a goal forward may take up
+--   State k P W s a gs hs l the agenda s has the easy goals gs and the goals hs put off, the entries a are the line l, and the work area
+--                           suffices for the goals but for k bytes
+--   Sat gs hs l φ           φ satisfies the goals and extends the line
+--   Bounds P W s            the bounds that every step needs
+--   Ready k P W s a         some state stands there
+use mathlib.Core.Path.{_≡_}
+use mathlib.Core.List.{List, [], _∷_}
+use Prim.Native.Nat.{ℕ, suc, _+_, _-_, _*_, _%_, _<_, _≤_}
+use lib.ListN.{length, getD}
+use Rattle.terms.specs.Figures.{variables, patternRecords, valueRecords, tableBytes}
+use Rattle.terms.specs.Term.{Term, app, lam, loc, con, var, size, Normal, Ground, Closed}
+use Rattle.terms.specs.Assignment.{Assigns}
+use Rattle.terms.specs.Listing.{Line}
+use Rattle.terms.specs.Layout.{wordAt}
+use Rattle.terms.specs.Refusal.{OccursIn}
+use Rattle.matching.proofs.Lines.{Extends}
+use Rattle.matching.proofs.Lists.{Predicate}
+use Rattle.matching.proofs.Goals.{Goal, Goal.match, Goal.build, All, Listable}
+use Rattle.records.specs.Parts.{Part}
+use Rattle.assignments.specs.declared.Entry.{Entry}
+use Rattle.listing.specs.Outcome.{Holds}
+use Rattle.agenda.specs.declared.Agenda.{Agenda}
+
+-- a goal is eight bytes: the pattern's part as a record number, 0 or 1 for the kind of goal, and as record numbers of two bytes each its
+-- target, the next goal (0: none) and, of a goal to build, the argument's target
+abbrev pub patternAt : List ℕ → ℕ → ℕ
+patternAt W at = 4 * getD W at 0
+
+abbrev pub targetAt : List ℕ → ℕ → ℕ
+targetAt W at = 4 * wordAt W (at + 2)
+
+abbrev pub nextAt : List ℕ → ℕ → ℕ
+nextAt W at = 4 * wordAt W (at + 4)
+
+abbrev pub argumentAt : List ℕ → ℕ → ℕ
+argumentAt W at = 4 * wordAt W (at + 6)
+
+-- a target grows by at most two records, and by one loose local, for each record of the pattern that is used up
+pub record Target (W : List ℕ) (top n at : ℕ) (t : Term) : Type 0 where
+  pub part : Part W at t
+  pub below : at + 4 * size t ≤ top
+  pub normal : Normal t
+  pub ground : Ground t
+  pub few : n ≤ patternRecords
+  pub closed : Closed (patternRecords - n) t
+  pub short : size t + 2 * n ≤ valueRecords
+
+pub record MatchAt (P W : List ℕ) (top at : ℕ) (p t : Term) : Type 0 where
+  pub kind : getD W (at + 1) 0 ≡ 0
+  pub part : Part P (patternAt W at) p
+  pub target : Target W top (size p) (targetAt W at) t
+  pub suits : Listable variables (OccursIn P) (match p t)
+
+pub record BuildAt (P W : List ℕ) (top at : ℕ) (f t e : Term) : Type 0 where
+  pub kind : getD W (at + 1) 0 ≡ 1
+  pub part : Part P (patternAt W at) f
+  pub target : Target W top (suc (size f)) (targetAt W at) t
+  pub argument : Target W top (suc (size f)) (argumentAt W at) e
+  pub suits : Listable variables (OccursIn P) (build f t e)
+
+abbrev pub GoalAt : List ℕ → List ℕ → ℕ → ℕ → Goal → Type 0
+GoalAt P W top at (match p t) = MatchAt P W top at p t
+GoalAt P W top at (build f t e) = BuildAt P W top at f t e
+
+abbrev pub Easy : Goal → Type 0
+Easy (match p t) = Unit {0}
+Easy (build f t e) = ⊥
+
+abbrev pub Hard : Goal → Type 0
+Hard (match (app f a) t) = Unit {0}
+Hard (match (lam b) t) = ⊥
+Hard (match (loc n) t) = ⊥
+Hard (match (con n) t) = ⊥
+Hard (match (var n) t) = ⊥
+Hard (build f t e) = Unit {0}
+
+pub record Node (K : Goal → Type 0) (P W : List ℕ) (top at : ℕ) (g : Goal) : Type 0 where
+  pub kind : K g
+  pub low : 0 < at
+  pub room : at + 8 ≤ top
+  pub even : at % 4 ≡ 0
+  pub falls : nextAt W at < at
+  pub goal : GoalAt P W top at g
+
+abbrev pub Chain : (Goal → Type 0) → List ℕ → List ℕ → ℕ → ℕ → List Goal → Type 0
+Chain K P W top at [] = at ≡ 0
+Chain K P W top at (g ∷ gs) = Node K P W top at g × Chain K P W top (nextAt W at) gs
+
+abbrev pub weight : Goal → ℕ
+weight (match p t) = 2000 * size p
+weight (build f t e) = 2000 * size f + 1000
+
+abbrev pub weights : ℕ → List Goal → ℕ
+weights k [] = 0
+weights k (g ∷ gs) = k + weight g + weights k gs
+
+-- at most 32 goals are put off, each with a weight of 2,000 or more
+abbrev pub relinking : ℕ
+relinking = 256
+
+pub record State (k : ℕ) (P W : List ℕ) (s : Agenda) (a : List Entry) (gs hs : List Goal) (l : Line) : Type 0 where
+  pub easy : Chain Easy P W (s .top) (s .easy) gs
+  pub hard : Chain Hard P W (s .top) (s .hard) hs
+  pub entries : Holds W (s .top) a l
+  pub line : length l ≡ variables
+  pub assigns : Assigns (OccursIn P) l
+  pub room : s .top + weights 8 gs + weights 0 hs ≤ tableBytes + k
+
+abbrev pub Sat : List Goal → List Goal → Line → Predicate
+Sat gs hs l φ = All gs φ × All hs φ × Extends φ l
+
+pub record Bounds (P W : List ℕ) (s : Agenda) : Type 0 where
+  pub whole : length W ≡ tableBytes
+  pub short : length P ≤ 4 * patternRecords
+  pub top : s .top ≤ tableBytes
+  pub start : 8 ≤ s .top
+  pub even : s .top % 4 ≡ 0
+  pub easy-room : s .easy + 8 ≤ s .top
+  pub easy-even : s .easy % 4 ≡ 0
+  pub hard-room : s .hard + 8 ≤ s .top
+  pub hard-even : s .hard % 4 ≡ 0
+
+pub record Ready (k : ℕ) (P W : List ℕ) (s : Agenda) (a : List Entry) : Type 0 where
+  pub gs : List Goal
+  pub hs : List Goal
+  pub line : Line
+  pub state : State k P W s a gs hs line
+  pub bounds : Bounds P W s

@@ -1,0 +1,191 @@
+// The ways in which a flexible application that was put off comes to its target: by the target's own parts, by a head that throws the
+// argument away, or by an argument that is found at one of the target's parts.
+
+use crate::Agenda;
+use crate::Branch;
+use crate::ITEM;
+use crate::Item;
+use crate::builds::TARGET_BYTES;
+use assignments::Entry;
+use records::Kind;
+use records::PATTERN_RECORDS;
+use records::RECORD;
+use records::Walk;
+ghost use mathlib.Core.Path.{_≡_};
+ghost use Prim.Native.Nat.{suc, _+_, _≤_, _<_};
+ghost use lib.ListN.{length};
+ghost use Rattle.terms.specs.Figures.{valueRecords, tableBytes};
+ghost use Rattle.records.specs.Parts.{Whole};
+ghost use Rattle.agenda.specs.Applications.{Matches, Counted, matchItem, buildItem, Places, Placed, Missing, Comparable, Misses};
+ghost use Rattle.agenda.specs.Branches.{Way};
+ghost use Rattle.agenda.specs.Moves.{Branched};
+
+// The goal that a part sweeps to a target.
+fn match_item(part: usize, target: usize, next: usize) -> Item
+    ensures { λ r. ⌜ r ≡ matchItem part target next ⌝ }
+{
+    Item {
+        part,
+        kind: Item::MATCH,
+        target,
+        next,
+        argument: 0,
+    }
+}
+
+// The goal that a part builds a target from an argument's target.
+fn build_item(part: usize, target: usize, next: usize, argument: usize) -> Item
+    ensures { λ r. ⌜ r ≡ buildItem part target next argument ⌝ }
+{
+    Item {
+        part,
+        kind: Item::BUILD,
+        target,
+        next,
+        argument,
+    }
+}
+
+// In how many ways the first goal put off, an application, can come to its target: by the target's own parts, by a head that throws its
+// argument away, and by each part of the target as the argument's.
+pub fn ways(p: &[u8], work: &[u8], s: Agenda, a: [Entry; 8]) -> usize
+    requires { ⌜ Matches (now p) (now work) s a ⌝ }
+    ensures { λ r. ⌜ Counted (now (p .entry)) (now (work .entry)) s a r ⌝ }
+{
+    let goal = crate::item_at(work, s.hard);
+    let target = goal.target;
+    let end = records::end_at(work, target);
+    (end - target) / RECORD + 2
+}
+
+// The target's own parts: its head is the head's target, and its argument the argument's.
+fn split(p: &[u8], work: &mut [u8], s: Agenda, a: [Entry; 8]) -> Branch
+    requires { ⌜ Matches (now p) (now work) s a ⌝ }
+    ensures { λ r. ⌜ Branched (now (p .entry)) (now (work .entry)) s a (Way 0) (now (work .exit)) r ⌝ }
+{
+    let goal = crate::item_at(work, s.hard);
+    let target = goal.target;
+    if work[target] != Kind::APPLICATION.code {
+        return Branch::Failed;
+    }
+    let argument = records::end_at(p, goal.part + RECORD);
+    let end = records::end_at(work, target + RECORD);
+    crate::put_item(work, s.top, match_item(argument, end, s.easy));
+    crate::put_item(
+        work,
+        s.top + ITEM,
+        match_item(goal.part + RECORD, target + RECORD, s.top),
+    );
+    Branch::Next(Agenda {
+        top: s.top + 2 * ITEM,
+        easy: s.top + ITEM,
+        hard: goal.next,
+    })
+}
+
+// A head that throws its argument away: it is the abstraction over the target, moved in below the binder.
+fn constant_head(p: &[u8], work: &mut [u8], s: Agenda, a: [Entry; 8]) -> Branch
+    requires { ⌜ Matches (now p) (now work) s a ⌝ }
+    ensures { λ r. ⌜ Branched (now (p .entry)) (now (work .entry)) s a (Way 1) (now (work .exit)) r ⌝ }
+{
+    let goal = crate::item_at(work, s.hard);
+    let mut b = [0u8; TARGET_BYTES];
+    let moved = sweeping::shift_into(work, goal.target, 1, 0, &mut b, 0);
+    let n = moved.end;
+    let head = match_item(goal.part + RECORD, goal.target, goal.next);
+    Branch::Next(crate::builds::push_abstraction(work, s, head, &b[0..n]))
+}
+
+// Whether local k is marked by `target` and not by `argument`, and the part of p at byte i doesn't use it.
+fn is_missing(p: &[u8], i: usize, k: usize, target: u8, argument: u8) -> bool
+    requires { ⌜ Whole (now p) i × (k + length (now p) ≤ i + tableBytes) ⌝ }
+    ensures { λ r. ⌜ Missing (now (p .entry)) i k target argument r ⌝ }
+{
+    if argument == 1 {
+        return false;
+    }
+    crate::locals::is_unused(p, i, k, target)
+}
+
+// Whether the target at byte j has a loose local that neither the argument's target at byte e nor the head, the part of p at byte i, uses.
+// Nothing brings in such a local.
+fn misses_local(p: &[u8], i: usize, work: &[u8], j: usize, e: usize) -> bool
+    requires { ⌜ Comparable (now p) i (now work) j e ⌝ }
+    ensures { λ r. ⌜ Misses (now (p .entry)) i (now (work .entry)) j e r ⌝ }
+{
+    let mut target = [0u8; PATTERN_RECORDS];
+    abstractions::loose_locals(work, j, 0, &mut target);
+    let mut argument = [0u8; PATTERN_RECORDS];
+    abstractions::loose_locals(work, e, 0, &mut argument);
+    let mut k = 0;
+    while k < PATTERN_RECORDS {
+        if is_missing(p, i, k, target[k], argument[k]) {
+            return true;
+        }
+        k += 1;
+    }
+    false
+}
+
+// Writes the j-th part of the term at byte `at`, moved out of the binders above it, from byte `top` on, and gives its end; or No where there
+// is no such part, or it uses one of those binders.
+fn place_argument(work: &mut [u8], top: usize, at: usize, j: usize) -> Walk
+    requires { ⌜ Places (now work) top at j ⌝ }
+    ensures { λ r. ⌜ Placed (now (work .entry)) top at j (now (work .exit)) r ⌝ }
+{
+    let part = at + RECORD * j;
+    if records::end_at(work, at) <= part {
+        return Walk::No;
+    }
+    let depth = abstractions::depth_at(work, at, j);
+    let mut e = [0u8; TARGET_BYTES];
+    let moved = abstractions::lower_into(work, part, 0, depth, &mut e, 0);
+    let Walk::Upto(end) = moved else {
+        return Walk::No;
+    };
+    let n = end - part;
+    sweeping::copy_into(&e[0..n], work, top);
+    Walk::Upto(top + n)
+}
+
+// The argument found at the j-th part of the target: it sweeps to that part, moved out of the binders above it, and the head builds the
+// target from it. Of parts that give the same argument the first one counts.
+fn find_argument(p: &[u8], work: &mut [u8], s: Agenda, a: [Entry; 8], j: usize) -> Branch
+    requires { ⌜ Matches (now p) (now work) s a × (j < valueRecords) ⌝ }
+    ensures { λ r. ⌜ Branched (now (p .entry)) (now (work .entry)) s a (Way (suc (suc j))) (now (work .exit)) r ⌝ }
+{
+    let goal = crate::item_at(work, s.hard);
+    let placed = place_argument(work, s.top, goal.target, j);
+    let Walk::Upto(end) = placed else {
+        return Branch::Failed;
+    };
+    if abstractions::occurs_before(work, goal.target, j, s.top) {
+        return Branch::Failed;
+    }
+    let head = goal.part + RECORD;
+    if misses_local(p, head, work, goal.target, s.top) {
+        return Branch::Failed;
+    }
+    let argument = records::end_at(p, head);
+    crate::put_item(work, end, build_item(head, goal.target, goal.next, s.top));
+    crate::put_item(work, end + ITEM, match_item(argument, s.top, s.easy));
+    Branch::Next(Agenda {
+        top: end + 2 * ITEM,
+        easy: end + ITEM,
+        hard: end,
+    })
+}
+
+// The i-th way in which the first goal put off, an application, comes to its target.
+pub fn way(p: &[u8], work: &mut [u8], s: Agenda, a: [Entry; 8], i: usize) -> Branch
+    requires { ⌜ Matches (now p) (now work) s a × (i < valueRecords + 2) ⌝ }
+    ensures { λ r. ⌜ Branched (now (p .entry)) (now (work .entry)) s a (Way i) (now (work .exit)) r ⌝ }
+{
+    if i == 0 {
+        return split(p, work, s, a);
+    }
+    if i == 1 {
+        return constant_head(p, work, s, a);
+    }
+    find_argument(p, work, s, a, i - 2)
+}

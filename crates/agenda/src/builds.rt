@@ -1,0 +1,131 @@
+// The steps of a goal to build: its head is to sweep to an abstraction that comes to the goal's target with the argument's target put in.
+
+use crate::Agenda;
+use crate::Branch;
+use crate::Item;
+use crate::Plan;
+use abstractions::Pairing;
+use assignments::Entry;
+use records::Ask;
+use records::Kind;
+use records::RECORD;
+use records::VALUE_RECORDS;
+use records::Walk;
+ghost use Rattle.agenda.specs.State.{Ready, relinking};
+ghost use Rattle.agenda.specs.Branches.{Chosen, Planned};
+ghost use Rattle.agenda.specs.Moves.{Branched};
+ghost use Rattle.agenda.specs.Builds.{Builds, Pushes, Pushed, Heads, HeadEntry, Solving, Solved};
+
+// The bytes of the longest target.
+pub const TARGET_BYTES: usize = 640;
+
+// Writes the abstraction over the body b at the top, and the goal that the part of `goal` sweeps to it; `goal` itself is dropped.
+pub fn push_abstraction(work: &mut [u8], s: Agenda, goal: Item, b: &[u8]) -> Agenda
+    requires { ⌜ Pushes (now work) s goal (now b) ⌝ }
+    ensures { λ r. ⌜ Pushed (now (work .entry)) s goal (now (b .entry)) (now (work .exit)) r ⌝ }
+{
+    records::put_record(work, s.top, Kind::ABSTRACTION, 0);
+    sweeping::copy_into(b, work, s.top + RECORD);
+    let easy = s.top + RECORD + b.len();
+    let target = Item {
+        part: goal.part,
+        kind: Item::MATCH,
+        target: s.top,
+        next: s.easy,
+        argument: 0,
+    };
+    crate::put_item(work, easy, target);
+    Agenda {
+        top: easy + crate::ITEM,
+        easy,
+        hard: goal.next,
+    }
+}
+
+// The goal with the body of the chosen copies: what its head then has to sweep to is written at the top. No head sweeps to an abstraction
+// that is a redex, and an abstraction that doesn't use its local belongs to another goal.
+pub fn body(
+    p: &[u8],
+    work: &mut [u8],
+    s: Agenda,
+    a: [Entry; 8],
+    chosen: [u8; VALUE_RECORDS],
+) -> Branch
+    requires { ⌜ Ready relinking (now p) (now work) s a × Builds (now work) s ⌝ }
+    ensures { λ r. ⌜ Branched (now (p .entry)) (now (work .entry)) s a (Chosen chosen) (now (work .exit)) r ⌝ }
+{
+    let goal = crate::item_at(work, s.hard);
+    let mut b = [0u8; TARGET_BYTES];
+    let built = abstractions::body_into(work, goal.target, 0, goal.argument, &chosen, 0, &mut b, 0);
+    let n = built.end;
+    if !records::uses_local(&b[0..n], 0) {
+        return Branch::Failed;
+    }
+    if records::is_eta(&b[0..n]) {
+        return Branch::Failed;
+    }
+    Branch::Next(push_abstraction(work, s, goal, &b[0..n]))
+}
+
+// The entry of the head at byte `at` of the pattern, if it is a variable.
+pub fn head_entry(p: &[u8], at: usize, a: [Entry; 8]) -> Entry
+    requires { ⌜ Heads (now p) at ⌝ }
+    ensures { λ r. ⌜ HeadEntry (now (p .entry)) at a r ⌝ }
+{
+    if p[at] == Kind::VARIABLE.code {
+        let i = records::number_at(p, at);
+        return a[i];
+    }
+    Entry::Open
+}
+
+// Whether the value at byte v is an abstraction that uses its local and comes to the target with the argument put in.
+fn is_solved(work: &[u8], v: usize, argument: usize, target: usize) -> bool
+    requires { ⌜ Solving (now work) v argument target ⌝ }
+    ensures { λ r. ⌜ Solved (now (work .entry)) v argument target r ⌝ }
+{
+    if work[v] != Kind::ABSTRACTION.code {
+        return false;
+    }
+    let unused = records::ask_at(work, v + RECORD, Ask::Other, 0);
+    if let Walk::Upto(_) = unused {
+        return false;
+    }
+    let pairing = abstractions::is_substituted(work, v + RECORD, 0, argument, target);
+    match pairing {
+        Pairing::Upto(_) => true,
+        Pairing::No => false,
+    }
+}
+
+// What the goal comes to. A head that is assigned is met by its value or not at all. A swept head uses no local that the head doesn't use:
+// where the argument uses such a one no body keeps a copy of the argument, so that one body is left. Any other head has a body for each
+// choice among the copies.
+pub fn plan(p: &[u8], work: &mut [u8], s: Agenda, a: [Entry; 8]) -> Plan
+    requires { ⌜ Ready relinking (now p) (now work) s a × Builds (now work) s ⌝ }
+    ensures { λ r. ⌜ Planned (now (p .entry)) (now (work .entry)) s a (now (work .exit)) r ⌝ }
+{
+    let goal = crate::item_at(work, s.hard);
+    let entry = head_entry(p, goal.part, a);
+    if let Entry::Assigned(span) = entry {
+        if is_solved(work, span.first * RECORD, goal.argument, goal.target) {
+            // a record's room is left free, so that the agenda's top rises at each step
+            return Plan::Next(Agenda {
+                top: s.top + RECORD,
+                easy: s.easy,
+                hard: goal.next,
+            });
+        }
+        return Plan::Failed;
+    }
+    if crate::locals::lacks_local(p, goal.part, work, goal.argument) {
+        let every = [1u8; VALUE_RECORDS];
+        let branch = body(p, work, s, a, every);
+        match branch {
+            Branch::Failed => return Plan::Failed,
+            Branch::Next(next) => return Plan::Next(next),
+        }
+    }
+    let counted = abstractions::copies(work, goal.target, 0, goal.argument);
+    Plan::Bodies(counted.count)
+}

@@ -1,0 +1,113 @@
+// The agenda of a search: its goals in the work area, and one step of each kind.
+//
+// A goal is a part of the pattern and a target that it has to sweep to. Goals, targets and assigned values stand in the work area below `top`,
+// where nothing is changed, so that all branches of a search share them and going back costs nothing. The crate reads and writes goals, takes
+// an easy goal, tries one way of an application whose head is unknown, writes one body of a goal to build, and chooses among the goals that
+// were put off. Each step promises that the agenda it leaves has exactly the assignments of the one before, or of the alternative it is for;
+// or that there are none; and that the work area suffices. It rests on `matching` for the mathematics, on `abstractions`, `sweeping` and
+// `records` for single terms, and on `listing` for how entries hold a line.
+
+pub mod alternatives;
+pub mod builds;
+mod locals;
+pub mod order;
+pub mod steps;
+
+use assignments::Entry;
+use assignments::Span;
+use records::RECORD;
+ghost use mathlib.Core.Path.{_≡_};
+ghost use Prim.Native.Nat.{_+_, _≤_};
+ghost use lib.ListN.{length};
+ghost use lib.Seq.{sets};
+ghost use Rattle.agenda.specs.Items.{itemBytes, ItemAt, Fits};
+
+// Where a search stands in the work area: the first free byte, and where its two lists of goals begin (0: none is left). Easy goals have
+// one way to go on; the others are put off until no easy one is left.
+pub struct Agenda {
+    pub top: usize,
+    pub easy: usize,
+    pub hard: usize,
+}
+
+// A variable that takes a value, and the agenda then.
+pub struct Binding {
+    pub variable: usize,
+    pub span: Span,
+    pub agenda: Agenda,
+}
+
+// What taking the first easy goal comes to: no assignment satisfies it, or the agenda that is left, perhaps with a variable assigned.
+pub enum Step {
+    Failed,
+    Left(Agenda),
+    Assign(Binding),
+}
+
+// What one alternative of a goal comes to.
+pub enum Branch {
+    Failed,
+    Next(Agenda),
+}
+
+// What a goal to build comes to: as one alternative, or that the bodies are to be gone through, one for each choice among so many copies.
+pub enum Plan {
+    Failed,
+    Next(Agenda),
+    Bodies(usize),
+}
+
+// A goal of a list: the part of the pattern, its kind, its target, the next goal (0: none) and, of a goal to build, the argument's target.
+// All but the kind are positions in bytes; what stands in the work area is record numbers.
+pub struct Item {
+    pub part: usize,
+    pub kind: u8,
+    pub target: usize,
+    pub next: usize,
+    pub argument: usize,
+}
+
+impl Item {
+    // The part sweeps to the target.
+    pub const MATCH: u8 = 0;
+
+    // The part sweeps to an abstraction that uses its local and comes to the target with the argument put in.
+    pub const BUILD: u8 = 1;
+}
+
+// The bytes of a goal in the work area.
+pub const ITEM: usize = 8;
+
+// The goal at byte `at`.
+pub fn item_at(work: &[u8], at: usize) -> Item
+    requires { ⌜ at + 8 ≤ length (now work) ⌝ }
+    ensures is { λ r. ⌜ ItemAt (now (work .entry)) at r ⌝ }
+    ensures fits { λ r. ⌜ Fits r ⌝ }
+{
+    Item {
+        part: records::wide(work[at]) * RECORD,
+        kind: work[at + 1],
+        target: records::word_at(work, at + 2) * RECORD,
+        next: records::word_at(work, at + 4) * RECORD,
+        argument: records::word_at(work, at + 6) * RECORD,
+    }
+}
+
+// Writes a goal at byte `at`; nothing else changes.
+pub fn put_item(work: &mut [u8], at: usize, item: Item)
+    requires { ⌜ (at + 8 ≤ length (now work)) × Fits item ⌝ }
+    ensures { λ _. ⌜ now (work .exit) ≡ sets (now (work .entry)) at (itemBytes item) ⌝ }
+{
+    let part = item.part / RECORD;
+    let target = item.target / RECORD;
+    let next = item.next / RECORD;
+    let argument = item.argument / RECORD;
+    work[at] = (part % 256) as u8;
+    work[at + 1] = item.kind;
+    work[at + 2] = (target / 256 % 256) as u8;
+    work[at + 3] = (target % 256) as u8;
+    work[at + 4] = (next / 256 % 256) as u8;
+    work[at + 5] = (next % 256) as u8;
+    work[at + 6] = (argument / 256 % 256) as u8;
+    work[at + 7] = (argument % 256) as u8;
+}
