@@ -1,8 +1,9 @@
 /* onestep: a proved one-step matcher for buoy recipes.
  *
- * Each table is lent as a pointer and a length in bytes. A length of 0 may come with any pointer that is not NULL. The output table and the work
- * area must not overlap any other table, and nobody else may write to a lent table during a call. Every call takes a work area of ONESTEP_TABLE
- * bytes; it is all zero on return, unless its own length was wrong. On a refusal every table is as it was.
+ * Each table is lent as a pointer and a length in bytes. A length of 0 may come with any pointer that is not NULL. The tables that are written (the
+ * output table, list's line and value tables, the work area) must not overlap any other table, and nobody else may write to a lent table during a
+ * call. Every call takes a work area of ONESTEP_TABLE bytes; it is all zero on return, unless its own length was wrong. On a refusal every table is
+ * as it was.
  *
  * A table holds records of 4 bytes: kind, a zero byte, and a 16-bit number, high byte first. Kinds: 0 application, followed by its head and its
  * argument; 1 abstraction, followed by its body; 2 local, 0 the innermost; 3 constant; 4 variable, 0 to 7. A record is bad if its kind is above 4, its
@@ -11,12 +12,15 @@
  * is open) and a value table that the line points into.
  *
  * A negative result is minus a refusal number. The one given is the first whose cause holds, in this order: 8; pattern or left side 1, 2, 3; recipe 4
- * to 7; right side 1, 2, 3; 11; 12 on the left side; 14; 12 on the right side; 13.
+ * to 7; right side 1, 2, 3; then 9, 10 (list), or 11; 12 on the left side; 14; 12 on the right side; 13.
  *    1 pattern or right side: length 0, above 128 bytes, or no multiple of 4
  *    2 one of its records is bad          3 it isn't one tree, or a local lacks a binder
  *    4 recipe: length 0, above 384 bytes, or no multiple of 4
  *    5 one of its records is bad or a variable   6 it isn't one tree, or a local lacks a binder   7 it isn't normal
- *    8 the line isn't 32 bytes, the value or output table is no multiple of 4 or above 65,536 bytes, or the work area isn't 65,536 bytes
+ *    8 the line isn't 32 bytes, list's line table is no multiple of 32 or above 65,536 bytes, the value or output table is no multiple of 4 or above
+ *      65,536 bytes, or the work area isn't 65,536 bytes
+ *    9 list: the full listing has more lines than the line table has room for
+ *   10 list: the lines have room, but their values have more records than the value table
  *   11 a variable that occurs has no usable value
  *   12 some part's swept form is above 256 records
  *   13 the output table is shorter than the swept form
@@ -33,6 +37,13 @@ extern "C" {
 #endif
 
 enum { ONESTEP_LINE = 32, ONESTEP_TABLE = 65536 };
+
+/* Writes the full listing of the pattern and the recipe, and gives its number of lines: every match agrees with exactly one line in each entry that the
+ * line assigns, and whatever values a line's open variables get, the filled pattern sweeps to the recipe. The lines go up by variable 0, then 1, to 7;
+ * open comes before assigned, and two values compare by bytes. Their values stand in the value table in line order, then variable order, from record 0;
+ * bytes behind the last line and the last value stay. */
+int64_t onestep_list(const uint8_t *pattern, size_t pattern_length, const uint8_t *recipe, size_t recipe_length, uint8_t *lines, size_t lines_length,
+                     uint8_t *values, size_t values_length, uint8_t *work, size_t work_length);
 
 /* 1 if the filled pattern sweeps to the recipe, 0 if it doesn't. */
 int64_t onestep_check(const uint8_t *pattern, size_t pattern_length, const uint8_t *recipe, size_t recipe_length, const uint8_t *line,

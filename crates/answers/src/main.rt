@@ -1,39 +1,41 @@
-// The answers of check, sweep and rewrite, case by case.
+// The answers of list, check, sweep and rewrite, case by case.
 //
 // The program reads a table of cases from standard input, runs the operations of `matcher` on them, and prints a line for each: its name,
 // the operation, the answer, and whether the bytes behind the answer (`rest`: the whole output table, if the answer is a refusal) and the
-// work area are as they were. The table that is kept beside it has document 01's cases 8, 9 and 10, every refusal that the three operations
-// can give, both sides of each limit, and the order of the refusals. It promises that it is safe, that it ends, and that a refusal is
-// printed as document 01's number; `matcher` promises the answers. It rests on `matcher` and, for the kinds, on `records`.
+// work area are as they were. The table that is kept beside it has document 01's cases, every refusal that the operations can give, both
+// sides of each limit, and the order of the refusals. It promises that it is safe and that it ends; `matcher`
+// promises the answers and a refusal's number. It rests on `matcher` and, for the kinds, on `records`.
 //
 // A case is one line of fields, each ended by `;` or the line:
+//     NAME; list; PATTERN; RECIPE; LINES; VALUES; WORK
 //     NAME; check; PATTERN; RECIPE; LINE; VALUES; WORK
 //     NAME; sweep; PATTERN; LINE; VALUES; OUTPUT; WORK
 //     NAME; rewrite; LEFT; RIGHT; RECIPE; LINE; VALUES; OUTPUT; WORK
-// WORK and OUTPUT are numbers of bytes; without one the work area has its right length. The others are tables, written in items, each a
+// WORK, OUTPUT and, of list, LINES and VALUES are numbers of bytes; without one the work area has its right length. The others are tables, written in items, each a
 // sign and a number, which is 0 if it is left out: `@`, `\`, `#n`, `kn`, `pn` are records, `=n:n` an assigned entry by its first record
 // and its count, `-` an open one, `!n` one byte, and `*n` has the next item n times. Any other line is a heading, and printed as it is.
+// The values that list wrote are taken to end where the first byte is as it was before the call.
 // Cases behind the first 65,536 bytes, and bytes of a table behind the room that is named below, are cut off.
 
 use libc::STDIN_FILENO;
 use libc::STDOUT_FILENO;
+use listing::LINE;
 use matcher::CheckAnswer;
+use matcher::ListAnswer;
 use matcher::Refusal;
 use matcher::RewriteAnswer;
 use matcher::SweepAnswer;
 use records::Kind;
 use records::RECORD;
-ghost use mathlib.Core.Path.{_≡_};
 ghost use Prim.Native.Nat.{_≤_};
 ghost use lib.ListN.{length};
 ghost use Rattle.io.specs.Counts.{Counts};
-ghost use Rattle.matcher.specs.Operations.{number};
 
 // The bytes of a work area, and the most of a value or output table.
 const TABLE_BYTES: usize = 65536;
 
-// Room for a table that is one record too long.
-const LENT: usize = 65540;
+// Room for a table that is one line too long.
+const LENT: usize = 65568;
 
 // Room for a pattern, a recipe or a line that is too long.
 const SHORT: usize = 512;
@@ -289,29 +291,30 @@ fn say_records(n: usize, out: &[u8]) {
     }
 }
 
-// Document 01's number of a refusal.
-fn number_of(c: Refusal) -> u64
-    ensures { λ r. ⌜ r ≡ number c ⌝ }
-{
-    match c {
-        Refusal::PatternLength => 1,
-        Refusal::PatternRecord => 2,
-        Refusal::PatternTerm => 3,
-        Refusal::RecipeLength => 4,
-        Refusal::RecipeRecord => 5,
-        Refusal::RecipeTerm => 6,
-        Refusal::RecipeRedex => 7,
-        Refusal::Tables => 8,
-        Refusal::Assignment => 11,
-        Refusal::SweptForm => 12,
-        Refusal::Output => 13,
-        Refusal::NoMatch => 14,
+// Prints what became of the bytes behind the lines and behind the values.
+fn say_behind(lines: &[u8], values: &[u8]) {
+    say(b"; rest");
+    say_left(lines);
+    say_left(values);
+}
+
+// Prints a count of lines, the lines, their values and what became of the bytes behind.
+fn say_listing(n: usize, lines: &[u8], values: &[u8]) {
+    say(b"lines ");
+    io::print_decimal(STDOUT_FILENO, n as u64);
+    if n <= SHORT {
+        let end = within(n * LINE, lines);
+        let last = within(find(values, 0, MARK), values);
+        say_table(&lines[..end]);
+        say(b"; values");
+        say_table(&values[..last]);
+        say_behind(&lines[end..], &values[last..]);
     }
 }
 
 fn say_refused(c: Refusal) {
     say(b"refused ");
-    io::print_decimal(STDOUT_FILENO, number_of(c));
+    io::print_decimal(STDOUT_FILENO, matcher::number_of(c));
 }
 
 fn say_untouched(c: Refusal, out: &[u8]) {
@@ -346,6 +349,48 @@ fn say_work(work: &[u8]) {
     say(b"; work");
     say_left(work);
     say(b"\n");
+}
+
+fn run_list(
+    name: &[u8],
+    pattern: &[u8],
+    recipe: &[u8],
+    lines: &mut [u8],
+    values: &mut [u8],
+    work: &mut [u8],
+) {
+    let answer = matcher::list(pattern, recipe, lines, values, work);
+    say(name);
+    say(b": list ");
+    match answer {
+        ListAnswer::Lines(n) => say_listing(n, lines, values),
+        ListAnswer::Refused(c) => {
+            say_refused(c);
+            say_behind(lines, values);
+        }
+    }
+    say_work(work);
+}
+
+fn list(case: &[u8]) {
+    let mut p = [0u8; SHORT];
+    let mut r = [0u8; SHORT];
+    let mut l = [MARK; LENT];
+    let mut v = [MARK; LENT];
+    let mut w = [MARK; LENT];
+    let p_end = build_field(case, 2, &mut p);
+    let r_end = build_field(case, 3, &mut r);
+    let l_end = lend_field(case, 4, 0, &l);
+    let v_end = lend_field(case, 5, 0, &v);
+    let w_end = lend_field(case, 6, TABLE_BYTES, &w);
+    run_list(
+        field(case, 0),
+        &p[..p_end],
+        &r[..r_end],
+        &mut l[..l_end],
+        &mut v[..v_end],
+        &mut w[..w_end],
+    );
 }
 
 fn run_check(
@@ -485,6 +530,7 @@ fn letter_of(field: &[u8]) -> u8 {
 fn run(case: &[u8]) {
     let letter = letter_of(field(case, 1));
     match letter {
+        b'l' => list(case),
         b'c' => check(case),
         b's' => sweep(case),
         b'r' => rewrite(case),

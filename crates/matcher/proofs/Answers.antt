@@ -11,7 +11,7 @@ use lib.IntN.{ℤ, pos}
 use mir.Syntax.{w64}
 use mir.Val.{SFits, toZ, ofZ}
 use mir.ValLaws.{toZ-ofZ}
-use Rattle.terms.specs.Figures.{sweptRecords}
+use Rattle.terms.specs.Figures.{sweptRecords, tableBytes}
 use Rattle.terms.specs.Term.{Term, app, lam, loc, con, var, size}
 use Rattle.terms.specs.Sweep.{sweep, largest}
 use Rattle.terms.specs.Refusal.{Row, Refused, Passed, swept, output, unmatched}
@@ -136,20 +136,20 @@ passed-later : (rows more : List Row) → Passed (rows ++ more) → Passed more
 passed-later [] more h = h
 passed-later (r ∷ rows) more h = passed-later rows more (h .1)
 
-written-few : (p l s o : List ℕ) (n : ℕ) (after : List ℕ) → Passed (swept p l s) → Written p l s o n after → n ≤ sweptRecords
+written-few : (p l s o : List ℕ) (n : ℕ) (after : List ℕ) → Passed (swept p l s) → Written p l s o n after → n ≤ tableBytes
 written-few p l s o n after h w = go (decLt sweptRecords (largest (w .term)))
   where
-    go : Dec (sweptRecords < largest (w .term)) → n ≤ sweptRecords
+    go : Dec (sweptRecords < largest (w .term)) → n ≤ tableBytes
     go (yes d) = absurd (h .0 (w .term, w .filled, d))
     go (no d) = omega (arith, w .records, sweep-largest (w .term))
 
-pub swept-few : (p l s o w : List ℕ) (a : SweepAnswer) (after : List ℕ) → Swept p l s o w a after → (n : ℕ) → a ≡ SweepAnswer.Records n → n ≤ sweptRecords
+pub swept-few : (p l s o w : List ℕ) (a : SweepAnswer) (after : List ℕ) → Swept p l s o w a after → (n : ℕ) → a ≡ SweepAnswer.Records n → n ≤ tableBytes
 unfolding Swept
 swept-few p l s o w a after x n e =
     let y = subst (λ (b : SweepAnswer). Swept p l s o w b after) e x in
     written-few p l s o n after (passed-first (swept p l s) (output p l s o) (passed-later (lentForSweep p l s o w) (swept p l s ++ output p l s o) (y .0))) (y .1)
 
-pub rewritten-few : (p q r l s o w : List ℕ) (a : RewriteAnswer) (after : List ℕ) → Rewritten p q r l s o w a after → (n : ℕ) → a ≡ RewriteAnswer.Records n → n ≤ sweptRecords
+pub rewritten-few : (p q r l s o w : List ℕ) (a : RewriteAnswer) (after : List ℕ) → Rewritten p q r l s o w a after → (n : ℕ) → a ≡ RewriteAnswer.Records n → n ≤ tableBytes
 unfolding Rewritten
 rewritten-few p q r l s o w a after x n e =
     let y = subst (λ (b : RewriteAnswer). Rewritten p q r l s o w b after) e x in
@@ -158,7 +158,7 @@ rewritten-few p q r l s o w a after x n e =
     written-few q l s o n after (passed-first (swept q l s) (output q l s o) u) (y .1)
 
 -- the numbers of answers fit
-pub fits-records : (n : ℕ) → n ≤ sweptRecords → SFits w64 (pos n)
+pub fits-records : (n : ℕ) → n ≤ tableBytes → SFits w64 (pos n)
 fits-records n h = record { sfits = omega arith }
 
 pub fits-refusal : (c : Refusal) → SFits w64 (refusalCode c)
@@ -170,6 +170,8 @@ fits-refusal Refusal.RecipeRecord = record { sfits = lit< tt }
 fits-refusal Refusal.RecipeTerm = record { sfits = lit< tt }
 fits-refusal Refusal.RecipeRedex = record { sfits = lit< tt }
 fits-refusal Refusal.Tables = record { sfits = lit< tt }
+fits-refusal Refusal.LineRoom = record { sfits = lit< tt }
+fits-refusal Refusal.ValueRoom = record { sfits = lit< tt }
 fits-refusal Refusal.Assignment = record { sfits = lit< tt }
 fits-refusal Refusal.SweptForm = record { sfits = lit< tt }
 fits-refusal Refusal.Output = record { sfits = lit< tt }

@@ -27,3 +27,7 @@ cleared-other l n = simp (ne-eqb (length l) tableBytes n)
 pub cleared-all : (l m : List ℕ) (i : ℕ) → length l ≡ tableBytes → i ≡ length l → m ≡ zeroed i l → m ≡ cleared l
 cleared-all l m i e p q =
     q ∙ ap (replicate i 0 ++_) (drop-of-length-le l {i = i} (omega arith)) ∙ append-nil (replicate i 0) ∙ ap (λ (n : ℕ). replicate n 0) (p ∙ e) ∙ simp (eq-eqb (length l) tableBytes e)
+
+-- a work area that a search used
+pub cleared-same : (l m : List ℕ) → length m ≡ length l → length l ≡ tableBytes → cleared m ≡ cleared l
+cleared-same l m e f = simp (eq-eqb (length m) tableBytes (e ∙ f), eq-eqb (length l) tableBytes f)

@@ -5,27 +5,29 @@ use mathlib.Core.Bool.{Bool, true, false, not}
 use mathlib.Core.Option.{Option, none, some}
 use mathlib.Core.List.{List, _++_}
 use mathlib.Core.Logic.{_⊎_, inl, inr, ⊎-elim}
-use Prim.Native.Nat.{ℕ, _*_, _%_, _<_}
+use Prim.Native.Nat.{ℕ, _*_, _%_, _≤_, _<_}
+use native.Mathlib.Decide.{decLt}
+use native.Mathlib.Omega.{arith}
 use lib.Dec.{eqb}
 use lib.ListN.{length}
 use Rattle.terms.specs.Figures.{variables, tableBytes}
 use Rattle.terms.specs.Term.{Term, Occurs}
 use Rattle.terms.specs.Layout.{Stored}
-use Rattle.terms.specs.Refusal.{Row, Refused, Passed, BadTable, Filled, OccursIn, assignmentTables, outputTable, assignment}
+use Rattle.terms.specs.Refusal.{Row, Refused, Passed, BadTable, Filled, OccursIn, listTables, assignmentTables, pattern, recipe, assignment}
 use Rattle.terms.specs.Sweep.{fill}
 use Rattle.terms.proofs.Tests.{by-eqb}
 use Rattle.terms.proofs.Refusal.{refused-first, refused-later, passed-both}
 use Rattle.terms.proofs.Table.{encode-one}
 use Rattle.terms.proofs.Occurs.{occurs-below, Chosen, chosen-values}
 use Rattle.records.specs.Tests.{Says}
-use Rattle.records.specs.Checks.{Answers, Pattern}
+use Rattle.records.specs.Checks.{Answers, Pattern, Recipe}
 use Rattle.assignments.specs.declared.Entry.{Entry}
 use Rattle.assignments.specs.Entries.{Read, Given, AllGiven}
 use Rattle.assignments.proofs.Entries.{given-stored, stored-given, occurs-mentions, mentions-occurs}
 use Rattle.matcher.specs.declared.Verdict.{Verdict}
 use Rattle.matcher.specs.declared.Refusal.{Refusal}
-use Rattle.matcher.specs.Operations.{number}
-use Rattle.matcher.specs.Steps.{Judged, firstOf, Ready}
+use Rattle.matcher.specs.Operations.{number, lentForList}
+use Rattle.matcher.specs.Steps.{Judged, firstOf, tableRow, areaRow, Ready, Listable}
 
 -- one step after the other
 module _ (rows : List Row) (W : Type 0) (v : Verdict) (x : Judged rows W v) where
@@ -78,31 +80,53 @@ pub says-bad : (place : ℕ) (l : List ℕ) (n : ℕ) → ¬ (tableBytes < lengt
 says-bad place l n h e = by-eqb (λ b. Says (not b) (BadTable place l)) n 0 (λ z. ⊎-elim h (λ x. x (sym e ∙ z))) (λ z. inr (λ y. z (e ∙ y)))
 
 -- the rows of tables
+module _ (place : ℕ) (l : List ℕ) where
+  pub bad-table : BadTable place l → Judged (tableRow place l) (length l ≤ tableBytes) (Verdict.Refused Refusal.Tables)
+  unfolding Judged
+  bad-table b = inl (b, refl)
+
+  pub good-table : ¬ BadTable place l → Judged (tableRow place l) (length l ≤ tableBytes) Verdict.Right
+  unfolding Judged
+  good-table b = ((b, tt), go (decLt tableBytes (length l)))
+    where
+      go : Dec (tableBytes < length l) → length l ≤ tableBytes
+      go (yes h) = absurd (b (inl h))
+      go (no h) = omega arith
+
+module _ (w : List ℕ) where
+  pub bad-area : ¬ (length w ≡ tableBytes) → Judged (areaRow w) (length w ≡ tableBytes) (Verdict.Refused Refusal.Tables)
+  unfolding Judged
+  bad-area n = inl (n, refl)
+
+  pub good-area : length w ≡ tableBytes → Judged (areaRow w) (length w ≡ tableBytes) Verdict.Right
+  unfolding Judged
+  good-area e = ((λ x. x e, tt), e)
+
 module _ (l s w : List ℕ) where
   pub bad-line : ¬ (length l ≡ 4 * variables) → Judged (assignmentTables l s w) (length l ≡ 4 * variables) (Verdict.Refused Refusal.Tables)
   unfolding Judged
   bad-line n = inl (n, refl)
 
-  pub bad-values : length l ≡ 4 * variables → BadTable 4 s → Judged (assignmentTables l s w) (length l ≡ 4 * variables) (Verdict.Refused Refusal.Tables)
+  pub good-line :
+      (W : Type 0) (v : Verdict) → length l ≡ 4 * variables → Judged (tableRow 4 s ++ areaRow w) W v → Judged (assignmentTables l s w) (length l ≡ 4 * variables) v
   unfolding Judged
-  bad-values e b = inr (λ n. n e, inl (b, refl))
+  good-line W Verdict.Right e x = ((λ n. n e, x .0), e)
+  good-line W (Verdict.Refused c) e x = inr (λ n. n e, x)
 
-  pub bad-area : length l ≡ 4 * variables → ¬ BadTable 4 s → ¬ (length w ≡ tableBytes) → Judged (assignmentTables l s w) (length l ≡ 4 * variables) (Verdict.Refused Refusal.Tables)
-  unfolding Judged
-  bad-area e b n = inr (λ x. x e, inr (b, inl (n, refl)))
+-- the rows that list passes
+judged-more : (rows : List Row) (W X : Type 0) (v : Verdict) → (W → X) → Judged rows W v → Judged rows X v
+unfolding Judged
+judged-more rows W X Verdict.Right f z = (z .0, f (z .1))
+judged-more rows W X (Verdict.Refused c) f z = z
 
-  pub good-tables : length l ≡ 4 * variables → ¬ BadTable 4 s → length w ≡ tableBytes → Judged (assignmentTables l s w) (length l ≡ 4 * variables) Verdict.Right
-  unfolding Judged
-  good-tables e b n = ((λ x. x e, (b, (λ x. x n, tt))), e)
-
-module _ (o : List ℕ) where
-  pub bad-output : BadTable 4 o → Judged (outputTable o) (Unit {0}) (Verdict.Refused Refusal.Tables)
-  unfolding Judged
-  bad-output b = inl (b, refl)
-
-  pub good-output : ¬ BadTable 4 o → Judged (outputTable o) (Unit {0}) Verdict.Right
-  unfolding Judged
-  good-output b = ((b, tt), tt)
+pub judged-list :
+    (p t l s w : List ℕ) (a b r : Verdict)
+    → Judged (listTables l s w) ((length l ≤ tableBytes) × ((length s ≤ tableBytes) × (length w ≡ tableBytes))) a
+    → Judged (pattern p ++ recipe t) (Pattern p × Recipe t) b → r ≡ firstOf a b → Judged (lentForList p t l s w) (Listable p t l s w) r
+judged-list p t l s w a b r x y e =
+    judged-more _ _ _ r
+    (λ z. record { pattern-checked = z .1 .0; recipe-checked = z .1 .1; lines-most = z .0 .0; values-most = z .0 .1 .0; area = z .0 .1 .1 })
+    (judged-first (listTables l s w) (pattern p ++ recipe t) _ _ a b r x y e)
 
 -- each variable of a pattern has a value, or one has none
 module _ (p l s : List ℕ) (a : List Entry) (e : length l ≡ 4 * variables) (r : Read l a variables) (x : Pattern p) where

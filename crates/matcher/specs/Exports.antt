@@ -1,19 +1,24 @@
--- The operations' answers as one number: records, or 1 and 0 for yes and no, or minus the refusal number.
+-- The operations' answers as one number: lines, records, or 1 and 0 for yes and no, or minus the refusal number.
 --   refusalCode c     minus document 01's number of the refusal c
---   checkCode a, sweepCode a, rewriteCode a    the number of an answer
---   CheckedAs, SweptAs, RewrittenAs            some answer that the operation may give has this number
+--   listCode a, checkCode a, sweepCode a, rewriteCode a   the number of an answer
+--   ListedAs, CheckedAs, SweptAs, RewrittenAs   some answer that the operation may give has this number
 use mathlib.Core.Path.{_≡_}
 use mathlib.Core.List.{List}
 use Prim.Native.Nat.{ℕ}
 use lib.IntN.{ℤ, pos, negℤ}
 use Rattle.matcher.specs.declared.Refusal.{Refusal}
+use Rattle.matcher.specs.declared.ListAnswer.{ListAnswer}
 use Rattle.matcher.specs.declared.CheckAnswer.{CheckAnswer}
 use Rattle.matcher.specs.declared.SweepAnswer.{SweepAnswer}
 use Rattle.matcher.specs.declared.RewriteAnswer.{RewriteAnswer}
-use Rattle.matcher.specs.Operations.{number, Checked, Swept, Rewritten}
+use Rattle.matcher.specs.Operations.{number, Listed, Checked, Swept, Rewritten}
 
 abbrev pub refusalCode : Refusal → ℤ
 refusalCode c = negℤ (pos (number c))
+
+abbrev pub listCode : ListAnswer → ℤ
+listCode (ListAnswer.Lines n) = pos n
+listCode (ListAnswer.Refused c) = refusalCode c
 
 abbrev pub checkCode : CheckAnswer → ℤ
 checkCode CheckAnswer.Yes = pos 1
@@ -27,6 +32,9 @@ sweepCode (SweepAnswer.Refused c) = refusalCode c
 abbrev pub rewriteCode : RewriteAnswer → ℤ
 rewriteCode (RewriteAnswer.Records n) = pos n
 rewriteCode (RewriteAnswer.Refused c) = refusalCode c
+
+abbrev pub ListedAs : List ℕ → List ℕ → List ℕ → List ℕ → List ℕ → ℤ → List ℕ → List ℕ → Type 0
+ListedAs p r l s w k lines-after values-after = (a : ListAnswer) × Listed p r l s w a lines-after values-after × (k ≡ listCode a)
 
 abbrev pub CheckedAs : List ℕ → List ℕ → List ℕ → List ℕ → List ℕ → ℤ → Type 0
 CheckedAs p r l s w k = (a : CheckAnswer) × Checked p r l s w a × (k ≡ checkCode a)

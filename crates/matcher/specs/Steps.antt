@@ -5,20 +5,34 @@
 --   SweptSide ..       the swept form of the filled pattern, or that some part's is too long
 --   Matched ..         whether the filled pattern sweeps to the recipe
 --   Put ..             what writing a swept form answers and leaves
+--   tableRow n l, areaRow w   the row 8 of a table of places of n bytes, and of the work area
+--   Listable p t l s w   the tables that list is lent are ones that it searches
+--   Searchable ..      what counting the lines needs
+--   Numbered p Q m n   n counts lines that list Q and the records of their values, or they are more than m
+--   Counted p t m n    so it is for the matches of the pattern p and the recipe t
+--   Room p t l s       a full listing of p and t fits the tables l and s
+--   Enumerated ..      what listing the matches answers and leaves
 use mathlib.Core.Path.{_≡_}
-use mathlib.Core.List.{List, _++_}
-use Prim.Native.Nat.{ℕ, _*_}
+use mathlib.Core.List.{List, [], _∷_, _++_}
+use Prim.Native.Nat.{ℕ, _*_, _≤_, _<_}
 use lib.ListN.{length}
-use Rattle.terms.specs.Figures.{variables}
+use Rattle.terms.specs.Figures.{variables, tableBytes}
 use Rattle.terms.specs.Term.{Term}
-use Rattle.terms.specs.Refusal.{Row, Refused, Passed, Filled, Matches, swept, output}
-use Rattle.records.specs.Checks.{Pattern}
+use Rattle.terms.specs.Table.{encode}
+use Rattle.terms.specs.Listing.{Line}
+use Rattle.terms.specs.Layout.{valuesRecords}
+use Rattle.terms.specs.Refusal.{Row, Refused, Passed, BadTable, BadArea, Filled, Matches, OccursIn, listing, swept, output}
+use Rattle.matching.proofs.Lists.{Predicate, Lists}
+use Rattle.matching.proofs.Lister.{Sweeps}
+use Rattle.records.specs.Checks.{Pattern, Recipe}
 use Rattle.sweeping.specs.declared.Length.{Length}
 use Rattle.sweeping.specs.Swept as Sweeping
+use Rattle.listing.specs.declared.Tally.{Tally}
 use Rattle.matcher.specs.declared.Verdict.{Verdict}
 use Rattle.matcher.specs.declared.SweepAnswer.{SweepAnswer}
+use Rattle.matcher.specs.declared.ListAnswer.{ListAnswer}
 use Rattle.matcher.specs.declared.Match.{Match}
-use Rattle.matcher.specs.Operations.{number, Written}
+use Rattle.matcher.specs.Operations.{number, Written, lentLines, lentRecords, ListingOf, WrittenLines, NoRoom}
 
 -- "Each is given when its cause holds and no earlier one does, and at no other time."
 unfoldable pub Judged : List Row → Type 0 → Verdict → Type 0
@@ -48,3 +62,44 @@ Matched p l s r Match.TooLong = Refused (swept p l s) 12
 unfoldable pub Put : List ℕ → List ℕ → List ℕ → List ℕ → SweepAnswer → List ℕ → Type 0
 Put p l s o (SweepAnswer.Records n) after = Passed (swept p l s ++ output p l s o) × Written p l s o n after
 Put p l s o (SweepAnswer.Refused c) after = Refused (swept p l s ++ output p l s o) (number c) × (after ≡ o)
+
+-- a row 8 by itself
+abbrev pub tableRow : ℕ → List ℕ → List Row
+tableRow place l = (8, BadTable place l) ∷ []
+
+abbrev pub areaRow : List ℕ → List Row
+areaRow w = (8, BadArea w) ∷ []
+
+pub record Listable (p t l s w : List ℕ) : Type 0 where
+  pub pattern-checked : Pattern p
+  pub recipe-checked : Recipe t
+  pub lines-most : length l ≤ tableBytes
+  pub values-most : length s ≤ tableBytes
+  pub area : length w ≡ tableBytes
+
+pub record Searchable (p t : List ℕ) (limit : ℕ) (w : List ℕ) : Type 0 where
+  pub pattern-checked : Pattern p
+  pub recipe-checked : Recipe t
+  pub limited : limit < tableBytes
+  pub area : length w ≡ tableBytes
+
+-- the lines of a listing, in any order
+pub record Numbered (p : List ℕ) (Q : Predicate) (limit : ℕ) (n : Tally) : Type 0 where
+  pub found : List Line
+  pub lists : Lists variables (OccursIn p) Q found
+  pub lines-are : n .lines ≤ limit → n .lines ≡ length found
+  pub records-are : n .lines ≤ limit → n .records ≡ valuesRecords found
+  pub over : limit < n .lines → limit < length found
+
+pub record Counted (p t : List ℕ) (limit : ℕ) (n : Tally) : Type 0 where
+  pub answer : (x y : Term) → p ≡ encode x → t ≡ encode y → Numbered p (Sweeps x y) limit n
+
+-- a full listing that fits
+pub record Room (p t l s : List ℕ) : Type 0 where
+  pub lines : List Line
+  pub listing-of : ListingOf p t lines
+  pub fits : Passed (listing (lentLines l) (lentRecords s) lines)
+
+unfoldable pub Enumerated : List ℕ → List ℕ → List ℕ → List ℕ → ListAnswer → List ℕ → List ℕ → Type 0
+Enumerated p r l s (ListAnswer.Lines n) lines-after values-after = WrittenLines p r l s n lines-after values-after
+Enumerated p r l s (ListAnswer.Refused c) lines-after values-after = NoRoom p r l s (number c) × (lines-after ≡ l) × (values-after ≡ s)

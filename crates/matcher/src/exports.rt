@@ -2,8 +2,9 @@
 
 ghost use mathlib.Core.Path.{_≡_};
 ghost use Rattle.matcher.specs.Operations.{cleared};
-ghost use Rattle.matcher.specs.Exports.{refusalCode, CheckedAs, SweptAs, RewrittenAs};
+ghost use Rattle.matcher.specs.Exports.{refusalCode, ListedAs, CheckedAs, SweptAs, RewrittenAs};
 use crate::CheckAnswer;
+use crate::ListAnswer;
 use crate::Refusal;
 use crate::RewriteAnswer;
 use crate::SweepAnswer;
@@ -21,10 +22,30 @@ fn refusal_code(c: Refusal) -> i64
         Refusal::RecipeTerm => -6,
         Refusal::RecipeRedex => -7,
         Refusal::Tables => -8,
+        Refusal::LineRoom => -9,
+        Refusal::ValueRoom => -10,
         Refusal::Assignment => -11,
         Refusal::SweptForm => -12,
         Refusal::Output => -13,
         Refusal::NoMatch => -14,
+    }
+}
+
+#[no_mangle]
+pub extern "C" fn onestep_list(
+    pattern: &[u8],
+    recipe: &[u8],
+    lines: &mut [u8],
+    values: &mut [u8],
+    work: &mut [u8],
+) -> i64
+    ensures answer { λ r. ⌜ ListedAs (now (pattern .entry)) (now (recipe .entry)) (now (lines .entry)) (now (values .entry)) (now (work .entry)) r (now (lines .exit)) (now (values .exit)) ⌝ }
+    ensures area { λ _. ⌜ now (work .exit) ≡ cleared (now (work .entry)) ⌝ }
+{
+    let answer = crate::list(pattern, recipe, lines, values, work);
+    match answer {
+        ListAnswer::Lines(n) => n as i64,
+        ListAnswer::Refused(c) => refusal_code(c),
     }
 }
 

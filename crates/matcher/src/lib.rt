@@ -1,11 +1,14 @@
-// The operations: sweep, check and rewrite.
+// The operations: list, check, sweep and rewrite.
 //
 // Each operation judges the tables it is lent, in document 01's order, and refuses with the number of the first cause that holds; else it
 // answers as document 01 says. It promises its answer and the bytes it leaves for every input there is, refusals included: the tables are
-// as they were, and the work area is all zero unless its own length was wrong. It rests on `records`, `assignments` and `sweeping`.
+// as they were, and the work area is all zero unless its own length was wrong. It rests on `records`, `assignments`, `sweeping`, `listing` and
+// `search`.
 
 mod exports;
+mod listings;
 
+use listing::LINE;
 use records::PatternCheck;
 use records::RECORD;
 use records::RecipeCheck;
@@ -13,16 +16,16 @@ use records::VARIABLES;
 use sweeping::Length;
 use sweeping::SWEPT_BYTES;
 ghost use mathlib.Core.Path.{_≡_};
-ghost use mathlib.Core.List.{List};
+ghost use mathlib.Core.List.{_++_};
 ghost use mathlib.Core.Logic.{_⊎_};
 ghost use Prim.Native.Nat.{ℕ, _+_, _*_, _≤_, _<_};
 ghost use lib.ListN.{length};
-ghost use Rattle.terms.specs.Figures.{variables};
-ghost use Rattle.terms.specs.Refusal.{OccursIn, BadTable, assignmentTables, outputTable, pattern as patternRows, recipe as recipeRows, assignment};
+ghost use Rattle.terms.specs.Figures.{variables, tableBytes};
+ghost use Rattle.terms.specs.Refusal.{OccursIn, BadTable, assignmentTables, pattern as patternRows, recipe as recipeRows, assignment};
 ghost use Rattle.records.specs.Tests.{Says};
 ghost use Rattle.records.specs.Checks.{Pattern, Recipe};
-ghost use Rattle.matcher.specs.Operations.{lentForCheck, lentForSweep, lentForRewrite, cleared, overwritten, Checked, Swept, Rewritten};
-ghost use Rattle.matcher.specs.Steps.{Judged, firstOf, Ready, SweptSide, Matched, Put};
+ghost use Rattle.matcher.specs.Operations.{number, lentForList, lentForCheck, lentForSweep, lentForRewrite, cleared, Listed, NineExactly, Checked, Swept, Rewritten};
+ghost use Rattle.matcher.specs.Steps.{Judged, firstOf, tableRow, areaRow, Ready, SweptSide, Matched, Put, Listable};
 
 // The bytes of a work area, and the most of a line, value or output table.
 const TABLE_BYTES: usize = 65536;
@@ -37,6 +40,8 @@ pub enum Refusal {
     RecipeTerm,
     RecipeRedex,
     Tables,
+    LineRoom,
+    ValueRoom,
     Assignment,
     SweptForm,
     Output,
@@ -59,6 +64,11 @@ pub enum RewriteAnswer {
     Refused(Refusal),
 }
 
+pub enum ListAnswer {
+    Lines(usize),
+    Refused(Refusal),
+}
+
 // Whether a filled pattern sweeps to the recipe.
 enum Match {
     Yes,
@@ -72,6 +82,28 @@ enum Verdict {
     Refused(Refusal),
 }
 
+// Document 01's number of a refusal.
+pub fn number_of(c: Refusal) -> u64
+    ensures { λ r. ⌜ r ≡ number c ⌝ }
+{
+    match c {
+        Refusal::PatternLength => 1,
+        Refusal::PatternRecord => 2,
+        Refusal::PatternTerm => 3,
+        Refusal::RecipeLength => 4,
+        Refusal::RecipeRecord => 5,
+        Refusal::RecipeTerm => 6,
+        Refusal::RecipeRedex => 7,
+        Refusal::Tables => 8,
+        Refusal::LineRoom => 9,
+        Refusal::ValueRoom => 10,
+        Refusal::Assignment => 11,
+        Refusal::SweptForm => 12,
+        Refusal::Output => 13,
+        Refusal::NoMatch => 14,
+    }
+}
+
 // Whether a table's length is no multiple of `place` bytes, or too large.
 fn is_bad_table(s: &[u8], place: usize) -> bool
     requires { ⌜ 0 < place ⌝ }
@@ -83,15 +115,26 @@ fn is_bad_table(s: &[u8], place: usize) -> bool
     s.len() % place != 0
 }
 
-// The tables that an assignment comes in, and the work area.
-fn judge_tables(line: &[u8], values: &[u8], work: &[u8]) -> Verdict
-    ensures { λ r. ⌜ Judged (assignmentTables (now (line .entry)) (now (values .entry)) (now (work .entry))) (length (now (line .entry)) ≡ 4 * variables) r ⌝ }
+// A table of places of so many bytes.
+fn judge_table(s: &[u8], place: usize) -> Verdict
+    requires { ⌜ 0 < place ⌝ }
+    ensures { λ r. ⌜ Judged (tableRow place (now (s .entry))) (length (now (s .entry)) ≤ tableBytes) r ⌝ }
 {
-    if line.len() != RECORD * VARIABLES {
+    if is_bad_table(s, place) {
         return Verdict::Refused(Refusal::Tables);
     }
-    if is_bad_table(values, RECORD) {
-        return Verdict::Refused(Refusal::Tables);
+    Verdict::Right
+}
+
+// A value table and the work area.
+fn judge_room(values: &[u8], work: &[u8]) -> Verdict
+    ensures { λ r. ⌜ Judged (tableRow 4 (now (values .entry)) ++ areaRow (now (work .entry)))
+        ((length (now (values .entry)) ≤ tableBytes) × (length (now (work .entry)) ≡ tableBytes)) r ⌝ }
+{
+    let verdict = judge_table(values, RECORD);
+    match verdict {
+        Verdict::Refused(c) => return Verdict::Refused(c),
+        Verdict::Right => {}
     }
     if work.len() != TABLE_BYTES {
         return Verdict::Refused(Refusal::Tables);
@@ -99,13 +142,14 @@ fn judge_tables(line: &[u8], values: &[u8], work: &[u8]) -> Verdict
     Verdict::Right
 }
 
-fn judge_output(out: &[u8]) -> Verdict
-    ensures { λ r. ⌜ Judged (outputTable (now (out .entry))) (Unit {0}) r ⌝ }
+// The tables that an assignment comes in, and the work area.
+fn judge_tables(line: &[u8], values: &[u8], work: &[u8]) -> Verdict
+    ensures { λ r. ⌜ Judged (assignmentTables (now (line .entry)) (now (values .entry)) (now (work .entry))) (length (now (line .entry)) ≡ 4 * variables) r ⌝ }
 {
-    if is_bad_table(out, RECORD) {
+    if line.len() != RECORD * VARIABLES {
         return Verdict::Refused(Refusal::Tables);
     }
-    Verdict::Right
+    judge_room(values, work)
 }
 
 // A pattern, or a right side.
@@ -170,6 +214,16 @@ fn judge_sides(left: &[u8], right: &[u8], line: &[u8], values: &[u8]) -> Verdict
     judge_assignment(right, line, values)
 }
 
+// All that list is lent: 8; pattern 1, 2, 3; recipe 4 to 7.
+fn judge_list(pattern: &[u8], recipe: &[u8], lines: &[u8], values: &[u8], work: &[u8]) -> Verdict
+    ensures { λ r. ⌜ Judged (lentForList (now (pattern .entry)) (now (recipe .entry)) (now (lines .entry)) (now (values .entry)) (now (work .entry)))
+        (Listable (now (pattern .entry)) (now (recipe .entry)) (now (lines .entry)) (now (values .entry)) (now (work .entry))) r ⌝ }
+{
+    let sides = first(judge_pattern(pattern), judge_recipe(recipe));
+    let tables = first(judge_table(lines, LINE), judge_room(values, work));
+    first(tables, sides)
+}
+
 // All that check is lent: 8; pattern 1, 2, 3; recipe 4 to 7; 11.
 fn judge_check(pattern: &[u8], recipe: &[u8], line: &[u8], values: &[u8], work: &[u8]) -> Verdict
     ensures { λ r. ⌜ Judged (lentForCheck (now (pattern .entry)) (now (recipe .entry)) (now (line .entry)) (now (values .entry)) (now (work .entry)))
@@ -189,7 +243,7 @@ fn judge_sweep(pattern: &[u8], line: &[u8], values: &[u8], out: &[u8], work: &[u
     ensures { λ r. ⌜ Judged (lentForSweep (now (pattern .entry)) (now (line .entry)) (now (values .entry)) (now (out .entry)) (now (work .entry)))
         (Ready (now (pattern .entry)) (now (line .entry)) (now (values .entry))) r ⌝ }
 {
-    let sides = first(judge_output(out), judge_pattern(pattern));
+    let sides = first(judge_table(out, RECORD), judge_pattern(pattern));
     let lent = first(judge_tables(line, values, work), sides);
     match lent {
         Verdict::Refused(c) => return Verdict::Refused(c),
@@ -215,7 +269,7 @@ fn judge_rewrite(
     let other = judge_pattern(right);
     let sides = first(whole, other);
     let terms = first(judge_pattern(left), sides);
-    let tables = first(judge_output(out), terms);
+    let tables = first(judge_table(out, RECORD), terms);
     let lent = first(judge_tables(line, values, work), tables);
     match lent {
         Verdict::Refused(c) => return Verdict::Refused(c),
@@ -278,6 +332,31 @@ fn put_swept(p: &[u8], line: &[u8], values: &[u8], out: &mut [u8]) -> SweepAnswe
     }
     sweeping::copy_into(&swept[0..n * RECORD], out, 0);
     SweepAnswer::Records(n)
+}
+
+// Lists the matches of a pattern and a recipe.
+pub fn list(
+    pattern: &[u8],
+    recipe: &[u8],
+    lines: &mut [u8],
+    values: &mut [u8],
+    work: &mut [u8],
+) -> ListAnswer
+    ensures answer { λ r. ⌜ Listed (now (pattern .entry)) (now (recipe .entry)) (now (lines .entry)) (now (values .entry)) (now (work .entry)) r (now (lines .exit)) (now (values .exit)) ⌝ }
+    ensures nine { λ r. ⌜ NineExactly (now (pattern .entry)) (now (recipe .entry)) (now (lines .entry)) (now (values .entry)) (now (work .entry)) r ⌝ }
+    ensures area { λ _. ⌜ now (work .exit) ≡ cleared (now (work .entry)) ⌝ }
+{
+    let verdict = judge_list(pattern, recipe, lines, values, work);
+    match verdict {
+        Verdict::Refused(c) => {
+            clear(work);
+            return ListAnswer::Refused(c);
+        }
+        Verdict::Right => {}
+    }
+    let answer = listings::enumerate(pattern, recipe, lines, values, work);
+    clear(work);
+    answer
 }
 
 // Whether the assignment in a line and a value table is a match of a pattern and a recipe.

@@ -19,8 +19,8 @@ judge-pattern-requires-2 c κs = search needs
 first-requires-2 : tie.Need-first-requires-2
 first-requires-2 c κs = search needs
 
-judge-output-requires : tie.Need-judge-output-requires
-judge-output-requires c κs = search needs
+judge-table-requires : tie.Need-judge-table-requires
+judge-table-requires c κs = search needs
 
 first-requires-3 : tie.Need-first-requires-3
 first-requires-3 c κs = search needs
@@ -35,16 +35,16 @@ enum-known-lent : tie.Need-enum-known-lent
 enum-known-lent c = search needs
 
 returns : tie.Need-returns
-returns c = judged-stop _ _ _ (judged-first _ _ _ _ _ _ _ (c .before .before .before .before .judge-tables .ensures) (judged-first _ _ _ _ _ _ _ (c .before .before .before .before .before .before .judge-output .ensures) (judged-first _ _ _ _ _ _ _ (c .before .before .before .before .before .before .before .before .judge-pattern2 .ensures) (judged-first _ _ _ _ _ _ _ (c .before .before .before .before .before .before .before .before .before .before .before .judge-recipe .ensures) (c .before .before .before .before .before .before .before .before .before .before .judge-pattern .ensures) (c .before .before .before .before .before .before .before .before .before .first .ensures)) (c .before .before .before .before .before .before .before .first2 .ensures)) (c .before .before .before .before .before .first3 .ensures)) (c .before .before .before .first4 .ensures)) _ _ _ (c .before .lent .given .1)
+returns c = judged-stop _ _ _ (judged-first _ _ _ _ _ _ _ (c .before .before .before .before .judge-tables .ensures) (judged-first _ _ _ _ _ _ _ (c .before .before .before .before .before .before .judge-table .ensures) (judged-first _ _ _ _ _ _ _ (c .before .before .before .before .before .before .before .before .judge-pattern2 .ensures) (judged-first _ _ _ _ _ _ _ (c .before .before .before .before .before .before .before .before .before .before .before .judge-recipe .ensures) (c .before .before .before .before .before .before .before .before .before .before .judge-pattern .ensures) (c .before .before .before .before .before .before .before .before .before .first .ensures)) (c .before .before .before .before .before .before .before .first2 .ensures)) (c .before .before .before .before .before .first3 .ensures)) (c .before .before .before .first4 .ensures)) _ _ _ (c .before .lent .given .1)
 
 enum-told : tie.Need-enum-told
 enum-told c = search needs
 
 judge-sides-requires : tie.Need-judge-sides-requires
-judge-sides-requires c κs = let x = right-known _ _ _ (judged-first _ _ _ _ _ _ _ (c .before .before .before .judge-tables .ensures) (judged-first _ _ _ _ _ _ _ (c .before .before .before .before .before .judge-output .ensures) (judged-first _ _ _ _ _ _ _ (c .before .before .before .before .before .before .before .judge-pattern2 .ensures) (judged-first _ _ _ _ _ _ _ (c .before .before .before .before .before .before .before .before .before .before .judge-recipe .ensures) (c .before .before .before .before .before .before .before .before .before .judge-pattern .ensures) (c .before .before .before .before .before .before .before .before .first .ensures)) (c .before .before .before .before .before .before .first2 .ensures)) (c .before .before .before .before .first3 .ensures)) (c .before .before .first4 .ensures)) (c .enum-told .given .1) in (x .1 .1 .0, x .1 .1 .1 .1, x .0)
+judge-sides-requires c κs = let x = right-known _ _ _ (judged-first _ _ _ _ _ _ _ (c .before .before .before .judge-tables .ensures) (judged-first _ _ _ _ _ _ _ (c .before .before .before .before .before .judge-table .ensures) (judged-first _ _ _ _ _ _ _ (c .before .before .before .before .before .before .before .judge-pattern2 .ensures) (judged-first _ _ _ _ _ _ _ (c .before .before .before .before .before .before .before .before .before .before .judge-recipe .ensures) (c .before .before .before .before .before .before .before .before .before .judge-pattern .ensures) (c .before .before .before .before .before .before .before .before .first .ensures)) (c .before .before .before .before .before .before .first2 .ensures)) (c .before .before .before .before .first3 .ensures)) (c .before .before .first4 .ensures)) (c .enum-told .given .1) in (x .1 .1 .0, x .1 .1 .1 .1, x .0)
 
 returns-2 : tie.Need-returns-2
-returns-2 c = judged-next _ _ _ (judged-first _ _ _ _ _ _ _ (c .before .before .before .before .judge-tables .ensures) (judged-first _ _ _ _ _ _ _ (c .before .before .before .before .before .before .judge-output .ensures) (judged-first _ _ _ _ _ _ _ (c .before .before .before .before .before .before .before .before .judge-pattern2 .ensures) (judged-first _ _ _ _ _ _ _ (c .before .before .before .before .before .before .before .before .before .before .before .judge-recipe .ensures) (c .before .before .before .before .before .before .before .before .before .before .judge-pattern .ensures) (c .before .before .before .before .before .before .before .before .before .first .ensures)) (c .before .before .before .before .before .before .before .first2 .ensures)) (c .before .before .before .before .before .first3 .ensures)) (c .before .before .before .first4 .ensures)) _ _ _ _ (c .before .enum-told .given .1) (λ w x. (x, w .1 .1 .1 .0)) (c .judge-sides .ensures)
+returns-2 c = judged-next _ _ _ (judged-first _ _ _ _ _ _ _ (c .before .before .before .before .judge-tables .ensures) (judged-first _ _ _ _ _ _ _ (c .before .before .before .before .before .before .judge-table .ensures) (judged-first _ _ _ _ _ _ _ (c .before .before .before .before .before .before .before .before .judge-pattern2 .ensures) (judged-first _ _ _ _ _ _ _ (c .before .before .before .before .before .before .before .before .before .before .before .judge-recipe .ensures) (c .before .before .before .before .before .before .before .before .before .before .judge-pattern .ensures) (c .before .before .before .before .before .before .before .before .before .first .ensures)) (c .before .before .before .before .before .before .before .first2 .ensures)) (c .before .before .before .before .before .first3 .ensures)) (c .before .before .before .first4 .ensures)) _ _ _ _ (c .before .enum-told .given .1) (λ w x. (x, w .1 .1 .1 .0)) (c .judge-sides .ensures)
 
 pub judge-rewrite-spec : {M : Type 1} → statement M
 judge-rewrite-spec =
@@ -55,7 +55,7 @@ judge-rewrite-spec =
     first-requires
     judge-pattern-requires-2
     first-requires-2
-    judge-output-requires
+    judge-table-requires
     first-requires-3
     judge-tables-requires
     first-requires-4

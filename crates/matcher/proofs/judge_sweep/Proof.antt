@@ -4,8 +4,8 @@ use borrow.Author.Needs.{needs}
 use Rattle.matcher.proofs.judge_sweep.Statement.{statement}
 use Rattle.matcher.proofs.judge_sweep.Tie as tie
 
-judge-output-requires : tie.Need-judge-output-requires
-judge-output-requires c κs = search needs
+judge-table-requires : tie.Need-judge-table-requires
+judge-table-requires c κs = search needs
 
 judge-pattern-requires : tie.Need-judge-pattern-requires
 judge-pattern-requires c κs = search needs
@@ -23,22 +23,22 @@ enum-known-lent : tie.Need-enum-known-lent
 enum-known-lent c = search needs
 
 returns : tie.Need-returns
-returns c = judged-stop _ _ _ (judged-first _ _ _ _ _ _ _ (c .before .before .before .before .judge-tables .ensures) (judged-first _ _ _ _ _ _ _ (c .before .before .before .before .before .before .before .judge-output .ensures) (c .before .before .before .before .before .before .judge-pattern .ensures) (c .before .before .before .before .before .first .ensures)) (c .before .before .before .first2 .ensures)) _ _ _ (c .before .lent .given .1)
+returns c = judged-stop _ _ _ (judged-first _ _ _ _ _ _ _ (c .before .before .before .before .judge-tables .ensures) (judged-first _ _ _ _ _ _ _ (c .before .before .before .before .before .before .before .judge-table .ensures) (c .before .before .before .before .before .before .judge-pattern .ensures) (c .before .before .before .before .before .first .ensures)) (c .before .before .before .first2 .ensures)) _ _ _ (c .before .lent .given .1)
 
 enum-told : tie.Need-enum-told
 enum-told c = search needs
 
 judge-assignment-requires : tie.Need-judge-assignment-requires
-judge-assignment-requires c κs = let x = right-known _ _ _ (judged-first _ _ _ _ _ _ _ (c .before .before .before .judge-tables .ensures) (judged-first _ _ _ _ _ _ _ (c .before .before .before .before .before .before .judge-output .ensures) (c .before .before .before .before .before .judge-pattern .ensures) (c .before .before .before .before .first .ensures)) (c .before .before .first2 .ensures)) (c .enum-told .given .1) in (x .1 .1, x .0)
+judge-assignment-requires c κs = let x = right-known _ _ _ (judged-first _ _ _ _ _ _ _ (c .before .before .before .judge-tables .ensures) (judged-first _ _ _ _ _ _ _ (c .before .before .before .before .before .before .judge-table .ensures) (c .before .before .before .before .before .judge-pattern .ensures) (c .before .before .before .before .first .ensures)) (c .before .before .first2 .ensures)) (c .enum-told .given .1) in (x .1 .1, x .0)
 
 returns-2 : tie.Need-returns-2
-returns-2 c = judged-next _ _ _ (judged-first _ _ _ _ _ _ _ (c .before .before .before .before .judge-tables .ensures) (judged-first _ _ _ _ _ _ _ (c .before .before .before .before .before .before .before .judge-output .ensures) (c .before .before .before .before .before .before .judge-pattern .ensures) (c .before .before .before .before .before .first .ensures)) (c .before .before .before .first2 .ensures)) _ _ _ _ (c .before .enum-told .given .1) (λ w x. x) (c .judge-assignment .ensures)
+returns-2 c = judged-next _ _ _ (judged-first _ _ _ _ _ _ _ (c .before .before .before .before .judge-tables .ensures) (judged-first _ _ _ _ _ _ _ (c .before .before .before .before .before .before .before .judge-table .ensures) (c .before .before .before .before .before .before .judge-pattern .ensures) (c .before .before .before .before .before .first .ensures)) (c .before .before .before .first2 .ensures)) _ _ _ _ (c .before .enum-told .given .1) (λ w x. x) (c .judge-assignment .ensures)
 
 pub judge-sweep-spec : {M : Type 1} → statement M
 judge-sweep-spec =
     tie.close
     (tie.spec
-    judge-output-requires
+    judge-table-requires
     judge-pattern-requires
     first-requires
     judge-tables-requires

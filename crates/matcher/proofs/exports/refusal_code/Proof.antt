@@ -41,6 +41,12 @@ enum-told-11 c = search needs
 enum-told-12 : tie.Need-enum-told-12
 enum-told-12 c = search needs
 
+enum-told-13 : tie.Need-enum-told-13
+enum-told-13 c = search needs
+
+enum-told-14 : tie.Need-enum-told-14
+enum-told-14 c = search needs
+
 returns : tie.Need-returns
 returns c = sym (ap refusalCode (c .enum-told .given .1))
 
@@ -77,6 +83,12 @@ returns-11 c = sym (ap refusalCode (c .enum-told11 .given .1))
 returns-12 : tie.Need-returns-12
 returns-12 c = sym (ap refusalCode (c .enum-told12 .given .1))
 
+returns-13 : tie.Need-returns-13
+returns-13 c = sym (ap refusalCode (c .enum-told13 .given .1))
+
+returns-14 : tie.Need-returns-14
+returns-14 c = sym (ap refusalCode (c .enum-told14 .given .1))
+
 pub refusal-code-spec : {M : Type 1} → statement M
 refusal-code-spec =
     tie.close
@@ -93,6 +105,8 @@ refusal-code-spec =
     enum-told-10
     enum-told-11
     enum-told-12
+    enum-told-13
+    enum-told-14
     returns
     returns-2
     returns-3
@@ -104,4 +118,6 @@ refusal-code-spec =
     returns-9
     returns-10
     returns-11
-    returns-12)
+    returns-12
+    returns-13
+    returns-14)
