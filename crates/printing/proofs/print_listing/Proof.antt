@@ -1,0 +1,17 @@
+-- `printing::print_listing` is safe and ends. The table for texts has room for the longest printed line.
+-- Assumes nothing.
+use borrow.Author.Needs.{needs}
+use Rattle.printing.proofs.print_listing.Statement.{statement}
+use Rattle.printing.proofs.print_listing.Tie as tie
+
+slice-aggregate-print-lines : tie.Need-slice-aggregate-print-lines
+slice-aggregate-print-lines c = search needs
+
+print-lines-requires : tie.Need-print-lines-requires
+print-lines-requires c κs = (search needs, c .before .before .before .pre)
+
+returns : tie.Need-returns
+returns c = search needs
+
+pub print-listing-spec : {M : Type 1} → statement M
+print-listing-spec = tie.close (tie.spec slice-aggregate-print-lines print-lines-requires returns)
