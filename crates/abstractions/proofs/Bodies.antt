@@ -10,18 +10,16 @@ use lib.ListN.{length, getD}
 use lib.Seq.{sets}
 use borrow.Author.Tests.{lt-ltb, le-ltb}
 use Rattle.terms.specs.Figures.{numbers, tableBytes}
-use Rattle.terms.specs.Term.{Term, app, lam, loc, con, var, size, shift, Closed}
+use Rattle.terms.specs.Term.{Term, app, lam, loc, con, var, size, shift}
 use Rattle.terms.specs.Table.{bytes, encode}
 use Rattle.terms.proofs.Shift.{size-shift}
 use Rattle.terms.proofs.Table.{encode-length}
 use Rattle.matching.proofs.Bodies.{copies, choose, body, Leaf, copies-here, body-here, copies-app, body-app, copies-lam, body-lam, copies-leaf, body-leaf}
-use Rattle.matching.proofs.Targets.{closed-shift}
 use Rattle.records.specs.declared.Walk.{Walk}
 use Rattle.records.specs.declared.Walk.the-variants.{Upto, No}
 use Rattle.records.specs.Parts.{Part, Whole}
 use Rattle.records.proofs.Parts.{size-some, whole, kind-at, application, abstraction, argument-part, whole-head, whole-body, whole-argument, ends-app, ends-lam, ends-leaf}
 use Rattle.sweeping.specs.Writers.{Fits, Wrote}
-use Rattle.sweeping.proofs.Contraction.{closed-fits}
 use Rattle.sweeping.proofs.Stores.{written-then}
 use Rattle.abstractions.specs.Tests.{Compares, Shifted, Compared}
 use Rattle.abstractions.specs.Bodies.{chosenIn, Counting, Counts, Choosing, Chose, Body}
@@ -221,10 +219,6 @@ module _ (l : List ℕ) (at d e last k room o : ℕ) (t : Term) (p : Part l at t
     most = h;
     choices = c;
   }
-
-  pub choosing-closed : (n : ℕ) → Closed n t → n + size t < numbers → d + size t ≤ numbers → Whole l e → length l ≤ tableBytes → o + 4 * size t ≤ room → k + size t ≤ last → Choosing l at d e last k room o
-  choosing-closed n q z s a h r c =
-      choosing a h (closed-fits (suc n) (shift 1 d t) (closed-shift 1 d n (suc n) t (omega arith) q) (omega (arith, size-shift 1 d t))) s r c
 
 -- what writing the parts' bodies needs
 module _ (l : List ℕ) (at d e last k room o : ℕ) (x : Choosing l at d e last k room o) where

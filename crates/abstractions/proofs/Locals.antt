@@ -1,11 +1,10 @@
--- The loose locals of a part, marked: what its parts need, what each kind of record marks, and what marks of three parts together say of
--- the locals that they use. By the term's kind, which its first record shows. Assumes nothing.
+-- The loose locals of a part, marked: what its parts need, what each kind of record marks, and what marks say of
+-- the locals that it uses. By the term's kind, which its first record shows. Assumes nothing.
 use mathlib.Core.Path.{_≡_, refl, sym, ap, ap₂, _∙_, subst}
-use mathlib.Core.Bool.{Bool, true, false, not, cond, _||_}
+use mathlib.Core.Bool.{Bool, true, false, cond, _||_}
 use mathlib.Core.List.{List}
 use Prim.Native.Nat.{ℕ, suc, _+_, _-_, _≤_, _<_}
 use native.Mathlib.Omega.{arith}
-use native.Mathlib.Decide.{decLt}
 use lib.Dec.{eqb}
 use lib.ListN.{length, getD, set}
 use lib.Seq.{getD-set-same, getD-set-other}
@@ -14,11 +13,10 @@ use Rattle.terms.specs.Figures.{numbers}
 use Rattle.terms.specs.Term.{Term, app, lam, size, uses, Closed}
 use Rattle.records.specs.Record.{numberAt}
 use Rattle.records.specs.Parts.{Part, Whole, Ends}
-use Rattle.records.specs.Tests.{Says}
 use Rattle.records.proofs.Parts.{whole, application, abstraction, argument-part, ends-app, ends-lam, ends-leaf}
 use Rattle.records.proofs.Tests.{part-other}
 use Rattle.sweeping.proofs.Writers.{Other, local-at}
-use Rattle.abstractions.specs.Locals.{Marks, Marked, Missing, Within, Zeros}
+use Rattle.abstractions.specs.Locals.{Marks, Marked, Zeros}
 
 marks-of : (l : List ℕ) (at depth n : ℕ) (t : Term) → Part l at t → Closed (depth + n) t → depth + size t ≤ numbers → Marks l at depth n
 marks-of l at depth n t x c s = record { tree = t; part = x; closed = c; shallow = s; least = omega (arith, x .some, x .within) }
@@ -112,38 +110,6 @@ module _ (l : List ℕ) (at depth : ℕ) where
           (z .no-application) (z .no-abstraction) (z .no-local) (λ k j i. refl) (λ k j i. refl);
     }
 
--- marks compared, a byte of each
-pub missing-last : (t a b : ℕ) → t ≡ 1 → ¬ (a ≡ 1) → Says (not (eqb b 1)) (Missing t a b)
-missing-last t a b h n = go (eqb b 1) refl
-  where
-    go : (c : Bool) → eqb b 1 ≡ c → Says (not c) (Missing t a b)
-    go true e = λ p. p .2 (eqb-true b 1 e)
-    go false e = (h, n, eqb-false b 1 e)
-
-module _ (t a b : List ℕ) where
-  unfoldable pub WithinUpto : ℕ → Type 0
-  WithinUpto j = (i : ℕ) → i < j → ¬ Missing (getD t i 0) (getD a i 0) (getD b i 0)
-
-  pub within-none : WithinUpto 0
-  unfolding WithinUpto
-  within-none i h = omega arith
-
-  pub within-more : (j : ℕ) → WithinUpto j → ¬ Missing (getD t j 0) (getD a j 0) (getD b j 0) → WithinUpto (j + 1)
-  unfolding WithinUpto
-  within-more j w n i h = go (decLt i j)
-    where
-      go : Dec (i < j) → ¬ Missing (getD t i 0) (getD a i 0) (getD b i 0)
-      go (yes l) = w i l
-      go (no l) = let e : j ≡ i = omega arith in subst (λ (k : ℕ). ¬ Missing (getD t k 0) (getD a k 0) (getD b k 0)) e n
-
-  pub within-all : (j : ℕ) → length t ≤ j → WithinUpto j → Within t a b true
-  unfolding Within WithinUpto
-  within-all j h w = λ i l. w i (omega arith)
-
-  pub within-no : (j : ℕ) → j < length t → Missing (getD t j 0) (getD a j 0) (getD b j 0) → Within t a b false
-  unfolding Within
-  within-no j h m = (j, h, m)
-
 -- marks that were all zero before mark the locals that the term uses
 abbrev pub Marking : ℕ → Term → List ℕ → Type 0
 Marking n t m = (j : ℕ) → j < n → getD m j 0 ≡ cond (uses j t) 1 0
@@ -160,13 +126,3 @@ mark-true false e = absurd (omega arith)
 pub mark-false : (b : Bool) → ¬ (_≡_ {A = ℕ} (cond b 1 0) 1) → b ≡ false
 mark-false true n = absurd (n refl)
 mark-false false n = refl
-
--- a local that the first term uses and neither of the others
-pub missing-local : (t f e : Term) (m a b : List ℕ) → Marking (length m) t m → Marking (length m) f a → Marking (length m) e b → Within m a b false → (j : ℕ) × (uses j t ≡ true) × (uses j f ≡ false) × (uses j e ≡ false)
-unfolding Within
-missing-local t f e m a b x y z (j, h, (p, q, r)) = (
-  j,
-  mark-true (uses j t) (sym (x j h) ∙ p),
-  mark-false (uses j f) (λ i. q (y j h ∙ i)),
-  mark-false (uses j e) (λ i. r (z j h ∙ i)),
-)

@@ -13,11 +13,11 @@ use lib.Seq.{sets, take-take, take-set-le}
 use borrow.Author.Tests.{lt-ltb, le-ltb, eq-eqb, ltb-true, ltb-false}
 use Rattle.terms.specs.Term.{Term, app, lam, loc, size, shift, unshift, uses}
 use Rattle.terms.specs.Table.{bytes, encode}
-use Rattle.terms.proofs.Shift.{unshift-shift, uses-below}
+use Rattle.terms.proofs.Shift.{uses-below}
 use Rattle.records.specs.declared.Walk.{Walk}
 use Rattle.records.specs.declared.Walk.the-variants.{Upto, No}
 use Rattle.records.specs.Record.{numberAt}
-use Rattle.records.specs.Parts.{Part, Whole, Ends}
+use Rattle.records.specs.Parts.{Whole, Ends}
 use Rattle.records.specs.Tests.{Says, Walked}
 use Rattle.records.proofs.Parts.{whole, application, abstraction, argument-part}
 use Rattle.records.proofs.Tests.{walked-ends, walked-app, walked-stop, walked-lam, walked-leaf, walked-no, part-local, part-other}
@@ -25,10 +25,6 @@ use Rattle.sweeping.specs.Writers.{Wrote}
 use Rattle.sweeping.proofs.Writers.{Change, Other, wrote-application, wrote-abstraction, wrote-local, wrote-other}
 use Rattle.abstractions.specs.Lowering.{Movable, Inside, Lowers, Leaves, Lowered}
 use Rattle.abstractions.proofs.Tests.{heads-same, bodies-same}
-
--- a shifted term can be moved out again
-pub shifted-movable : (d c : ℕ) (x y : Term) → x ≡ shift d c y → Movable d c x
-shifted-movable d c x y e = e ∙ ap (shift d c) (sym (ap (unshift d c) e ∙ unshift-shift d c y))
 
 pub movable-two : (d c : ℕ) (f a : Term) → Movable d c (app f a) ↔ (Movable d c f × Movable d c a)
 movable-two d c f a = (λ p. heads-same f a (shift d c (unshift d c f)) (shift d c (unshift d c a)) p, λ p. ap₂ app (p .0) (p .1))
@@ -136,23 +132,6 @@ module _ (l : List ℕ) (at c d o : ℕ) where
 
   -- what was written
   module _ (out : List ℕ) where
-    -- what an answer says
-    pub lowered-wrote : (after : List ℕ) (h : ℕ) (r : Walk) → r ≡ Upto h → Lowered l at c d out o after r → Wrote (unshift d) l at c out o after h (o + (h - at))
-    unfolding Leaves
-    lowered-wrote after h r e x = let y : Leaves l at c d out o after (Upto h) = subst (Leaves l at c d out o after) e (x .leaves) in y
-
-    pub lowered-movable : (after : List ℕ) (h : ℕ) (r : Walk) → r ≡ Upto h → Lowered l at c d out o after r → (x : Term) → Part l at x → Movable d c x
-    unfolding Walked
-    lowered-movable after h r e x = let y : Walked l at (Movable d c) (Upto h) = subst (Walked l at (Movable d c)) e (x .walked) in y .1
-
-    pub lowered-kept : (after : List ℕ) (r : Walk) → r ≡ No → Lowered l at c d out o after r → take o after ≡ take o out
-    unfolding Leaves
-    lowered-kept after r e x = let y : Leaves l at c d out o after No = subst (Leaves l at c d out o after) e (x .leaves) in y
-
-    pub lowered-bound : (after : List ℕ) (r : Walk) → r ≡ No → Lowered l at c d out o after r → (x : Term) → Part l at x → ¬ Movable d c x
-    unfolding Walked
-    lowered-bound after r e x = let y : Walked l at (Movable d c) No = subst (Walked l at (Movable d c)) e (x .walked) in y
-
     pub lowered-ends : (after : List ℕ) (h : ℕ) (r : Walk) → r ≡ Upto h → Lowered l at c d out o after r → Ends l at h
     lowered-ends after h r e x = walked-ends l at (Movable d c) h r e (x .walked)
 

@@ -9,7 +9,7 @@ use native.Mathlib.Omega.{arith}
 use native.Mathlib.Decide.{decLt}
 use lib.ListN.{getD}
 use Rattle.terms.specs.Term.{Term, app, lam, loc, con, var, size}
-use Rattle.matching.proofs.Occurrences.{partAt, Copy, First, first-from, partAt-head, partAt-argument, partAt-first}
+use Rattle.matching.proofs.Occurrences.{partAt, Copy, partAt-head, partAt-argument, partAt-first}
 use Rattle.records.specs.declared.Walk.{Walk}
 use Rattle.records.specs.declared.Walk.the-variants.{Upto, No}
 use Rattle.records.specs.Parts.{Part, Whole, Ends}
@@ -320,18 +320,3 @@ module _ (l : List ℕ) (at j e : ℕ) where
       let m : Before l at (at + 4 * j) e 0 No = subst (Before l at (at + 4 * j) e 0) g q in
       let (i, r, s, c) = m x y p t in
       (i, omega arith, r, c)
-
--- what an answer says: the j-th part is a first occurrence, or it is none
-module _ (l : List ℕ) (at j e : ℕ) (r : Bool) (q : Earlier l at j e r) (t y : Term) (p : Part l at t) (w : Part l e y) where
-  pub earlier-first : r ≡ false → j < size t → Copy (partAt 0 t j) y → First t j y
-  unfolding Earlier
-  earlier-first g h c =
-      let m : Earlier l at j e false = subst (Earlier l at j e) g q in
-      first-from t j y h c (λ i s. m t y p w i s (omega arith))
-
-  pub earlier-not : r ≡ true → ¬ First t j y
-  unfolding Earlier
-  earlier-not g f =
-      let m : Earlier l at j e true = subst (Earlier l at j e) g q in
-      let (i, s, h, c) = m t y p w in
-      f .none-before i s c

@@ -1,11 +1,9 @@
 -- Loose locals of a part as marks, a byte for each local: 1 where the part uses it.
 --   Marks l at depth n                 a term stands in l from byte `at` on, and its locals are below depth and n more
 --   Marked l at depth before after r   that term ends at byte r, and its locals from depth on are marked, beside those marked before
---   Missing t a b                      a local is marked by the byte t, and by neither a nor b
---   Within t a b r                     r says whether each local that t marks is marked by a or by b
 --   Zeros m                            no local is marked
 use mathlib.Core.Path.{_≡_}
-use mathlib.Core.Bool.{Bool, true, false, cond}
+use mathlib.Core.Bool.{cond}
 use mathlib.Core.List.{List}
 use Prim.Native.Nat.{ℕ, _+_, _≤_, _<_}
 use lib.ListN.{length, getD}
@@ -23,13 +21,6 @@ pub record Marks (l : List ℕ) (at depth n : ℕ) : Type 0 where
 pub record Marked (l : List ℕ) (at depth : ℕ) (before after : List ℕ) (r : ℕ) : Type 0 where
   pub ends : Ends l at r
   pub marks : (t : Term) → Part l at t → (j : ℕ) → j < length before → getD after j 0 ≡ cond (uses (j + depth) t) 1 (getD before j 0)
-
-abbrev pub Missing : ℕ → ℕ → ℕ → Type 0
-Missing t a b = (t ≡ 1) × ¬ (a ≡ 1) × ¬ (b ≡ 1)
-
-unfoldable pub Within : List ℕ → List ℕ → List ℕ → Bool → Type 0
-Within t a b true = (j : ℕ) → j < length t → ¬ Missing (getD t j 0) (getD a j 0) (getD b j 0)
-Within t a b false = (j : ℕ) × (j < length t) × Missing (getD t j 0) (getD a j 0) (getD b j 0)
 
 abbrev pub Zeros : List ℕ → Type 0
 Zeros m = (j : ℕ) → getD m j 0 ≡ 0

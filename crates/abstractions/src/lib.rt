@@ -21,7 +21,7 @@ ghost use Rattle.sweeping.specs.Writers.{Source};
 ghost use Rattle.abstractions.specs.Tests.{Compares, Shifted, Compared};
 ghost use Rattle.abstractions.specs.Lowering.{Inside, Lowers, Lowered};
 ghost use Rattle.abstractions.specs.Bodies.{Counting, Counts, Choosing, Chose, Body};
-ghost use Rattle.abstractions.specs.Locals.{Marks, Marked, Missing, Within};
+ghost use Rattle.abstractions.specs.Locals.{Marks, Marked};
 ghost use Rattle.abstractions.specs.Substitution.{Substitutes, Substituted};
 ghost use Rattle.abstractions.specs.Occurrences.{Depths, DepthOf, Looks, CopyAt, Before, Earlier};
 
@@ -162,34 +162,6 @@ pub fn loose_locals(s: &[u8], at: usize, depth: usize, marks: &mut [u8]) -> usiz
         return at + RECORD;
     }
     at + RECORD
-}
-
-// Whether a local is marked by t, and by neither a nor b.
-fn is_missing(t: u8, a: u8, b: u8) -> bool
-    ensures { λ r. ⌜ Says r (Missing t a b) ⌝ }
-{
-    if t != 1 {
-        return false;
-    }
-    if a == 1 {
-        return false;
-    }
-    b != 1
-}
-
-// Whether each local that t marks is marked by a or by b.
-pub fn locals_within(t: &[u8], a: &[u8], b: &[u8]) -> bool
-    requires { ⌜ (length (now a) ≡ length (now t)) × (length (now b) ≡ length (now t)) ⌝ }
-    ensures { λ r. ⌜ Within (now (t .entry)) (now (a .entry)) (now (b .entry)) r ⌝ }
-{
-    let mut j = 0;
-    while j < t.len() {
-        if is_missing(t[j], a[j], b[j]) {
-            return false;
-        }
-        j += 1;
-    }
-    true
 }
 
 // Where two parts end.

@@ -2,22 +2,20 @@
 -- argument thrown away, or the argument found first at one of the target's parts. By the rows of one step of matching, which exclude each
 -- other because the target is normal. Assumes nothing.
 --   Alternative f a t i φ    the filled application of f and a comes to t in way i
---   Way f a t R i φ          and φ satisfies R
 use mathlib.Core.Path.{_≡_, refl, sym, ap, _∙_, subst}
 use mathlib.Core.Bool.{not}
-use mathlib.Core.List.{List, [], _∷_, _++_}
+use mathlib.Core.List.{List, [], _∷_}
 use mathlib.Core.Logic.{inl, inr, _↔_}
 use Prim.Native.Nat.{ℕ, zero, suc, _+_}
 use native.Mathlib.Omega.{arith}
 use lib.Dec.{T}
 use Rattle.terms.specs.Term.{Term, app, lam, loc, con, var, Normal, size, shift, uses, isAbstraction}
 use Rattle.terms.specs.Sweep.{sweep, fill}
-use Rattle.terms.specs.Listing.{Line}
 use Rattle.terms.proofs.Shift.{unused-shift}
 use Rattle.terms.proofs.Table.{kind}
 use Rattle.matching.proofs.Decide.{by-dec}
-use Rattle.matching.proofs.Step.{lam-inj, bodyTarget, constant, bodyTarget-normal, constant-normal}
-use Rattle.matching.proofs.Lists.{Predicate, Lists, Under, lists-same, lists-under-next}
+use Rattle.matching.proofs.Step.{lam-inj, constant, constant-normal}
+use Rattle.matching.proofs.Lists.{Predicate, Under}
 use Rattle.matching.proofs.Lister.{Sweeps}
 use Rattle.matching.proofs.Prune.{Build, Choice, argument-first}
 use Rattle.matching.proofs.Goals.{Goal, Goal.match, Goal.build, Meets, All, Suits, Listable, Listing, listing-goal, listing-same, listing-none, listing-both}
@@ -68,9 +66,6 @@ module _ (φ : ℕ → Term) (f a : Term) (gs : List Goal) where
   pub alternative-parts : (t u : Term) → (Alternative f a (app t u) 0 φ × All gs φ) ↔ All (match f t ∷ match a u ∷ gs) φ
   alternative-parts t u = (λ (p, r). (cc, (cc, r)), λ (p, (q, r)). (cc, r))
 
-  pub alternative-constant : (t : Term) → (Alternative f a t 1 φ × All gs φ) ↔ All (match f (constant t) ∷ gs) φ
-  alternative-constant t = (λ s. s, λ s. s)
-
   pub alternative-argument :
       (t : Term) (j : ℕ) (e : Term) → First t j e → (Alternative f a t (suc (suc j)) φ × All gs φ) ↔ All (match a e ∷ build f t e ∷ gs) φ
   alternative-argument t j e x = (
@@ -93,9 +88,6 @@ module _ (n : ℕ) (S : ℕ → Type 0) where
       (f a t : Term) (j : ℕ) (e : Term) → First t j e → Listable n S (match (app f a) t) → Listable n S (match a e) × Listable n S (build f t e)
   listable-argument f a t j e x (s, h) = let (sf, sa) = suits-app f a s in ((sa, part-normal t j e (x .within) (x .copy) h), (sf, h))
 
-  pub listable-abstraction : (p t : Term) → Listable n S (match (lam p) t) → Listable n S (match p (bodyTarget t))
-  listable-abstraction p t (s, h) = (s, bodyTarget-normal t h)
-
 -- and where a way is none: a target that is no application, and a part that is no argument's first occurrence
 module _ (φ : ℕ → Term) (f a t : Term) where
   pub alternative-no-parts : ¬ (kind t ≡ 0) → ¬ Alternative f a t 0 φ
@@ -103,20 +95,6 @@ module _ (φ : ℕ → Term) (f a t : Term) where
 
   pub alternative-no-argument : (j : ℕ) → ((e : Term) → ¬ First t j e) → ¬ Alternative f a t (suc (suc j)) φ
   alternative-no-argument j n s = n (s .0) (s .1)
-
--- so a search takes the ways in turn, together with whatever else is to be satisfied
-abbrev pub Way : Term → Term → Term → Predicate → ℕ → Predicate
-Way f a t R i φ = Alternative f a t i φ × R φ
-
-module _ (n : ℕ) (S : ℕ → Type 0) (f a t : Term) (R : Predicate) (h : Normal t) where
-  pub lists-alternatives : (ls : List Line) → Lists n S (Under (Way f a t R) (size t + 2)) ls → Lists n S (λ φ. Sweeps (app f a) t φ × R φ) ls
-  lists-alternatives ls x =
-      lists-same n S (λ φ. Sweeps (app f a) t φ × R φ) (Under (Way f a t R) (size t + 2)) ls
-      (λ φ v. (λ (s, r). let (i, l, w) = alternatives φ f a t h .0 s in (i, l, (w, r)), λ (i, l, (w, r)). (alternatives φ f a t h .1 (i, l, w), r))) x
-
-  pub lists-alternative-next : (i : ℕ) (ls ms : List Line) → Lists n S (Under (Way f a t R) i) ls → Lists n S (Way f a t R i) ms → Lists n S (Under (Way f a t R) (suc i)) (ls ++ ms)
-  lists-alternative-next i ls ms x y =
-      lists-under-next n S (Way f a t R) i ls ms (λ φ v j l s r. omega (arith, alternatives-apart φ f a t j i h (s .0) (r .0))) x y
 
 -- there are lines for each way
 module _ (n : ℕ) (S : ℕ → Type 0) (f a t : Term) (x : Listable n S (match (app f a) t)) where

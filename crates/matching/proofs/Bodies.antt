@@ -23,11 +23,9 @@ use Rattle.terms.proofs.Contracted.{contracted-sweep}
 use Rattle.matching.specs.Abstractions.{same}
 use Rattle.matching.proofs.Decide.{by-dec, either, either-no}
 use Rattle.matching.proofs.Step.{lam-inj, lam-normal-of}
-use Rattle.matching.proofs.Lines.{Values}
 use Rattle.matching.proofs.Lists.{Predicate}
 use Rattle.matching.proofs.Lister.{Sweeps}
-use Rattle.matching.proofs.Prune.{Build, replaceAll, replaceAll-here, one-body}
-use Rattle.matching.proofs.Occurrences.{partAt, Copy, by-app, by-lam, by-leaf}
+use Rattle.matching.proofs.Prune.{Build, replaceAll, replaceAll-here}
 use Rattle.matching.proofs.Targets.{closed-shift, ground-shift}
 
 abbrev pub copies : Term → ℕ → Term → ℕ
@@ -273,15 +271,6 @@ body-all e =
     leaf d (con n) l q k = sym (either-no (same (con n) (shift d 0 e)) _ _ q)
     leaf d (var n) l q k = sym (either-no (same (var n) (shift d 0 e)) _ _ q)
 
--- a copy among the parts is counted, and no part twice
-pub copies-part : (e : Term) (d : ℕ) (t : Term) (j : ℕ) → j < size t → Copy (partAt d t j) e → 0 < copies e d t
-copies-part e =
-    body-induction e (λ d t n x. (j : ℕ) → j < size t → Copy (partAt d t j) e → 0 < n) (λ d t p j l c. omega arith)
-    (λ d f a m n x y q hf ha j l.
-    by-app (λ z. Copy z e → 0 < m + n) d f a j l (λ c. absurd (q c)) (λ i u c. omega (arith, hf i u c)) (λ i u c. omega (arith, ha i u c)))
-    (λ d b n x q hb j l. by-lam (λ z. Copy z e → 0 < n) d b j l (λ c. absurd (q c)) hb)
-    (λ d t u q j l. by-leaf (λ z. Copy z e → 0 < 0) d t j (omega (arith, size-leaf t u)) (λ c. absurd (q c)))
-
 pub copies-size : (e : Term) (d : ℕ) (t : Term) → copies e d t ≤ size t
 copies-size e =
     body-induction e (λ d t n x. n ≤ size t) (λ d t p. size-pos t) (λ d f a m n x y q hf ha. omega arith) (λ d b n x q h. omega arith) (λ d t _ q. omega arith)
@@ -372,19 +361,3 @@ chosen-all φ f t e c k l = (
       (s .1 ∙ ap lam q, ap (uses 0) (sym q) ∙ s .2),
   λ s. (body e 0 t c 0, s .0, s .1, c, λ i _. refl, refl),
 )
-
--- where the argument uses a local that the head lacks, every copy is chosen
-pub build-forced :
-    (φ : ℕ → Term) → Values φ → (f t e : Term) (j : ℕ) → uses j e ≡ true → uses j f ≡ false
-    → Build f t e φ ↔ (Sweeps f (lam (replaceAll e 0 t)) φ × (uses 0 (replaceAll e 0 t) ≡ true))
-build-forced φ v f t e j u n = (
-  λ x. let q = one-body φ v f t e j u n x in (x .1 ∙ ap lam q, ap (uses 0) (sym q) ∙ x .3),
-  λ x. (replaceAll e 0 t, x .0, ap (substitute 0 e) (sym (body-all e 0 t 0)) ∙ body-substitute e 0 t (λ _. true) 0, x .1),
-)
-
-pub chosen-forced :
-    (φ : ℕ → Term) → Values φ → (f t e : Term) (j : ℕ) (c : ℕ → Bool) → uses j e ≡ true → uses j f ≡ false → ((i : ℕ) → i < copies e 0 t → c i ≡ true)
-    → Build f t e φ ↔ (Sweeps f (lam (body e 0 t c 0)) φ × (uses 0 (body e 0 t c 0) ≡ true))
-chosen-forced φ v f t e j c u n h =
-    let q : body e 0 t c 0 ≡ replaceAll e 0 t = body-same e 0 t c (λ _. true) 0 (λ i _ l. h i (omega arith)) ∙ body-all e 0 t 0 in
-    rw q (build-forced φ v f t e j u n)

@@ -1,24 +1,21 @@
--- A search makes the choices at the copies one after the other, and the lines that it finds either way list the bodies still left. By the
--- laws of lines that list a predicate, each choice being seen in the body. Assumes nothing.
+-- Whatever choices a search has made at the copies, there are lines for the bodies still left. From the last copy backwards, each choice
+-- being seen in the body. Assumes nothing.
 --   chooseAt c k b      the choices c, but b at the copy k
---   Left f t e R c k φ  φ satisfies R, and the head f sweeps to an abstraction over a body with the first k choices of c
 use mathlib.Core.Path.{_≡_, refl, sym, _∙_, subst}
 use mathlib.Core.Bool.{Bool, true, false, cond}
-use mathlib.Core.List.{List, [], _++_}
-use mathlib.Core.Logic.{_⊎_, inl, inr, ⊎-elim}
+use mathlib.Core.List.{[], _++_}
+use mathlib.Core.Logic.{_⊎_}
 use Prim.Native.Nat.{ℕ, zero, suc, _+_, _≤_, _<_}
 use native.Mathlib.Omega.{arith}
 use native.Mathlib.Decide.{decLt}
 use lib.Dec.{T, eqb}
 use borrow.Author.Tests.{eq-eqb, ne-eqb}
-use Rattle.terms.specs.Term.{Term, lam, Normal, uses, isEta}
-use Rattle.terms.specs.Listing.{Line}
+use Rattle.terms.specs.Term.{Term, lam, uses, isEta}
 use Rattle.matching.proofs.Decide.{by-dec}
-use Rattle.matching.proofs.Lists.{Predicate, Lists, lists-same, lists-none, lists-or}
+use Rattle.matching.proofs.Lists.{lists-same, lists-none, lists-or}
 use Rattle.matching.proofs.Lister.{Sweeps}
-use Rattle.matching.proofs.Prune.{Build}
 use Rattle.matching.proofs.Goals.{Goal.match, Goal.build, Listable, Listing, listing-goal}
-use Rattle.matching.proofs.Bodies.{copies, body, body-normal, body-eta, Chosen, chosen-none, chosen-next, chosen-apart, chosen-all}
+use Rattle.matching.proofs.Bodies.{copies, body, body-normal, body-eta, Chosen, chosen-next, chosen-apart, chosen-all}
 
 abbrev pub chooseAt : (ℕ → Bool) → ℕ → Bool → ℕ → Bool
 chooseAt c k b i = cond (eqb i k) b (c i)
@@ -28,47 +25,6 @@ chooseAt-here c k b = rw (eq-eqb k k refl)
 
 pub chooseAt-below : (c : ℕ → Bool) (k : ℕ) (b : Bool) (i : ℕ) → i < k → chooseAt c k b i ≡ c i
 chooseAt-below c k b i l = rw (ne-eqb i k (omega arith))
-
--- the bodies left, together with whatever else is to be satisfied
-abbrev pub Left : Term → Term → Term → Predicate → (ℕ → Bool) → ℕ → Predicate
-Left f t e R c k φ = Chosen f t e c k φ × R φ
-
-module _ (n : ℕ) (S : ℕ → Type 0) (f t e : Term) (R : Predicate) where
-  -- before the first choice
-  pub lists-chosen-none : (c : ℕ → Bool) (ls : List Line) → Lists n S (Left f t e R c 0) ls → Lists n S (λ φ. Build f t e φ × R φ) ls
-  lists-chosen-none c ls x =
-      lists-same n S (λ φ. Build f t e φ × R φ) (Left f t e R c 0) ls
-      (λ φ v. (λ (s, r). (chosen-none φ f t e c .0 s, r), λ (s, r). (chosen-none φ f t e c .1 s, r))) x
-
-  -- at a copy
-  pub lists-chosen-next :
-      (c c₀ c₁ : ℕ → Bool) (k : ℕ) (ls ms : List Line) → ((i : ℕ) → i < k → c₀ i ≡ c i) → ((i : ℕ) → i < k → c₁ i ≡ c i) → c₀ k ≡ false → c₁ k ≡ true
-      → k < copies e 0 t → Lists n S (Left f t e R c₀ (suc k)) ls → Lists n S (Left f t e R c₁ (suc k)) ms → Lists n S (Left f t e R c k) (ls ++ ms)
-  lists-chosen-next c c₀ c₁ k ls ms a₀ a₁ h₀ h₁ l x y =
-      lists-same n S (Left f t e R c k) (λ φ. Left f t e R c₀ (suc k) φ ⊎ Left f t e R c₁ (suc k) φ) (ls ++ ms) (λ φ v. (to φ, from φ))
-      (lists-or n S (Left f t e R c₀ (suc k)) (Left f t e R c₁ (suc k)) ls ms (λ φ v s r. chosen-apart φ f t e c c₀ c₁ k a₀ a₁ h₀ h₁ l (s .0) (r .0)) x y)
-    where
-      to : (φ : ℕ → Term) → Left f t e R c k φ → Left f t e R c₀ (suc k) φ ⊎ Left f t e R c₁ (suc k) φ
-      to φ (s, r) = ⊎-elim (λ q. inl (q, r)) (λ q. inr (q, r)) (chosen-next φ f t e c c₀ c₁ k a₀ a₁ h₀ h₁ .0 s)
-
-      from : (φ : ℕ → Term) → Left f t e R c₀ (suc k) φ ⊎ Left f t e R c₁ (suc k) φ → Left f t e R c k φ
-      from φ (inl (s, r)) = (chosen-next φ f t e c c₀ c₁ k a₀ a₁ h₀ h₁ .1 (inl s), r)
-      from φ (inr (s, r)) = (chosen-next φ f t e c c₀ c₁ k a₀ a₁ h₀ h₁ .1 (inr s), r)
-
-  -- after the last one
-  module _ (c : ℕ → Bool) (k : ℕ) (l : copies e 0 t ≤ k) where
-    pub lists-chosen-all :
-        (ls : List Line) → uses 0 (body e 0 t c 0) ≡ true → Lists n S (λ φ. Sweeps f (lam (body e 0 t c 0)) φ × R φ) ls → Lists n S (Left f t e R c k) ls
-    lists-chosen-all ls u x =
-        lists-same n S (Left f t e R c k) (λ φ. Sweeps f (lam (body e 0 t c 0)) φ × R φ) ls
-        (λ φ v. (λ (s, r). (chosen-all φ f t e c k l .0 s .0, r), λ (s, r). (chosen-all φ f t e c k l .1 (s, u), r))) x
-
-    -- no copy was chosen, or the abstraction is an eta-redex
-    pub lists-chosen-unused : uses 0 (body e 0 t c 0) ≡ false → Lists n S (Left f t e R c k) []
-    lists-chosen-unused u = lists-none n S (Left f t e R c k) (λ φ v (s, r). subst T (sym (chosen-all φ f t e c k l .0 s .1) ∙ u) tt)
-
-    pub lists-chosen-eta : Normal t → isEta (body e 0 t c 0) ≡ true → Lists n S (Left f t e R c k) []
-    lists-chosen-eta h p = lists-none n S (Left f t e R c k) (λ φ v (s, r). body-eta φ f e t c h p (chosen-all φ f t e c k l .0 s .0))
 
 -- the goal that is left can be listed, as the goal before it
 pub listable-chosen :

@@ -90,7 +90,3 @@ module _ (n : ℕ) (S : ℕ → Type 0) where
     lists = lists-one n S (λ φ. Unit {0}) (blank n) (length-blank n) (assigns-blank S n) (λ φ v. (λ _. extends-blank φ n, λ _. tt));
   }
   listing-goals (g ∷ gs) x = listing-both (Meets g) (All gs) (listing-goal g (x g (inl refl))) (listing-goals gs (λ h i. x h (inr i)))
-
-  -- and for goals together with a line
-  pub listing-search : (gs : List Goal) (l : Line) → ((g : Goal) → In g gs → Listable n S g) → length l ≡ n → Assigns S l → Listing (Searches gs l)
-  listing-search gs l x e a = listing-both (All gs) (λ φ. Extends φ l) (listing-goals gs x) (listing-line l e a)

@@ -8,15 +8,12 @@ use mathlib.Core.Option.{none, some}
 use mathlib.Core.List.{List, [], _∷_, _++_}
 use mathlib.Core.Logic.{_⊎_, inl, inr, _↔_}
 use Prim.Native.Nat.{ℕ, zero, suc, _<_}
-use native.Mathlib.Omega.{arith}
-use native.Mathlib.Decide.{decLt}
 use lib.Dec.{lit<}
 use lib.ListN.{length}
 use Rattle.terms.specs.Term.{Term, con, Value}
 use Rattle.terms.specs.Assignment.{Assigns}
 use Rattle.terms.specs.Listing.{In, Line}
 use Rattle.terms.proofs.Members.{Distinct, in-left, in-right, in-append, distinct-append, one}
-use Rattle.matching.proofs.Decide.{by-dec}
 use Rattle.matching.proofs.Members.{flatMap, flatMap-in, distinct-flatMap}
 use Rattle.matching.proofs.Lines.{Values, Extends, joins, merge, extends-joins, joins-extends, joins-once, joins-distinct, length-joins, assigns-joins, assigns-more, merge-in, in-merge}
 
@@ -168,24 +165,6 @@ module _ (n : ℕ) (S : ℕ → Type 0) where
       from : (φ : ℕ → Term) → Q y φ ⊎ ((x : A) × In x xs × Q x φ) → (x : A) × In x (y ∷ xs) × Q x φ
       from φ (inl s) = (y, inl refl, s)
       from φ (inr s) = (s .0, inr (s .1), s .2)
-
-  -- one of the predicates below a number, taken in turn
-  pub lists-under-none : (Q : ℕ → Predicate) → Lists n S (Under Q 0) []
-  lists-under-none Q = lists-none (Under Q 0) (λ φ v s. omega (arith, s .1))
-
-  pub lists-under-next :
-      (Q : ℕ → Predicate) (k : ℕ) (ls ms : List Line) → ((φ : ℕ → Term) → Values φ → (i : ℕ) → i < k → Q i φ → ¬ Q k φ)
-      → Lists n S (Under Q k) ls → Lists n S (Q k) ms → Lists n S (Under Q (suc k)) (ls ++ ms)
-  lists-under-next Q k ls ms apart x y =
-      lists-same (Under Q (suc k)) (λ φ. Under Q k φ ⊎ Q k φ) (ls ++ ms) (λ φ v. (to φ, from φ))
-      (lists-or (Under Q k) (Q k) ls ms (λ φ v s r. apart φ v (s .0) (s .1) (s .2) r) x y)
-    where
-      to : (φ : ℕ → Term) → Under Q (suc k) φ → Under Q k φ ⊎ Q k φ
-      to φ (i, l, s) = by-dec (λ _. Under Q k φ ⊎ Q k φ) (decLt i k) (λ m. inl (i, m, s)) (λ m. let q : i ≡ k = omega arith in inr (subst (λ j. Q j φ) q s))
-
-      from : (φ : ℕ → Term) → Under Q k φ ⊎ Q k φ → Under Q (suc k) φ
-      from φ (inl (i, l, s)) = (i, omega arith, s)
-      from φ (inr s) = (k, omega arith, s)
 
   -- both predicates
   pub lists-and : (Q R : Predicate) (ls ms : List Line) → Lists n S Q ls → Lists n S R ms → Lists n S (λ φ. Q φ × R φ) (merge ls ms)

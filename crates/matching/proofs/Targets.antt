@@ -60,9 +60,6 @@ constant-closed n t h = closed-shift 1 0 n (suc n) t (omega arith) h
 pub constant-ground : (t : Term) → Ground t → Ground (constant t)
 constant-ground t h = rw (ground-shift 1 0 t) h
 
-pub constant-size : (t : Term) → size (constant t) ≡ suc (size t)
-constant-size t = ap suc (size-shift 1 0 t)
-
 -- the target of an argument: a part of the target, moved out of the binders above it
 module _ (t : Term) (j : ℕ) (e : Term) (h : j < size t) (c : Copy (partAt 0 t j) e) where
   pub part-closed : (n : ℕ) → Closed n t → Closed n e
