@@ -1,0 +1,157 @@
+//! The proved library through its C interface (`include/onestep.h`). The only unsafe code of the benchmark stands here.
+
+extern "C" {
+    fn onestep_list(
+        pattern: *const u8,
+        pattern_length: usize,
+        recipe: *const u8,
+        recipe_length: usize,
+        lines: *mut u8,
+        lines_length: usize,
+        values: *mut u8,
+        values_length: usize,
+        work: *mut u8,
+        work_length: usize,
+    ) -> i64;
+    fn onestep_check(
+        pattern: *const u8,
+        pattern_length: usize,
+        recipe: *const u8,
+        recipe_length: usize,
+        line: *const u8,
+        line_length: usize,
+        values: *const u8,
+        values_length: usize,
+        work: *mut u8,
+        work_length: usize,
+    ) -> i64;
+    fn onestep_sweep(
+        pattern: *const u8,
+        pattern_length: usize,
+        line: *const u8,
+        line_length: usize,
+        values: *const u8,
+        values_length: usize,
+        output: *mut u8,
+        output_length: usize,
+        work: *mut u8,
+        work_length: usize,
+    ) -> i64;
+    fn onestep_rewrite(
+        left: *const u8,
+        left_length: usize,
+        right: *const u8,
+        right_length: usize,
+        recipe: *const u8,
+        recipe_length: usize,
+        line: *const u8,
+        line_length: usize,
+        values: *const u8,
+        values_length: usize,
+        output: *mut u8,
+        output_length: usize,
+        work: *mut u8,
+        work_length: usize,
+    ) -> i64;
+}
+
+/// Bytes of a full line table, value table, output table or work area.
+pub const TABLE: usize = 65536;
+/// Bytes of a line.
+pub const LINE: usize = 32;
+
+/// A line table and a value table of full size.
+pub struct Tables {
+    pub lines: Vec<u8>,
+    pub values: Vec<u8>,
+}
+
+impl Tables {
+    pub fn new() -> Tables {
+        Tables { lines: vec![0; TABLE], values: vec![0; TABLE] }
+    }
+}
+
+/// The work area. The library leaves it all zero, so it is never cleared here.
+pub struct Work(Vec<u8>);
+
+impl Work {
+    pub fn new() -> Work {
+        Work(vec![0; TABLE])
+    }
+}
+
+// SAFETY of the four calls: each table is lent with its own length. Tables that are written come as `&mut`, so they overlap nothing
+// else, and nobody else reaches them during the call. That is what `onestep.h` asks of a caller.
+
+pub fn list(pattern: &[u8], recipe: &[u8], out: &mut Tables, work: &mut Work) -> i64 {
+    unsafe {
+        onestep_list(
+            pattern.as_ptr(),
+            pattern.len(),
+            recipe.as_ptr(),
+            recipe.len(),
+            out.lines.as_mut_ptr(),
+            out.lines.len(),
+            out.values.as_mut_ptr(),
+            out.values.len(),
+            work.0.as_mut_ptr(),
+            work.0.len(),
+        )
+    }
+}
+
+pub fn check(pattern: &[u8], recipe: &[u8], line: &[u8], values: &[u8], work: &mut Work) -> i64 {
+    unsafe {
+        onestep_check(
+            pattern.as_ptr(),
+            pattern.len(),
+            recipe.as_ptr(),
+            recipe.len(),
+            line.as_ptr(),
+            line.len(),
+            values.as_ptr(),
+            values.len(),
+            work.0.as_mut_ptr(),
+            work.0.len(),
+        )
+    }
+}
+
+pub fn sweep(pattern: &[u8], line: &[u8], values: &[u8], output: &mut [u8], work: &mut Work) -> i64 {
+    unsafe {
+        onestep_sweep(
+            pattern.as_ptr(),
+            pattern.len(),
+            line.as_ptr(),
+            line.len(),
+            values.as_ptr(),
+            values.len(),
+            output.as_mut_ptr(),
+            output.len(),
+            work.0.as_mut_ptr(),
+            work.0.len(),
+        )
+    }
+}
+
+pub fn rewrite(left: &[u8], right: &[u8], recipe: &[u8], line: &[u8], values: &[u8], output: &mut [u8], work: &mut Work) -> i64 {
+    unsafe {
+        onestep_rewrite(
+            left.as_ptr(),
+            left.len(),
+            right.as_ptr(),
+            right.len(),
+            recipe.as_ptr(),
+            recipe.len(),
+            line.as_ptr(),
+            line.len(),
+            values.as_ptr(),
+            values.len(),
+            output.as_mut_ptr(),
+            output.len(),
+            work.0.as_mut_ptr(),
+            work.0.len(),
+        )
+    }
+}

@@ -1,0 +1,90 @@
+//! Benchmark of the proved matcher. `run.sh` compiles and runs it.
+//!
+//!     bench CASES [--limit MILLISECONDS] [--case NAME]
+//!
+//! CASES is the folder of cases; the limit is what one search by the paper's algorithm may take (2000). `--case` is for the child processes.
+
+mod cases;
+mod families;
+mod growth;
+mod library;
+mod listing;
+mod measure;
+mod operations;
+mod paper;
+mod terms;
+mod timing;
+
+use std::env;
+use std::hint::black_box;
+use std::path::PathBuf;
+use std::process::exit;
+use std::time::Duration;
+
+struct Arguments {
+    folder: PathBuf,
+    limit: Duration,
+    case: Option<String>,
+}
+
+fn main() {
+    let arguments = read_arguments();
+    let cases = cases::load(&arguments.folder);
+    if let Some(name) = arguments.case {
+        let case = cases.iter().find(|case| case.name == name).expect("a case of that name");
+        families::run_child(case, arguments.limit);
+        return;
+    }
+    print_setting(cases.len(), arguments.limit);
+    print_noise("before");
+    let mut all_right = families::print(&cases, arguments.limit);
+    all_right &= operations::print(&cases);
+    all_right &= growth::print_by_records(arguments.limit);
+    all_right &= growth::print_by_lines(arguments.limit);
+    all_right &= growth::print_long_listings(arguments.limit);
+    println!();
+    print_noise("after");
+    println!("\n{}", if all_right { "no answer wrong or different" } else { "SOME ANSWERS WRONG OR DIFFERENT" });
+    exit(if all_right { 0 } else { 1 });
+}
+
+fn read_arguments() -> Arguments {
+    let mut words = env::args().skip(1);
+    let folder = PathBuf::from(words.next().expect("the folder of cases"));
+    let mut arguments = Arguments { folder, limit: Duration::from_millis(2000), case: None };
+    while let Some(word) = words.next() {
+        let figure = words.next().expect("something behind the option");
+        match word.as_str() {
+            "--limit" => arguments.limit = Duration::from_millis(figure.parse().expect("milliseconds")),
+            "--case" => arguments.case = Some(figure),
+            _ => panic!("no option {word}"),
+        }
+    }
+    arguments
+}
+
+fn print_setting(cases: usize, limit: Duration) {
+    println!("# Benchmark of onestep\n");
+    println!("{cases} cases, each measured in one process of its own, library and paper turn by turn; times are medians of 15 turns (fewer for slow ones).");
+    println!("Ratios: (a) is the paper's algorithm with its three prunings, (b) its bare `resolve`, both in plain Rust, each divided by the library's time;");
+    println!("above 1 the library is faster. Worst is the least ratio. `limit`: no answer within {} ms.", limit.as_millis());
+    println!("Buffers: full tables of 65,536 bytes, the same ones for each call, warm, not cleared between calls; the library clears its work area itself.");
+    println!(
+        "Both sides read bytes and write sorted lines and values; the library also checks pattern and recipe, the paper's algorithm takes them as good.\n"
+    );
+}
+
+/// How steady the machine is: one fixed piece of work that touches no memory, and the clearing of 65,536 bytes.
+fn print_noise(when: &str) {
+    let mut samples: Vec<f64> = (0..200).map(|_| timing::micros(timing::once(fixed_work).1)).collect();
+    let middle = timing::median(&mut samples);
+    let mut area = vec![1u8; library::TABLE];
+    let clearing = timing::alone(|| black_box(&mut area).fill(0));
+    let (best, most) = (samples[0], samples[samples.len() - 1]);
+    println!("machine noise {when}: 200 times the same work: best {best:.1} µs, median {middle:.1} µs, most {most:.1} µs;");
+    println!("clearing 65,536 bytes, as each call of the library does: best {:.2} µs, median {:.2} µs", clearing.best, clearing.median);
+}
+
+fn fixed_work() -> u64 {
+    (0..100_000u64).fold(1, |state, step| black_box(state.wrapping_mul(6364136223846793005).wrapping_add(step)))
+}

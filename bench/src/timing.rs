@@ -1,0 +1,81 @@
+//! Times of repeated calls.
+
+use std::time::{Duration, Instant};
+
+/// Turns in which each thing is timed.
+const TURNS: usize = 15;
+/// Calls are timed in batches of at least this long, so that the clock itself doesn't count.
+const BATCH: Duration = Duration::from_micros(200);
+/// What all turns of one thing may take; a slow one gets fewer.
+const BUDGET: Duration = Duration::from_millis(400);
+
+/// Microseconds of one call.
+#[derive(Clone, Copy)]
+pub struct Time {
+    pub best: f64,
+    pub median: f64,
+}
+
+pub fn micros(time: Duration) -> f64 {
+    time.as_nanos() as f64 / 1000.0
+}
+
+/// Runs something once; gives its answer and its time.
+pub fn once<T>(run: impl FnOnce() -> T) -> (T, Duration) {
+    let start = Instant::now();
+    let answer = run();
+    (answer, start.elapsed())
+}
+
+/// One of several things that are timed turn by turn, so that a disturbance of the machine meets all of them.
+pub struct Timed<'a> {
+    run: Box<dyn FnMut() + 'a>,
+    batch: u32,
+    turns: usize,
+    samples: Vec<f64>,
+}
+
+impl<'a> Timed<'a> {
+    /// `first` is what one call took before.
+    pub fn new(first: Duration, run: impl FnMut() + 'a) -> Timed<'a> {
+        let nanos = first.as_nanos().max(1);
+        let batch = (BATCH.as_nanos() / nanos).clamp(1, 100_000) as u32;
+        let turns = (BUDGET.as_nanos() / (nanos * batch as u128)).clamp(1, TURNS as u128) as usize;
+        Timed { run: Box::new(run), batch, turns, samples: Vec::new() }
+    }
+
+    fn turn(&mut self) {
+        let start = Instant::now();
+        for _ in 0..self.batch {
+            (self.run)();
+        }
+        self.samples.push(micros(start.elapsed()) / self.batch as f64);
+    }
+
+    fn time(mut self) -> Time {
+        Time { best: self.samples.iter().copied().fold(f64::INFINITY, f64::min), median: median(&mut self.samples) }
+    }
+}
+
+/// Times all of them, turn by turn.
+pub fn in_turns(mut things: Vec<Timed>) -> Vec<Time> {
+    for turn in 0..TURNS {
+        for thing in things.iter_mut().filter(|thing| turn < thing.turns) {
+            thing.turn();
+        }
+    }
+    things.into_iter().map(Timed::time).collect()
+}
+
+/// Times one thing.
+pub fn alone(mut run: impl FnMut()) -> Time {
+    run();
+    let ((), first) = once(&mut run);
+    in_turns(vec![Timed::new(first, run)])[0]
+}
+
+/// The middle figure; of two middle ones the lower. Sorts the figures.
+pub fn median(figures: &mut [f64]) -> f64 {
+    figures.sort_unstable_by(f64::total_cmp);
+    figures[(figures.len() - 1) / 2]
+}

@@ -1,0 +1,27 @@
+#!/bin/sh
+# Compares the static library with the independent implementation in src/.
+#
+#   tests/run.sh [path of the static library] [number of calls] [other options of src/main.rs, such as seed=5]
+#
+# The library is target/staticlib/libmatcher.a unless given. A difference ends the run with status 1 and prints the call.
+set -eu
+here=$(cd "$(dirname "$0")" && pwd)
+library=${1:-$here/../target/staticlib/libmatcher.a}
+calls=${2:-200000}
+[ $# -ge 2 ] && shift 2 || shift $#
+[ -f "$library" ] || { echo "no static library at $library" >&2; exit 2; }
+library=$(cd "$(dirname "$library")" && pwd)/$(basename "$library")
+
+build=$(mktemp -d)
+trap 'rm -rf "$build"' EXIT
+rustc --edition 2021 -O -o "$build/compare" "$here/src/main.rs" -C link-arg="$library"
+
+status=0
+timeout 600 "$build/compare" calls="$calls" "$@" || status=$?
+if [ "$status" -ge 124 ]; then
+    # The library crashed or did not come back: make the calls again, keeping the last one.
+    echo "DIFFERENCE: ended with status $status; the last call:"
+    timeout 900 "$build/compare" calls="$calls" trace="$build/call" "$@" >/dev/null 2>&1 || true
+    if [ -f "$build/call" ]; then cat "$build/call"; else echo "one of the fixed calls (src/cases.rs, src/limits.rs)"; fi
+fi
+exit "$status"

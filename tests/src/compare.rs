@@ -1,0 +1,151 @@
+//! Makes one call of the library and compares the answer and every lent table, byte for byte, with what the operation should do.
+
+use crate::library;
+use crate::operations::{Call, Operation, Outcome};
+use crate::tables::{read_pattern, read_recipe};
+
+/// Bytes before and behind each lent table that nobody may touch.
+const GUARD: usize = 64;
+const GUARD_BYTE: u8 = 0xC7;
+
+/// A table between two guards. The shift moves it to any address, also an odd one.
+struct Lent {
+    buffer: Vec<u8>,
+    start: usize,
+    length: usize,
+}
+
+impl Lent {
+    fn new(table: &[u8], shift: usize) -> Lent {
+        let start = GUARD + shift;
+        let mut buffer = Vec::with_capacity(start + table.len() + GUARD);
+        buffer.resize(start, GUARD_BYTE);
+        buffer.extend_from_slice(table);
+        buffer.resize(start + table.len() + GUARD, GUARD_BYTE);
+        Lent { buffer, start, length: table.len() }
+    }
+
+    fn table(&self) -> &[u8] {
+        &self.buffer[self.start..self.start + self.length]
+    }
+
+    fn table_mut(&mut self) -> &mut [u8] {
+        &mut self.buffer[self.start..self.start + self.length]
+    }
+
+    /// What differs from the expected table or its guards, if anything does.
+    fn difference(&self, name: &str, expected: &[u8]) -> Option<String> {
+        let is_guard = |bytes: &[u8]| bytes.iter().all(|byte| *byte == GUARD_BYTE);
+        if !is_guard(&self.buffer[..self.start]) {
+            return Some(format!("bytes before the table {name} were written"));
+        }
+        if !is_guard(&self.buffer[self.start + self.length..]) {
+            return Some(format!("bytes behind the table {name} were written"));
+        }
+        if self.table() == expected {
+            return None;
+        }
+        let at = (0..expected.len()).find(|at| self.table()[*at] != expected[*at]).expect("some byte differs");
+        let from = at - at % 32;
+        let to = (from + 64).min(expected.len());
+        Some(format!(
+            "table {name} differs first at byte {at}; from byte {from}:\n  expected {}\n  library  {}",
+            hex(&expected[from..to]),
+            hex(&self.table()[from..to])
+        ))
+    }
+}
+
+/// The tables of a call, each between its guards.
+struct Tables {
+    pattern: Lent,
+    right: Lent,
+    recipe: Lent,
+    lines: Lent,
+    values: Lent,
+    output: Lent,
+    work: Lent,
+}
+
+/// Calls the library: its answer, and the tables as they are then. `shift` sets the addresses of the tables.
+fn make(call: &Call, shift: usize) -> (i64, Tables) {
+    let mut tables = Tables {
+        pattern: Lent::new(&call.pattern, shift % 8),
+        right: Lent::new(&call.right, (shift + 1) % 8),
+        recipe: Lent::new(&call.recipe, (shift + 2) % 8),
+        lines: Lent::new(&call.lines, (shift + 3) % 8),
+        values: Lent::new(&call.values, (shift + 4) % 8),
+        output: Lent::new(&call.output, (shift + 5) % 8),
+        work: Lent::new(&call.work, (shift + 6) % 8),
+    };
+    let Tables { pattern, right, recipe, lines, values, output, work } = &mut tables;
+    let (pattern, right, recipe) = (pattern.table(), right.table(), recipe.table());
+    let answer = match call.operation {
+        Operation::List => library::list(pattern, recipe, lines.table_mut(), values.table_mut(), work.table_mut()),
+        Operation::Check => library::check(pattern, recipe, lines.table(), values.table(), work.table_mut()),
+        Operation::Sweep => library::sweep(pattern, lines.table(), values.table(), output.table_mut(), work.table_mut()),
+        Operation::Rewrite => library::rewrite(pattern, right, recipe, lines.table(), values.table(), output.table_mut(), work.table_mut()),
+    };
+    (answer, tables)
+}
+
+/// Calls the library; the difference if there is one.
+pub fn compare(call: &Call, outcome: &Outcome, shift: usize) -> Result<(), String> {
+    let (answer, tables) = make(call, shift);
+    let mut differences = Vec::new();
+    if answer != outcome.answer {
+        differences.push(format!("answer: expected {} {:?}, library {answer}", outcome.answer, outcome.refusal));
+    }
+    differences.extend(tables.pattern.difference("pattern", &call.pattern));
+    differences.extend(tables.right.difference("right", &call.right));
+    differences.extend(tables.recipe.difference("recipe", &call.recipe));
+    differences.extend(tables.lines.difference("lines", &outcome.lines));
+    differences.extend(tables.values.difference("values", &outcome.values));
+    differences.extend(tables.output.difference("output", &outcome.output));
+    differences.extend(tables.work.difference("work", &outcome.work));
+    if differences.is_empty() {
+        Ok(())
+    } else {
+        Err(differences.join("\n"))
+    }
+}
+
+/// The library's own listing, for a call that the plain lister is too slow for: the answer, the line table and the value table.
+pub fn library_listing(call: &Call) -> (i64, Vec<u8>, Vec<u8>) {
+    let (answer, tables) = make(call, 0);
+    (answer, tables.lines.table().to_vec(), tables.values.table().to_vec())
+}
+
+/// The call in hexadecimal, and its terms in the notation of document 01 where they can be read.
+pub fn describe(call: &Call) -> String {
+    let mut text = format!("operation {:?}\n", call.operation);
+    let tables = [
+        ("pattern", &call.pattern),
+        ("right", &call.right),
+        ("recipe", &call.recipe),
+        ("lines", &call.lines),
+        ("values", &call.values),
+        ("output", &call.output),
+        ("work", &call.work),
+    ];
+    for (name, table) in tables {
+        // The whole table, but of a long one to be written or of a work area the beginning will do.
+        let is_input = call.operation != Operation::List && (name == "lines" || name == "values");
+        let shown = if table.len() > 512 && !is_input { 64 } else { table.len() };
+        let more = if shown < table.len() { ".." } else { "" };
+        text += &format!("  {name} ({} bytes) {}{more}\n", table.len(), hex(&table[..shown]));
+        let term = match name {
+            "pattern" | "right" => read_pattern(table, "").ok(),
+            "recipe" => read_recipe(table).ok(),
+            _ => None,
+        };
+        if let Some(term) = term {
+            text += &format!("    that is {}\n", term.text());
+        }
+    }
+    text
+}
+
+fn hex(bytes: &[u8]) -> String {
+    bytes.iter().map(|byte| format!("{byte:02x}")).collect()
+}

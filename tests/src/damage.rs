@@ -1,0 +1,141 @@
+//! Damage to a call, for every refusal number: lengths, records, shapes, entries and values. Several damages together test the order of the refusals.
+
+use crate::operations::{Call, Operation};
+use crate::random::Random;
+use crate::tables::*;
+
+/// Damages one of the tables.
+pub fn damage(random: &mut Random, call: &mut Call) {
+    let has_recipe = call.operation != Operation::Sweep;
+    let is_list = call.operation == Operation::List;
+    match random.below(100) {
+        0..=29 => damage_term(random, &mut call.pattern, MOST_PATTERN_RECORDS),
+        30..=49 if has_recipe => damage_term(random, &mut call.recipe, MOST_RECIPE_RECORDS),
+        50..=64 if call.operation == Operation::Rewrite => damage_term(random, &mut call.right, MOST_PATTERN_RECORDS),
+        65..=74 => damage_lengths(random, call),
+        _ if is_list => damage_term(random, &mut call.pattern, MOST_PATTERN_RECORDS),
+        75..=86 => damage_entry(random, call),
+        _ => damage_values(random, &mut call.values),
+    }
+}
+
+/// Damages the table of a term: its length, a record, or its shape.
+fn damage_term(random: &mut Random, table: &mut Vec<u8>, most_records: usize) {
+    let records = table.len() / RECORD_BYTES;
+    match random.below(13) {
+        0 => {
+            let length = random.below(table.len() + 1);
+            table.truncate(length);
+        }
+        1 => table.clear(),
+        2 => table.truncate(records.saturating_sub(1) * RECORD_BYTES),
+        3 => table.extend_from_slice(&[3, 0, 0, 1]),
+        4 => {
+            let length = random.between(1, 3);
+            table.extend(random.bytes(length));
+        }
+        5 => {
+            let most = if random.chance(80) { most_records + random.below(3) } else { random.pick(&[most_records * 2, 16_384, 16_385, 65_536]) };
+            while table.len() / RECORD_BYTES < most {
+                table.extend_from_slice(&[3, 0, 0, 1]);
+            }
+        }
+        6 => {
+            table.splice(0..0, [0, 0, 0, 0]);
+        }
+        // Exactly as long as it may be or one more: the term below abstractions.
+        7 => {
+            let most = most_records + random.below(2);
+            while table.len() / RECORD_BYTES < most {
+                table.splice(0..0, [1, 0, 0, 0]);
+            }
+        }
+        _ => damage_record(random, table),
+    }
+}
+
+/// Changes one record.
+fn damage_record(random: &mut Random, table: &mut [u8]) {
+    let records = table.len() / RECORD_BYTES;
+    if records == 0 {
+        return;
+    }
+    let at = random.below(records) * RECORD_BYTES;
+    let record = &mut table[at..at + RECORD_BYTES];
+    match random.below(10) {
+        0 => record[0] = random.below(5) as u8,
+        1 => record[0] = random.between(5, 255) as u8,
+        2 => record[1] = random.between(1, 255) as u8,
+        3 => record[2] = random.between(1, 255) as u8,
+        4 => record[3] = random.pick(&[1, 7, 8, 9, 255]),
+        5 => record[3] = record[3].wrapping_add(1),
+        6 => record.copy_from_slice(&[2, 0, 0, random.below(6) as u8]),
+        7 => record.copy_from_slice(&[4, 0, 0, random.below(10) as u8]),
+        8 => record.copy_from_slice(&[2, 0, 255, 255]),
+        _ => record[random.below(RECORD_BYTES)] ^= 1 << random.below(8),
+    }
+}
+
+/// Gives one of the written tables, the line or the work area another length.
+fn damage_lengths(random: &mut Random, call: &mut Call) {
+    let odd = |random: &mut Random, length: usize| match random.below(4) {
+        0 => length + random.between(1, 3),
+        1 => MOST_TABLE_BYTES + random.pick(&[1, 4, 32, 65_536]),
+        2 => length + random.pick(&[4, 16, 31]),
+        _ => length.saturating_sub(random.between(1, 5)),
+    };
+    match (random.below(4), call.operation) {
+        (0, Operation::List) => {
+            let length = odd(random, call.lines.len());
+            call.lines.resize(length, 0x55);
+        }
+        (0, _) => call.lines.resize(random.pick(&[0, 28, 31, 33, 64, 65_536]), 0),
+        (1, _) => {
+            let length = odd(random, call.values.len());
+            call.values.resize(length, 0x55);
+        }
+        (2, Operation::Sweep | Operation::Rewrite) => {
+            let length = odd(random, call.output.len());
+            call.output.resize(length, 0x55);
+        }
+        _ => {
+            let length = random.pick(&[0, 1, 4, 32_768, 65_532, 65_535, 65_537, 65_540, 131_072]);
+            call.work.resize(length, 0x55);
+        }
+    }
+}
+
+/// Changes one entry of the line.
+fn damage_entry(random: &mut Random, call: &mut Call) {
+    if call.lines.len() != LINE_BYTES {
+        return;
+    }
+    // An entry that points somewhere, if there is one.
+    let pointing: Vec<usize> = (0..8).filter(|variable| number_at(&call.lines, 4 * variable + 2) > 0).collect();
+    let variable = if pointing.is_empty() { random.below(8) } else { random.pick(&pointing) };
+    let (first, count) = (number_at(&call.lines, 4 * variable), number_at(&call.lines, 4 * variable + 2));
+    let records = call.values.len() / RECORD_BYTES;
+    let (first, count) = match random.below(10) {
+        0 => (0, 0),
+        1 => (first.max(1), 0),
+        2 => (first + 1, count),
+        3 => (first, count + 1),
+        4 => (first, count - count.min(1)),
+        5 => (65_535, random.between(1, 3)),
+        6 => (records, count),
+        7 => (records.saturating_sub(count), count),
+        8 => (first, 65_535),
+        _ => (random.below(65_536), random.below(65_536)),
+    };
+    write_entry(&mut call.lines, variable, first, count);
+}
+
+/// Changes a record of the value table, or cuts the table.
+fn damage_values(random: &mut Random, values: &mut Vec<u8>) {
+    if random.chance(20) {
+        let records = values.len() / RECORD_BYTES;
+        values.truncate(random.below(records + 1) * RECORD_BYTES);
+    } else {
+        damage_record(random, values);
+    }
+}

@@ -1,0 +1,258 @@
+//! Compares the static library with an independent implementation of document 01, written without its code, on random calls of all four
+//! operations from a fixed seed: the answer and every byte of every lent table.
+//!
+//! - terms, sweep, lister: terms as trees, the sweep, and the plain lister (the equations of one-step matching, all subsets, no pruning)
+//! - tables, operations: bytes and their validity, and the four operations with the refusals in the document's order
+//! - library, compare: the C interface, and one call of it compared
+//! - random, generate, damage: random numbers, random calls, and damage to them
+//! - cases, limits: fixed calls, the cases 1 to 11 of the document and the limits
+//! - definition: listings set against the definition of a full listing, by enumerating small values: one in four of those compared, and those that the
+//!   plain lister is too slow for
+//!
+//! Options: calls=N, seed=N, steps=N (the limit of the plain lister: a call that needs more is set against the definition alone and not
+//! counted as compared), only=N (the one call of that
+//! number, described), trace=FILE (writes each call to the file before it is made: after a crash the file holds the call).
+#![deny(unsafe_code)]
+
+mod cases;
+mod compare;
+mod damage;
+mod definition;
+mod generate;
+#[allow(unsafe_code)]
+#[rustfmt::skip]
+mod library;
+mod limits;
+mod lister;
+mod operations;
+mod random;
+mod sweep;
+mod tables;
+mod terms;
+
+use operations::{expected, Call, Operation, Outcome};
+use random::Random;
+use std::collections::BTreeMap;
+
+/// One listing in this many is set against the definition too.
+const EVERY_LISTING: u64 = 4;
+/// With so many assignments at most.
+const MOST_TRIES: usize = 400;
+
+struct Options {
+    calls: u64,
+    seed: u64,
+    steps: usize,
+    only: Option<u64>,
+    trace: Option<String>,
+}
+
+fn options() -> Options {
+    let mut options = Options { calls: 200_000, seed: 20_010_412, steps: 20_000, only: None, trace: None };
+    for argument in std::env::args().skip(1) {
+        let (name, value) = argument.split_once('=').unwrap_or_else(|| panic!("not name=value: {argument}"));
+        let number = || value.parse::<u64>().unwrap_or_else(|_| panic!("no number: {argument}"));
+        match name {
+            "calls" => options.calls = number(),
+            "seed" => options.seed = number(),
+            "steps" => options.steps = number() as usize,
+            "only" => options.only = Some(number()),
+            "trace" => options.trace = Some(value.to_string()),
+            _ => panic!("no such option: {argument}"),
+        }
+    }
+    options
+}
+
+const OPERATIONS: [Operation; 4] = [Operation::List, Operation::Check, Operation::Sweep, Operation::Rewrite];
+
+/// Counts of calls, one for each operation.
+type Calls = [u64; 4];
+
+#[derive(Default)]
+struct Counts {
+    skipped: u64,
+    skipped_listings: u64,
+    skipped_tries: usize,
+    calls: Calls,
+    /// By what was answered (the number orders the rows), then for each operation.
+    answers: BTreeMap<(usize, &'static str), Calls>,
+    /// By refusal number.
+    refusals: BTreeMap<u8, Calls>,
+    /// By refusal number, table and cause.
+    causes: BTreeMap<(u8, &'static str, &'static str), Calls>,
+    listings_by_definition: u64,
+    tries_by_definition: usize,
+    most_lines: i64,
+    longest_value: usize,
+}
+
+fn main() {
+    let options = options();
+    let mut counts = Counts::default();
+    match cases::run() {
+        Ok(calls) => println!("cases 1 to 11 of document 01: {calls} calls, all equal"),
+        Err(difference) => fail("in the cases of document 01", &difference),
+    }
+    match limits::run() {
+        Ok(calls) => println!("calls at the limits: {calls}, all equal"),
+        Err(difference) => fail("in the calls at the limits", &difference),
+    }
+    // Calls are numbered from 0; skipped ones don't count, so that the number of calls compared is the number asked for.
+    let mut compared = 0;
+    let mut number = options.only.unwrap_or(0);
+    while compared < options.calls {
+        let mut random = Random::for_call(options.seed, number);
+        let call = generate::call(&mut random, options.steps);
+        if let Some(file) = &options.trace {
+            std::fs::write(file, format!("call {number}\n{}", compare::describe(&call))).expect("the trace can be written");
+        }
+        match expected(&call, options.steps) {
+            None => {
+                counts.skipped += 1;
+                if let Err(wrong) = check_skipped(&call, &mut counts) {
+                    fail(&format!("in call {number} (seed {})", options.seed), &format!("{wrong}\n{}", compare::describe(&call)));
+                }
+            }
+            Some(outcome) => {
+                let place = format!("in call {number} (seed {})", options.seed);
+                if let Err(difference) = compare::compare(&call, &outcome, random.below(8)) {
+                    fail(&place, &format!("{difference}\n{}", compare::describe(&call)));
+                }
+                if let Err(wrong) = check_by_definition(&call, &outcome, number, options.steps, &mut counts) {
+                    fail(&place, &format!("not a full listing: {wrong}\n{}", compare::describe(&call)));
+                }
+                count(&call, &outcome, &mut counts);
+                compared += 1;
+            }
+        }
+        if options.only.is_some() {
+            println!("call {number}\n{}", compare::describe(&call));
+            println!("answer {:?}", expected(&call, options.steps).map(|outcome| outcome.answer));
+            return;
+        }
+        number += 1;
+    }
+    report(&counts);
+    check_coverage(compared, &counts);
+    println!("all {compared} random calls equal");
+}
+
+fn fail(place: &str, difference: &str) -> ! {
+    println!("DIFFERENCE {place}\n{difference}");
+    std::process::exit(1);
+}
+
+/// Sets some of the listings against the definition.
+fn check_by_definition(call: &Call, outcome: &Outcome, number: u64, steps: usize, counts: &mut Counts) -> Result<(), String> {
+    if call.operation != Operation::List || outcome.refusal.is_some() || number % EVERY_LISTING != 0 {
+        return Ok(());
+    }
+    let pattern = tables::read_pattern(&call.pattern, "pattern").expect("it was valid");
+    let recipe = tables::read_recipe(&call.recipe).expect("it was valid");
+    let mut lines = lister::list(&pattern, &recipe, steps).expect("it was listed before");
+    tables::sort_lines(&mut lines);
+    counts.tries_by_definition += definition::check(&pattern, &recipe, &lines, MOST_TRIES)?;
+    counts.listings_by_definition += 1;
+    Ok(())
+}
+
+/// A call that the plain lister is too slow for: what the library writes must be laid out as it should and pass the definition.
+fn check_skipped(call: &Call, counts: &mut Counts) -> Result<(), String> {
+    let (answer, lines, values) = compare::library_listing(call);
+    if answer == -9 || answer == -10 {
+        return Ok(());
+    }
+    if answer < 0 || answer as usize * tables::LINE_BYTES > lines.len() {
+        return Err(format!("the library answers {answer}"));
+    }
+    let pattern = tables::read_pattern(&call.pattern, "pattern").expect("it was valid");
+    let recipe = tables::read_recipe(&call.recipe).expect("it was valid");
+    let listing = tables::read_lines(&lines[..answer as usize * tables::LINE_BYTES], &values).map_err(|refusal| format!("{refusal:?}"))?;
+    let (line_bytes, value_bytes) = tables::lay_out(&listing);
+    let (lines_end, values_end) = (line_bytes.len(), value_bytes.len());
+    if lines[..lines_end] != line_bytes || values[..values_end] != value_bytes {
+        return Err("the lines or values are not laid out as they should".into());
+    }
+    if lines[lines_end..] != call.lines[lines_end..] || values[values_end..] != call.values[values_end..] {
+        return Err("bytes behind the last line or value were written".into());
+    }
+    counts.skipped_tries += definition::check(&pattern, &recipe, &listing, MOST_TRIES)?;
+    counts.skipped_listings += 1;
+    Ok(())
+}
+
+fn count(call: &Call, outcome: &Outcome, counts: &mut Counts) {
+    let operation = call.operation as usize;
+    counts.calls[operation] += 1;
+    if let Some(refusal) = outcome.refusal {
+        counts.refusals.entry(refusal.number).or_default()[operation] += 1;
+        counts.causes.entry((refusal.number, refusal.table, refusal.cause)).or_default()[operation] += 1;
+        return;
+    }
+    let answer = match (call.operation, outcome.answer) {
+        (Operation::Check, 0) => (0, "no"),
+        (Operation::Check, _) => (1, "yes"),
+        (Operation::List, 0) => (2, "no line"),
+        (Operation::List, 1) => (3, "1 line"),
+        (Operation::List, 2) => (4, "2 lines"),
+        (Operation::List, 3..=9) => (5, "3 to 9 lines"),
+        (Operation::List, 10..=99) => (6, "10 to 99 lines"),
+        (Operation::List, _) => (7, "100 lines and more"),
+        (_, 1..=9) => (8, "1 to 9 records"),
+        (_, 10..=99) => (9, "10 to 99 records"),
+        (_, 100..=255) => (10, "100 to 255 records"),
+        _ => (11, "256 records"),
+    };
+    counts.answers.entry(answer).or_default()[operation] += 1;
+    if call.operation == Operation::List {
+        counts.most_lines = counts.most_lines.max(outcome.answer);
+        for line in outcome.lines.chunks(tables::LINE_BYTES).take(outcome.answer as usize) {
+            let longest = (0..8).map(|variable| tables::number_at(line, 4 * variable + 2)).max();
+            counts.longest_value = counts.longest_value.max(longest.unwrap_or(0));
+        }
+    }
+}
+
+fn report(counts: &Counts) {
+    let row = |label: &str, calls: &Calls| {
+        let [list, check, sweep, rewrite] = calls;
+        println!("{label:<36}{list:>9}{check:>9}{sweep:>9}{rewrite:>9}{:>9}", calls.iter().sum::<u64>());
+    };
+    println!("{:<36}{:>9}{:>9}{:>9}{:>9}{:>9}", "random calls", "list", "check", "sweep", "rewrite", "all");
+    row("compared", &counts.calls);
+    for ((_, answer), calls) in &counts.answers {
+        row(answer, calls);
+    }
+    for (number, calls) in &counts.refusals {
+        row(&format!("refused {number}"), calls);
+        for ((_, table, cause), calls) in counts.causes.iter().filter(|((of, ..), _)| of == number) {
+            row(&format!("    {table}: {cause}"), calls);
+        }
+    }
+    println!(
+        "skipped by the step limit of the plain lister: {}; of these {} listings set against the definition, with {} assignments",
+        counts.skipped, counts.skipped_listings, counts.skipped_tries
+    );
+    println!("most lines written {}, longest value in a line {} records", counts.most_lines, counts.longest_value);
+    println!(
+        "of the listings compared {} set against the definition too, with {} assignments",
+        counts.listings_by_definition, counts.tries_by_definition
+    );
+}
+
+/// In a long run every refusal number of every operation must have come up.
+fn check_coverage(compared: u64, counts: &Counts) {
+    if compared < 100_000 {
+        return;
+    }
+    let numbers: [&[u8]; 4] =
+        [&[1, 2, 3, 4, 5, 6, 7, 8, 9, 10], &[1, 2, 3, 4, 5, 6, 7, 8, 11, 12], &[1, 2, 3, 8, 11, 12, 13], &[1, 2, 3, 4, 5, 6, 7, 8, 11, 12, 13, 14]];
+    for (operation, numbers) in OPERATIONS.iter().zip(numbers) {
+        for number in numbers {
+            if counts.refusals.get(number).map_or(0, |calls| calls[*operation as usize]) == 0 {
+                fail("in the coverage", &format!("no {operation:?} was refused with {number}"));
+            }
+        }
+    }
+}
