@@ -5,7 +5,7 @@
 // as they were, and the work area is all zero unless its own length was wrong. It rests on `records`, `assignments`, `sweeping`, `listing` and
 // `search`.
 
-mod exports;
+pub mod exports;
 mod listings;
 
 use listing::LINE;
