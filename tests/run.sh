@@ -1,5 +1,5 @@
 #!/bin/sh
-# Compares the static library with the independent implementation in src/.
+# Runs the programs of examples/link over the static library, and compares it with the independent implementation in src/.
 #
 #   tests/run.sh [path of the static library] [number of calls] [other options of src/main.rs, such as seed=5]
 #
@@ -12,6 +12,7 @@ calls=${2:-200000}
 [ -f "$library" ] || { echo "no static library at $library" >&2; exit 2; }
 library=$(cd "$(dirname "$library")" && pwd)/$(basename "$library")
 
+"$here/../examples/link/run.sh" "$library"
 build=$(mktemp -d)
 trap 'rm -rf "$build"' EXIT
 rustc --edition 2021 -O -o "$build/compare" "$here/src/main.rs" -C link-arg="$library"
