@@ -1,14 +1,14 @@
--- A search that counts decides whether the full listing has room, and a second one that writes finds the same lines. Lines that list the
+-- A search decides whether the full listing has room, and what it has written becomes that listing once it is in order. Lines that list the
 -- matches are those of the one full listing in some order, so that their number and their records are its own. Assumes nothing.
 use mathlib.Core.Path.{_≡_, refl, sym, ap, ap₂, _∙_, subst, subst₂}
 use mathlib.Core.List.{List, [], _∷_, _++_}
 use mathlib.Core.Logic.{_⊎_, inl, inr, ⊎-elim}
-use Prim.Native.Nat.{ℕ, _+_, _*_, _≤_, _<_}
+use Prim.Native.Nat.{ℕ, _+_, _-_, _*_, _≤_, _<_}
 use native.Mathlib.Decide.{decLt}
 use native.Mathlib.Omega.{arith}
-use lib.ListN.{length, drop}
-use lib.Seq.{drop-at}
-use Rattle.terms.specs.Figures.{variables}
+use lib.ListN.{length, take, drop}
+use lib.Seq.{sets, sets-eq, drop-at, take-at}
+use Rattle.terms.specs.Figures.{variables, tableBytes}
 use Rattle.terms.specs.Term.{Term, Occurs}
 use Rattle.terms.specs.Listing.{In, Line, Full}
 use Rattle.terms.specs.Layout.{valueRecords, lineTable, valuesRecords, valueTable}
@@ -23,13 +23,13 @@ use Rattle.matching.proofs.Partial.{lists-full}
 use Rattle.matching.proofs.Listing.{full-sort}
 use Rattle.records.specs.Checks.{Pattern, Recipe}
 use Rattle.listing.specs.declared.Tally.{Tally}
-use Rattle.listing.specs.Outcome.{Outcome, outcome, stores, Tables, Arranges, Arranged}
+use Rattle.listing.specs.Outcome.{Outcome, outcome, Tables, InLineOrder, Arranges, Arranged}
 use Rattle.listing.proofs.Stores.{Begun, stores-count, stores-records, stores-lengths, stores-tables, stores-begin, line-table-length, value-table-length}
 use Rattle.search.specs.Collected.{Tallied, nothing, Collected}
 use Rattle.matcher.specs.declared.Refusal.{Refusal}
 use Rattle.matcher.specs.declared.ListAnswer.{ListAnswer}
 use Rattle.matcher.specs.Operations.{lentLines, lentRecords, ListingOf, WrittenLines}
-use Rattle.matcher.specs.Steps.{Listable, Numbered, Counted, Room, Enumerated}
+use Rattle.matcher.specs.Steps.{Listable, Room, Copies, Copied, Enumerated}
 
 -- lines that are found, none twice, have no more records than all
 without :
@@ -50,21 +50,6 @@ found-records (l ∷ ls) ms h f =
 lists-records : (n : ℕ) (S : ℕ → Type 0) (Q : Predicate) (ls ms : List Line) → Lists n S Q ls → Lists n S Q ms → valuesRecords ls ≡ valuesRecords ms
 lists-records n S Q ls ms x y =
     omega (arith, found-records ls ms (x .distinct) (lists-members n S Q ls ms x y), found-records ms ls (y .distinct) (lists-members n S Q ms ls y x))
-
--- a search with any tables counts
-pub counted-collected :
-    (p t : List ℕ) (limit : ℕ) (l s m q : List ℕ) (n : Tally) → Collected p t limit l s m q n → Counted p t limit n
-counted-collected p t limit l s m q n c = record {
-  answer = λ x y e f.
-      let z = c .answer x y e f in
-      record {
-        found = z .lines;
-        lists = z .lists;
-        lines-are = λ h. omega (arith, ap (λ (o : Outcome). o .count) (z .exact h), stores-count (outcome l s nothing) (z .lines));
-        records-are = λ h. omega (arith, ap (λ (o : Outcome). o .records) (z .exact h), stores-records (outcome l s nothing) (z .lines));
-        over = λ h. omega (arith, z .over h);
-      };
-}
 
 module _ (p t : List ℕ) (a : Pattern p) (b : Recipe t) where
   abbrev x : Term
@@ -91,129 +76,228 @@ module _ (p t : List ℕ) (a : Pattern p) (b : Recipe t) where
   lists-of : (ls : List Line) → ListingOf p t ls → Listing ls
   lists-of ls f = lists-full variables x y (a .below) ls (full-of ls f)
 
-  -- the first pass
-  module _ (l s : List ℕ) (limit : ℕ) (n : Tally) (e : limit ≡ lentLines l) (c : Counted p t limit n) where
-    counted : Numbered p (Sweeps x y) limit n
-    counted = c .answer x y (a .table .0) (b .table .0)
-
-    found : Listing (counted .found)
-    found = lists-occurs (counted .found) (counted .lists)
-
-    abbrev order : List Line
-    order = sort (counted .found)
-
-    ordered : ListingOf p t order
-    ordered = listing-of order (full-sort variables x y (a .below) (counted .found) found)
-
-    order-length : length order ≡ length (counted .found)
-    order-length = lists-length variables (λ i. Occurs i x) (Sweeps x y) order (counted .found) (lists-of order ordered) found
-
-    order-records : valuesRecords order ≡ valuesRecords (counted .found)
-    order-records = lists-records variables (λ i. Occurs i x) (Sweeps x y) order (counted .found) (lists-of order ordered) found
-
-    pub no-lines : limit < n .lines → Enumerated p t l s (ListAnswer.Refused Refusal.LineRoom) l s
-    unfolding Enumerated
-    no-lines h = (record { lines = order; listing-of = ordered; cause = inl (omega (arith, counted .over h, order-length), refl) }, refl, refl)
-
-    module _ (h : n .lines ≤ limit) where
-      suffice : ¬ (lentLines l < length order)
-      suffice k = omega (arith, counted .lines-are h, order-length)
-
-      pub no-records : lentRecords s < n .records → Enumerated p t l s (ListAnswer.Refused Refusal.ValueRoom) l s
-      unfolding Enumerated
-      no-records k =
-          (record { lines = order; listing-of = ordered; cause = inr (suffice, inl (omega (arith, counted .records-are h, order-records), refl)) }, refl, refl)
-
-      pub room : n .records ≤ lentRecords s → Room p t l s
-      room k = record { lines = order; listing-of = ordered; fits = (suffice, (λ j. omega (arith, counted .records-are h, order-records), tt)) }
-
-  -- the second pass
-  module _ (l s : List ℕ) (limit : ℕ) (e : limit ≡ lentLines l) (r : Room p t l s) (m q : List ℕ) (k : Tally) (c : Collected p t limit l s m q k) where
-    tallied : Tallied p (Sweeps x y) limit (outcome l s nothing) (outcome m q k)
+  -- a search with any tables, for lent tables of as many lines as its limit
+  module _ (m₀ q₀ : List ℕ) (limit : ℕ) (m q : List ℕ) (n : Tally) (c : Collected p t limit m₀ q₀ m q n) where
+    tallied : Tallied p (Sweeps x y) limit (outcome m₀ q₀ nothing) (outcome m q n)
     tallied = c .answer x y (a .table .0) (b .table .0)
 
-    abbrev ls : List Line
-    ls = tallied .lines
+    abbrev found : List Line
+    found = tallied .lines
 
-    listed : Listing ls
-    listed = lists-occurs ls (tallied .lists)
+    listed : Listing found
+    listed = lists-occurs found (tallied .lists)
 
-    whole : Listing (r .lines)
-    whole = lists-of (r .lines) (r .listing-of)
+    abbrev order : List Line
+    order = sort found
 
-    same-length : length ls ≡ length (r .lines)
-    same-length = lists-length variables (λ i. Occurs i x) (Sweeps x y) ls (r .lines) listed whole
+    ordered : ListingOf p t order
+    ordered = listing-of order (full-sort variables x y (a .below) found listed)
 
-    same-records : valuesRecords ls ≡ valuesRecords (r .lines)
-    same-records = lists-records variables (λ i. Occurs i x) (Sweeps x y) ls (r .lines) listed whole
+    order-length : length order ≡ length found
+    order-length = lists-length variables (λ i. Occurs i x) (Sweeps x y) order found (lists-of order ordered) listed
 
-    lines-room : 4 * variables * length ls ≤ length l
-    lines-room = let h = r .fits .0 in omega (arith, same-length)
+    order-records : valuesRecords order ≡ valuesRecords found
+    order-records = lists-records variables (λ i. Occurs i x) (Sweeps x y) order found (lists-of order ordered) listed
 
-    values-room : 4 * valuesRecords ls ≤ length s
-    values-room = let h = r .fits .1 .0 in omega (arith, same-records)
+    pub no-lines : (l s : List ℕ) → limit ≡ lentLines l → limit < n .lines → Enumerated p t l s (ListAnswer.Refused Refusal.LineRoom) l s
+    unfolding Enumerated
+    no-lines l s e h = (record { lines = order; listing-of = ordered; cause = inl (omega (arith, tallied .over h, order-length), refl) }, refl, refl)
 
-    stored : outcome m q k ≡ stores (outcome l s nothing) ls
-    stored = go (decLt limit (k .lines))
-      where
-        go : Dec (limit < k .lines) → outcome m q k ≡ stores (outcome l s nothing) ls
-        go (yes h) = absurd (r .fits .0 (omega (arith, tallied .over h, same-length)))
-        go (no h) = tallied .exact (omega arith)
+    module _ (h : n .lines ≤ limit) where
+      lines-are : n .lines ≡ length found
+      lines-are = omega (arith, ap (λ (o : Outcome). o .count) (tallied .exact h), stores-count (outcome m₀ q₀ nothing) found)
 
-    lines-are : k .lines ≡ length ls
-    lines-are = omega (arith, ap (λ (o : Outcome). o .count) stored, stores-count (outcome l s nothing) ls)
+      records-are : n .records ≡ valuesRecords found
+      records-are = omega (arith, ap (λ (o : Outcome). o .records) (tallied .exact h), stores-records (outcome m₀ q₀ nothing) found)
 
-    records-are : k .records ≡ valuesRecords ls
-    records-are = omega (arith, ap (λ (o : Outcome). o .records) stored, stores-records (outcome l s nothing) ls)
+      module _ (l s : List ℕ) (e : limit ≡ lentLines l) where
+        suffice : ¬ (lentLines l < length order)
+        suffice k = omega (arith, lines-are, order-length)
 
-    tables : Tables m q ls
-    tables =
-        subst (λ (o : Outcome). Tables (o .lines) (o .values) ls) (sym stored) (stores-begin l s ls (listed .entries) lines-room values-room)
+        pub no-records : lentRecords s < n .records → Enumerated p t l s (ListAnswer.Refused Refusal.ValueRoom) l s
+        unfolding Enumerated
+        no-records k = (record { lines = order; listing-of = ordered; cause = inr (suffice, inl (omega (arith, records-are, order-records), refl)) }, refl, refl)
 
-    pub arranges : (w : List ℕ) → Listable p t l s w → (v : List ℕ) → length v ≡ length w → Arranges m q (k .lines) (k .records) v
-    arranges w z v f =
-        let n = stores-lengths (outcome l s nothing) ls in
-        record {
-          found = ls;
+        pub room : n .records ≤ lentRecords s → Room p t l s
+        room k = record { lines = order; listing-of = ordered; fits = (suffice, (λ j. omega (arith, records-are, order-records), tt)) }
+
+      -- what it has written, where all lines fit
+      module _ (i : 4 * variables * n .lines ≤ length m₀) (j : 4 * n .records ≤ length q₀) where
+        begun : Begun m₀ q₀ found
+        begun = stores-tables m₀ q₀ found (listed .entries) (omega (arith, lines-are)) (omega (arith, records-are))
+
+        tables : Tables m q found
+        tables =
+            subst (λ (o : Outcome). Tables (o .lines) (o .values) found) (sym (tallied .exact h))
+            (stores-begin m₀ q₀ found (listed .entries) (omega (arith, lines-are)) (omega (arith, records-are)))
+
+        lengths : (length m ≡ length m₀) × (length q ≡ length q₀)
+        lengths =
+            let n = stores-lengths (outcome m₀ q₀ nothing) found in
+            (ap (λ (o : Outcome). length (o .lines)) (tallied .exact h) ∙ n .0, ap (λ (o : Outcome). length (o .values)) (tallied .exact h) ∙ n .1)
+
+        pub arranges : (w : List ℕ) → length m₀ ≤ tableBytes → length q₀ ≤ tableBytes → length w ≡ tableBytes → Arranges m q (n .lines) (n .records) w
+        arranges w u v z = record {
+          found = found;
           tables = tables;
           distinct = listed .distinct;
           lines-are = lines-are;
           records-are = records-are;
-          lines-most = omega (arith, ap (λ (o : Outcome). length (o .lines)) stored, n .0, z .lines-most);
-          values-most = omega (arith, ap (λ (o : Outcome). length (o .values)) stored, n .1, z .values-most);
-          area = f ∙ z .area;
+          lines-most = omega (arith, lengths .0);
+          values-most = omega (arith, lengths .1);
+          area = z;
         }
 
-    begun : Begun l s ls
-    begun = stores-tables l s ls (listed .entries) lines-room values-room
+        pub copies : (l s w : List ℕ) → 4 * variables * n .lines ≤ length l → 4 * n .records ≤ length s → Listable p t l s w → Copies n m q l s w
+        copies l s w u v z = record {
+          found = found;
+          tables = tables;
+          distinct = listed .distinct;
+          lines-are = lines-are;
+          records-are = records-are;
+          from = (omega (arith, lengths .0), omega (arith, lengths .1));
+          room = (u, v);
+          most = (z .lines-most, z .values-most);
+          area = z .area;
+        }
 
-    -- the bytes behind the lines and the values
-    behind : (xs before now : List ℕ) (n i : ℕ) → length xs ≡ n → n ≡ i → now ≡ xs ++ drop n before → drop n now ≡ drop i before
-    behind xs before now n i g h f = ap (drop n) f ∙ drop-at xs (drop n before) n g ∙ ap (λ (j : ℕ). drop j before) h
+        -- the bytes behind the lines and the values
+        behind : (xs before now : List ℕ) (n : ℕ) → length xs ≡ n → now ≡ xs ++ drop n before → drop n now ≡ drop n before
+        behind xs before now n g f = ap (drop n) f ∙ drop-at xs (drop n before) n g
+
+        in-order : (m′ q′ : List ℕ) → Arranged m q (n .lines) (n .records) m′ q′ → InLineOrder m₀ q₀ found m′ q′
+        in-order m′ q′ z =
+            let o = z .arranged found tables (listed .distinct) lines-are records-are in
+            record {
+              order = o .order;
+              sorted = o .sorted;
+              lines-begin = o .lines-begin
+                  ∙ ap (lineTable 0 (o .order) ++_)
+                  (behind (lineTable 0 found) m₀ m (4 * variables * length found) (line-table-length 0 found (listed .entries)) (ap (λ (o : Outcome). o .lines) (tallied .exact h) ∙ begun .lines-begin));
+              values-begin = o .values-begin
+                  ∙ ap (valueTable (o .order) ++_)
+                  (behind (valueTable found) q₀ q (4 * valuesRecords found) (value-table-length found) (ap (λ (o : Outcome). o .values) (tallied .exact h) ∙ begun .values-begin));
+            }
+
+      -- the lines in order are the full listing
+      module _ (l s : List ℕ) (r : Room p t l s) where
+        whole : Listing (r .lines)
+        whole = lists-of (r .lines) (r .listing-of)
+
+        same-length : length found ≡ length (r .lines)
+        same-length = lists-length variables (λ i. Occurs i x) (Sweeps x y) found (r .lines) listed whole
+
+        same-records : valuesRecords found ≡ valuesRecords (r .lines)
+        same-records = lists-records variables (λ i. Occurs i x) (Sweeps x y) found (r .lines) listed whole
+
+        written-in-order : (m′ q′ : List ℕ) → InLineOrder l s found m′ q′ → WrittenLines p t l s (n .lines) m′ q′
+        written-in-order m′ q′ o =
+            let f = full-of (r .lines) (r .listing-of) in
+            let i : o .order ≡ r .lines = rising-same (o .order) (r .lines) (o .sorted .rising) (f .rising)
+            (λ u j. lists-members variables (λ i. Occurs i x) (Sweeps x y) found (r .lines) listed whole u (o .sorted .members u .0 j))
+            (λ u j. o .sorted .members u .1 (lists-members variables (λ i. Occurs i x) (Sweeps x y) (r .lines) found whole listed u j)) in
+            let g : 4 * variables * length found ≡ length (lineTable 0 (r .lines)) = omega (arith, line-table-length 0 (r .lines) (f .entries), same-length) in
+            let k : 4 * valuesRecords found ≡ length (valueTable (r .lines)) = omega (arith, value-table-length (r .lines), same-records) in
+            record {
+              lines = r .lines;
+              listing-of = r .listing-of;
+              room = r .fits;
+              count = lines-are ∙ same-length;
+              line-bytes = o .lines-begin ∙ ap₂ _++_ (ap (lineTable 0) i) (ap (λ (j : ℕ). drop j l) g);
+              value-bytes = o .values-begin ∙ ap₂ _++_ (ap valueTable i) (ap (λ (j : ℕ). drop j s) k);
+            }
+
+        pub written-copied :
+            4 * variables * n .lines ≤ length m₀ → 4 * n .records ≤ length q₀ → (k : ℕ) → k ≡ n .lines → (m′ q′ : List ℕ) → Copied n m q l s m′ q′ → WrittenLines p t l s k m′ q′
+        written-copied i j k e m′ q′ z =
+            subst (λ (k : ℕ). WrittenLines p t l s k m′ q′) (sym e) (written-in-order m′ q′ (z .copied found (tables i j) (listed .distinct) lines-are records-are))
+
+  -- a second search, with the lent tables
+  module _ (l s : List ℕ) (limit : ℕ) (e : limit ≡ lentLines l) (r : Room p t l s) (m q : List ℕ) (k : Tally) (c : Collected p t limit l s m q k) where
+    within : k .lines ≤ limit
+    within = go (decLt limit (k .lines))
+      where
+        go : Dec (limit < k .lines) → k .lines ≤ limit
+        go (yes h) =
+            absurd (r .fits .0 (omega (arith, tallied l s limit m q k c .over h, lists-length variables (λ i. Occurs i x) (Sweeps x y) _ (r .lines) (listed l s limit m q k c) (lists-of (r .lines) (r .listing-of)))))
+        go (no h) = omega arith
+
+    lines-room : 4 * variables * k .lines ≤ length l
+    lines-room = omega (arith, within)
+
+    values-room : 4 * k .records ≤ length s
+    values-room = let h = r .fits .1 .0 in omega (arith, records-are l s limit m q k c within, same-records l s limit m q k c within l s r)
+
+    pub second-arranges : (w : List ℕ) → Listable p t l s w → (v : List ℕ) → length v ≡ length w → Arranges m q (k .lines) (k .records) v
+    second-arranges w z v f = arranges l s limit m q k c within lines-room values-room v (z .lines-most) (z .values-most) (f ∙ z .area)
 
     pub written : (m′ q′ : List ℕ) → Arranged m q (k .lines) (k .records) m′ q′ → WrittenLines p t l s (k .lines) m′ q′
-    written m′ q′ z =
-        let o = z .arranged ls tables (listed .distinct) lines-are records-are in
-        let f = full-of (r .lines) (r .listing-of) in
-        let i : o .order ≡ r .lines = rising-same (o .order) (r .lines) (o .sorted .rising) (f .rising)
-        (λ u j. lists-members variables (λ i. Occurs i x) (Sweeps x y) ls (r .lines) listed whole u (o .sorted .members u .0 j))
-        (λ u j. o .sorted .members u .1 (lists-members variables (λ i. Occurs i x) (Sweeps x y) (r .lines) ls whole listed u j)) in
-        let g : 4 * variables * length ls ≡ length (lineTable 0 (r .lines)) = omega (arith, line-table-length 0 (r .lines) (f .entries), same-length) in
-        let h : 4 * valuesRecords ls ≡ length (valueTable (r .lines)) = omega (arith, value-table-length (r .lines), same-records) in
+    written m′ q′ z = written-in-order l s limit m q k c within l s r m′ q′ (in-order l s limit m q k c within lines-room values-room m′ q′ z)
+
+-- copying the tables of lines
+module _ (n : Tally) (m q l s w : List ℕ) (x : Copies n m q l s w) (i j : ℕ) (f : i ≡ 4 * variables * n .lines) (g : j ≡ 4 * n .records) (l₁ s₁ : List ℕ) (c : l₁ ≡ sets l 0 (take (i - 0) (drop 0 m))) (d : s₁ ≡ sets s 0 (take (j - 0) (drop 0 q))) where
+  -- a table that begins with some bytes, copied to the start of another
+  copied-table :
+      (xs table before after : List ℕ) (i k : ℕ) → length xs ≡ k → i ≡ k → k ≤ length before → table ≡ xs ++ drop k table
+      → after ≡ sets before 0 (take (i - 0) (drop 0 table)) → after ≡ xs ++ drop k before
+  copied-table xs table before after i k n e h t c =
+      let a : take (i - 0) (drop 0 table) ≡ xs = ap (take (i - 0)) t ∙ take-at xs (drop k table) (i - 0) (omega arith) in
+      let z : 0 + length xs ≡ k = omega arith in
+      c ∙ ap (sets before 0) a ∙ sets-eq xs before 0 (omega arith) ∙ ap (λ (h : ℕ). xs ++ drop h before) z
+
+  begins : (xs before after : List ℕ) (k : ℕ) → length xs ≡ k → after ≡ xs ++ drop k before → drop k after ≡ drop k before
+  begins xs before after k n e = ap (drop k) e ∙ drop-at xs (drop k before) k n
+
+  module _ (ls : List Line) (t : Tables m q ls) (lines-are : n .lines ≡ length ls) (records-are : n .records ≡ valuesRecords ls) where
+    abbrev lineCount : ℕ
+    lineCount = 4 * variables * length ls
+
+    abbrev valueCount : ℕ
+    valueCount = 4 * valuesRecords ls
+
+    lines-copied : l₁ ≡ lineTable 0 ls ++ drop lineCount l
+    lines-copied = copied-table (lineTable 0 ls) m l l₁ i lineCount (line-table-length 0 ls (t .entries)) (omega arith) (omega (arith, x .room .0)) (t .lines-begin) c
+
+    values-copied : s₁ ≡ valueTable ls ++ drop valueCount s
+    values-copied = copied-table (valueTable ls) q s s₁ j valueCount (value-table-length ls) (omega arith) (omega (arith, x .room .1)) (t .values-begin) d
+
+    lines-behind : drop lineCount l₁ ≡ drop lineCount l
+    lines-behind = begins (lineTable 0 ls) l l₁ lineCount (line-table-length 0 ls (t .entries)) lines-copied
+
+    values-behind : drop valueCount s₁ ≡ drop valueCount s
+    values-behind = begins (valueTable ls) s s₁ valueCount (value-table-length ls) values-copied
+
+    copied-tables : Tables l₁ s₁ ls
+    copied-tables = record {
+      entries = t .entries;
+      lines-begin = lines-copied ∙ ap (lineTable 0 ls ++_) (sym lines-behind);
+      values-begin = values-copied ∙ ap (valueTable ls ++_) (sym values-behind);
+    }
+
+    copied-order : (l′ s′ : List ℕ) → Distinct ls → Arranged l₁ s₁ (n .lines) (n .records) l′ s′ → InLineOrder l s ls l′ s′
+    copied-order l′ s′ h z =
+        let o = z .arranged ls copied-tables h lines-are records-are in
         record {
-          lines = r .lines;
-          listing-of = r .listing-of;
-          room = r .fits;
-          count = lines-are ∙ same-length;
-          line-bytes = o .lines-begin
-              ∙ ap₂ _++_ (ap (lineTable 0) i)
-              (behind (lineTable 0 ls) l m (4 * variables * length ls) (length (lineTable 0 (r .lines))) (line-table-length 0 ls (listed .entries)) g
-              (ap (λ (o : Outcome). o .lines) stored ∙ begun .lines-begin));
-          value-bytes = o .values-begin
-              ∙ ap₂ _++_ (ap valueTable i)
-              (behind (valueTable ls) s q (4 * valuesRecords ls) (length (valueTable (r .lines))) (value-table-length ls) h
-              (ap (λ (o : Outcome). o .values) stored ∙ begun .values-begin));
+          order = o .order;
+          sorted = o .sorted;
+          lines-begin = o .lines-begin ∙ ap (lineTable 0 (o .order) ++_) lines-behind;
+          values-begin = o .values-begin ∙ ap (valueTable (o .order) ++_) values-behind;
         }
+
+  pub copy-arranges : length l₁ ≡ length l → length s₁ ≡ length s → Arranges l₁ s₁ (n .lines) (n .records) w
+  copy-arranges e h = record {
+    found = x .found;
+    tables = copied-tables (x .found) (x .tables) (x .lines-are) (x .records-are);
+    distinct = x .distinct;
+    lines-are = x .lines-are;
+    records-are = x .records-are;
+    lines-most = omega (arith, x .most .0);
+    values-most = omega (arith, x .most .1);
+    area = x .area;
+  }
+
+  pub copied : (l′ s′ : List ℕ) → Arranged l₁ s₁ (n .lines) (n .records) l′ s′ → Copied n m q l s l′ s′
+  copied l′ s′ z = record { copied = λ ls t h a b. copied-order ls t a b l′ s′ h z }
 
 pub enumerated-written : (p t l s : List ℕ) (n : ℕ) (m q : List ℕ) → WrittenLines p t l s n m q → Enumerated p t l s (ListAnswer.Lines n) m q
 unfolding Enumerated

@@ -7,10 +7,9 @@
 --   Put ..             what writing a swept form answers and leaves
 --   tableRow n l, areaRow w   the row 8 of a table of places of n bytes, and of the work area
 --   Listable p t l s w   the tables that list is lent are ones that it searches
---   Searchable ..      what counting the lines needs
---   Numbered p Q m n   n counts lines that list Q and the records of their values, or they are more than m
---   Counted p t m n    so it is for the matches of the pattern p and the recipe t
 --   Room p t l s       a full listing of p and t fits the tables l and s
+--   Copies n m q l s w   the tables m and q begin with those of n's lines, which have room in the tables l and s
+--   Copied ..          those lines, in order, stand in the tables l and s
 --   Enumerated ..      what listing the matches answers and leaves
 use mathlib.Core.Path.{_≡_}
 use mathlib.Core.List.{List, [], _∷_, _++_}
@@ -21,13 +20,13 @@ use Rattle.terms.specs.Term.{Term}
 use Rattle.terms.specs.Table.{encode}
 use Rattle.terms.specs.Listing.{Line}
 use Rattle.terms.specs.Layout.{valuesRecords}
-use Rattle.terms.specs.Refusal.{Row, Refused, Passed, BadTable, BadArea, Filled, Matches, OccursIn, listing, swept, output}
-use Rattle.matching.proofs.Lists.{Predicate, Lists}
-use Rattle.matching.proofs.Lister.{Sweeps}
+use Rattle.terms.proofs.Members.{Distinct}
+use Rattle.terms.specs.Refusal.{Row, Refused, Passed, BadTable, BadArea, Filled, Matches, listing, swept, output}
 use Rattle.records.specs.Checks.{Pattern, Recipe}
 use Rattle.sweeping.specs.declared.Length.{Length}
 use Rattle.sweeping.specs.Swept as Sweeping
 use Rattle.listing.specs.declared.Tally.{Tally}
+use Rattle.listing.specs.Outcome.{Tables, InLineOrder}
 use Rattle.matcher.specs.declared.Verdict.{Verdict}
 use Rattle.matcher.specs.declared.SweepAnswer.{SweepAnswer}
 use Rattle.matcher.specs.declared.ListAnswer.{ListAnswer}
@@ -77,28 +76,25 @@ pub record Listable (p t l s w : List ℕ) : Type 0 where
   pub values-most : length s ≤ tableBytes
   pub area : length w ≡ tableBytes
 
-pub record Searchable (p t : List ℕ) (limit : ℕ) (w : List ℕ) : Type 0 where
-  pub pattern-checked : Pattern p
-  pub recipe-checked : Recipe t
-  pub limited : limit < tableBytes
-  pub area : length w ≡ tableBytes
-
--- the lines of a listing, in any order
-pub record Numbered (p : List ℕ) (Q : Predicate) (limit : ℕ) (n : Tally) : Type 0 where
-  pub found : List Line
-  pub lists : Lists variables (OccursIn p) Q found
-  pub lines-are : n .lines ≤ limit → n .lines ≡ length found
-  pub records-are : n .lines ≤ limit → n .records ≡ valuesRecords found
-  pub over : limit < n .lines → limit < length found
-
-pub record Counted (p t : List ℕ) (limit : ℕ) (n : Tally) : Type 0 where
-  pub answer : (x y : Term) → p ≡ encode x → t ≡ encode y → Numbered p (Sweeps x y) limit n
-
 -- a full listing that fits
 pub record Room (p t l s : List ℕ) : Type 0 where
   pub lines : List Line
   pub listing-of : ListingOf p t lines
   pub fits : Passed (listing (lentLines l) (lentRecords s) lines)
+
+pub record Copies (n : Tally) (m q l s w : List ℕ) : Type 0 where
+  pub found : List Line
+  pub tables : Tables m q found
+  pub distinct : Distinct found
+  pub lines-are : n .lines ≡ length found
+  pub records-are : n .records ≡ valuesRecords found
+  pub from : (4 * variables * n .lines ≤ length m) × (4 * n .records ≤ length q)
+  pub room : (4 * variables * n .lines ≤ length l) × (4 * n .records ≤ length s)
+  pub most : (length l ≤ tableBytes) × (length s ≤ tableBytes)
+  pub area : length w ≡ tableBytes
+
+pub record Copied (n : Tally) (m q l s l′ s′ : List ℕ) : Type 0 where
+  pub copied : (ls : List Line) → Tables m q ls → Distinct ls → n .lines ≡ length ls → n .records ≡ valuesRecords ls → InLineOrder l s ls l′ s′
 
 unfoldable pub Enumerated : List ℕ → List ℕ → List ℕ → List ℕ → ListAnswer → List ℕ → List ℕ → Type 0
 Enumerated p r l s (ListAnswer.Lines n) lines-after values-after = WrittenLines p r l s n lines-after values-after

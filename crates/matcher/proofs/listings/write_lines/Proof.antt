@@ -1,7 +1,7 @@
 -- `matcher::listings::write_lines` meets its contract: the search finds the lines of the one full listing, they all fit, and arranging them
 -- makes it. Assumes nothing.
 use mathlib.Core.Path.{refl}
-use Rattle.matcher.proofs.Searches.{arranges, written}
+use Rattle.matcher.proofs.Searches.{second-arranges, written}
 use borrow.Author.Needs.{needs}
 use Rattle.matcher.proofs.listings.write_lines.Statement.{statement}
 use Rattle.matcher.proofs.listings.write_lines.Tie as tie
@@ -10,7 +10,7 @@ collect-requires : tie.Need-collect-requires
 collect-requires c κs = search needs
 
 arrange-requires : tie.Need-arrange-requires
-arrange-requires c κs = arranges _ _ (c .before .before .before .before .before .before .before .before .before .before .before .before .before .before .before .before .before .before .pre .0 .pattern-checked) (c .before .before .before .before .before .before .before .before .before .before .before .before .before .before .before .before .before .before .pre .0 .recipe-checked) _ _ _ refl (c .before .before .before .before .before .before .before .before .before .before .before .before .before .before .before .before .before .before .pre .1) _ _ _ (c .before .before .before .before .before .before .before .before .before .collect .ensures) _ (c .before .before .before .before .before .before .before .before .before .before .before .before .before .before .before .before .before .before .pre .0) _ (c .before .before .before .before .before .before .before .before .before .collect .kept .1 .1 .1 .1 .1 .0)
+arrange-requires c κs = second-arranges _ _ (c .before .before .before .before .before .before .before .before .before .before .before .before .before .before .before .before .before .before .pre .0 .pattern-checked) (c .before .before .before .before .before .before .before .before .before .before .before .before .before .before .before .before .before .before .pre .0 .recipe-checked) _ _ _ refl (c .before .before .before .before .before .before .before .before .before .before .before .before .before .before .before .before .before .before .pre .1) _ _ _ (c .before .before .before .before .before .before .before .before .before .collect .ensures) _ (c .before .before .before .before .before .before .before .before .before .before .before .before .before .before .before .before .before .before .pre .0) _ (c .before .before .before .before .before .before .before .before .before .collect .kept .1 .1 .1 .1 .1 .0)
 
 same-length : tie.Need-same-length
 same-length c = search needs
