@@ -21,9 +21,9 @@ const BASELINES: [Baseline; 3] = [Baseline::Pruned, Baseline::Bare, Baseline::Tu
 /// What the baselines are called, in their order.
 const NAMES: [&str; BASELINES.len()] = ["(a)", "(b)", "(c)"];
 
-/// What a child is given for a case: each baseline within its limit, the repeats, and the rest for the library.
+/// What a child is given for a case, in time of day: each baseline within its limit of processor time, the repeats, and the rest for the library.
 fn patience(limit: Duration) -> Duration {
-    8 * limit + Duration::from_secs(10)
+    12 * limit + Duration::from_secs(10)
 }
 
 /// The child's part: prints one line with what the baselines took alone, which is all there is if the library doesn't answer,

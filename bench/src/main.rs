@@ -67,7 +67,7 @@ fn read_arguments() -> Arguments {
 fn print_setting(cases: usize, limit: Duration) {
     println!("# Benchmark of onestep\n");
     println!(
-        "{cases} cases, each measured in one process of its own, library and baselines turn by turn; times are medians of 15 turns (fewer for slow ones)."
+        "{cases} cases, each measured in one process of its own, library and baselines turn by turn; times are medians of 15 turns (fewer for slow ones), of processor time."
     );
     println!(
         "Ratios: (a) is the paper's algorithm with its three prunings and (b) its bare `resolve`, both written plainly in Rust; (c) is the search of (a),"

@@ -4,9 +4,9 @@ use crate::cases::Case;
 use crate::library::{self, Tables, Work, LINE};
 use crate::listing::Listing;
 use crate::plain::{self, Prunings};
-use crate::timing::{in_turns, once, Time, Timed};
+use crate::timing::{in_turns, now, once, Time, Timed};
 use crate::tuned;
-use std::time::{Duration, Instant};
+use std::time::Duration;
 
 /// What the library is measured against.
 #[derive(Clone, Copy)]
@@ -20,7 +20,7 @@ pub enum Baseline {
 }
 
 impl Baseline {
-    fn list(self, case: &Case, tables: &mut Tables, deadline: Instant) -> Option<i64> {
+    fn list(self, case: &Case, tables: &mut Tables, deadline: Duration) -> Option<i64> {
         let Case { pattern, recipe, .. } = case;
         match self {
             Baseline::Pruned => plain::list(pattern, recipe, tables, Prunings::Three, deadline),
@@ -60,7 +60,7 @@ impl Tried {
     /// Searches once, no longer than the limit.
     pub fn new(case: &Case, baseline: Baseline, limit: Duration) -> Tried {
         let mut tables = Tables::new();
-        let (answer, time) = once(|| baseline.list(case, &mut tables, Instant::now() + limit));
+        let (answer, time) = once(|| baseline.list(case, &mut tables, now() + limit));
         Tried { baseline, answer, time, tables }
     }
 
@@ -71,7 +71,7 @@ impl Tried {
     /// The same search again, to be timed; nothing where it had no answer.
     fn timed<'a>(&'a mut self, case: &'a Case) -> Option<Timed<'a>> {
         self.answer?;
-        let deadline = Instant::now() + Duration::from_secs(3600);
+        let deadline = now() + Duration::from_secs(3600);
         Some(Timed::new(self.time, move || {
             self.baseline.list(case, &mut self.tables, deadline);
         }))

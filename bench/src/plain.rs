@@ -9,9 +9,10 @@
 
 use crate::library::{Tables, LINE};
 use crate::terms::VARIABLES;
+use crate::timing::now;
 use std::iter::{empty, once};
 use std::rc::Rc;
-use std::time::Instant;
+use std::time::Duration;
 use Node::*;
 
 /// Declared in the order of the kinds' numbers, so the derived order of two terms is document 01's order of their records.
@@ -47,8 +48,8 @@ pub enum Prunings {
     None,
 }
 
-/// Lists as `onestep_list` does, with the same answer; nothing if the deadline passed first. The tables are taken to have good lengths (refusal 8).
-pub fn list(pattern: &[u8], recipe: &[u8], out: &mut Tables, prunings: Prunings, deadline: Instant) -> Option<i64> {
+/// Lists as `onestep_list` does, with the same answer; nothing if the deadline, in `timing::now`'s time, passed first. The tables are taken to have good lengths (refusal 8).
+pub fn list(pattern: &[u8], recipe: &[u8], out: &mut Tables, prunings: Prunings, deadline: Duration) -> Option<i64> {
     match read_both(pattern, recipe) {
         Err(refusal) => Some(-refusal),
         Ok(rule) => Search { prunings, lines: Vec::new(), room: out.lines.len() / LINE, deadline, steps: 0, stop: None }.list(rule, out),
@@ -125,7 +126,7 @@ struct Search {
     lines: Vec<Line>,
     /// The lines that the line table has room for.
     room: usize,
-    deadline: Instant,
+    deadline: Duration,
     steps: u32,
     stop: Option<Stop>,
 }
@@ -182,7 +183,7 @@ impl Search {
     /// Counts a step; looks at the clock at every 256th.
     fn is_stopped(&mut self) -> bool {
         self.steps = self.steps.wrapping_add(1);
-        if self.steps % 256 == 0 && self.stop.is_none() && Instant::now() > self.deadline {
+        if self.steps % 256 == 0 && self.stop.is_none() && now() > self.deadline {
             self.stop = Some(Stop::Time);
         }
         self.stop.is_some()

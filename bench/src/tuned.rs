@@ -9,8 +9,9 @@
 use crate::library::{Tables, LINE};
 use crate::listing::Listing;
 use crate::terms::*;
+use crate::timing::now;
 use std::collections::VecDeque;
-use std::time::Instant;
+use std::time::Duration;
 
 /// A run of records of the store.
 #[derive(Clone, Copy)]
@@ -55,11 +56,11 @@ struct Matcher<'a> {
     room: usize,
     stop: Option<Stop>,
     steps: u32,
-    deadline: Instant,
+    deadline: Duration,
 }
 
-/// Lists into the tables as `onestep_list` does, with the same answer; nothing if the deadline passed first.
-pub fn list(pattern: &[u8], recipe: &[u8], out: &mut Tables, deadline: Instant) -> Option<i64> {
+/// Lists into the tables as `onestep_list` does, with the same answer; nothing if the deadline, in `timing::now`'s time, passed first.
+pub fn list(pattern: &[u8], recipe: &[u8], out: &mut Tables, deadline: Duration) -> Option<i64> {
     let pattern = records_of(pattern);
     let store = records_of(recipe);
     let target = Span { start: 0, end: store.len() };
@@ -343,7 +344,7 @@ impl Matcher<'_> {
     /// Counts a step; looks at the clock at every 1024th.
     fn is_stopped(&mut self) -> bool {
         self.steps = self.steps.wrapping_add(1);
-        if self.steps % 1024 == 0 && self.stop.is_none() && Instant::now() > self.deadline {
+        if self.steps % 1024 == 0 && self.stop.is_none() && now() > self.deadline {
             self.stop = Some(Stop::Time);
         }
         self.stop.is_some()
