@@ -1,9 +1,8 @@
 //! The tables per family. Each case is measured in a child process, which is ended where the library takes too long.
 
 use crate::cases::Case;
-use crate::measure::{measure, Tried};
-use crate::paper::Prunings;
-use crate::timing::{median, micros, Time};
+use crate::measure::{measure, Baseline, Tried};
+use crate::timing::{median, micros};
 use std::env;
 use std::process::{Child, Command, Stdio};
 use std::thread::sleep;
@@ -15,30 +14,33 @@ struct Found {
     agrees: bool,
     best: f64,
     median: f64,
-    pruned: Option<f64>,
-    bare: Option<f64>,
+    ratios: [Option<f64>; BASELINES.len()],
 }
 
-/// What a child is given for a case: each search of the paper within its limit, the repeats, and the rest for the library.
+const BASELINES: [Baseline; 3] = [Baseline::Pruned, Baseline::Bare, Baseline::Tuned];
+/// What the baselines are called, in their order.
+const NAMES: [&str; BASELINES.len()] = ["(a)", "(b)", "(c)"];
+
+/// What a child is given for a case, in time of day: each baseline within its limit of processor time, the repeats, and the rest for the library.
 fn patience(limit: Duration) -> Duration {
-    6 * limit + Duration::from_secs(10)
+    12 * limit + Duration::from_secs(10)
 }
 
-/// The child's part: prints one line with what the paper's algorithm took alone, which is all there is if the library doesn't answer,
+/// The child's part: prints one line with what the baselines took alone, which is all there is if the library doesn't answer,
 /// then measures the case and prints its figures in another.
 pub fn run_child(case: &Case, limit: Duration) {
-    let [pruned, bare] = [Prunings::Three, Prunings::None].map(|prunings| Tried::new(case, prunings, limit));
-    let alone = |tried: &Tried| if tried.is_answered() { format!("{:.2}", micros(tried.time)) } else { "limit".to_string() };
-    println!("{} {}", alone(&pruned), alone(&bare));
-    let row = measure(case, pruned, Some(bare));
-    let ratio = |time: Option<Time>| time.map_or("limit".to_string(), |time| (time.median / row.library.median).to_string());
-    println!("{} {} {} {} {} {}", row.answer, row.agrees, row.library.best, row.library.median, ratio(row.pruned), ratio(row.bare));
+    let tried = BASELINES.map(|baseline| Tried::new(case, baseline, limit));
+    let alone = tried.iter().map(|one| if one.is_answered() { format!("{:.2}", micros(one.time)) } else { "limit".to_string() });
+    println!("{}", alone.collect::<Vec<String>>().join(" "));
+    let row = measure(case, tried.into());
+    let ratios = row.ratios().map(|ratio| ratio.map_or("limit".to_string(), |ratio| ratio.to_string()));
+    println!("{} {} {} {} {}", row.answer, row.agrees, row.library.best, row.library.median, ratios.collect::<Vec<String>>().join(" "));
 }
 
 /// Prints a table for each family and one for all; yes if no answer was wrong or different.
 pub fn print(cases: &[Case], limit: Duration) -> bool {
     println!(
-        "\nA case on which the library has no answer within {} s says so, with the µs of (a) and (b) in the place of their ratios.",
+        "\nA case on which the library has no answer within {} s says so, with the µs of the baselines in the place of their ratios.",
         patience(limit).as_secs()
     );
     let mut all_right = true;
@@ -47,7 +49,8 @@ pub fn print(cases: &[Case], limit: Duration) -> bool {
     families.dedup();
     for family in families {
         println!("\n## Family {family}\n");
-        println!("{:<28} {:>10} {:>12} {:>12} {:>12} {:>12}", "case", "answer", "library µs", "(best)", "(a) ratio", "(b) ratio");
+        let columns: String = NAMES.iter().map(|name| format!(" {:>12}", format!("{name} ratio"))).collect();
+        println!("{:<28} {:>10} {:>12} {:>12}{columns}", "case", "answer", "library µs", "(best)");
         let mut found = Vec::new();
         for case in cases.iter().filter(|case| case.family == family) {
             let one = ask_child(case, limit);
@@ -59,10 +62,9 @@ pub fn print(cases: &[Case], limit: Duration) -> bool {
         summary.push(summary_row(family, &found, unanswered, limit));
     }
     println!("\n## All families\n");
-    println!(
-        "{:<8} {:>6} {:>12} {:>8} {:>13} {:>13} {:>10} {:>13} {:>13} {:>10}",
-        "family", "cases", "library µs", "limit", "(a) median", "(a) worst", "(a) limit", "(b) median", "(b) worst", "(b) limit"
-    );
+    let columns: String =
+        NAMES.iter().map(|name| format!(" {:>12} {:>10} {:>9}", format!("{name} median"), format!("{name} worst"), format!("{name} limit"))).collect();
+    println!("{:<8} {:>6} {:>12} {:>8}{columns}", "family", "cases", "library µs", "limit");
     summary.iter().for_each(|row| println!("{row}"));
     all_right
 }
@@ -70,38 +72,37 @@ pub fn print(cases: &[Case], limit: Duration) -> bool {
 fn print_case(case: &Case, found: &Result<Found, String>) {
     let found = match found {
         Ok(found) => found,
-        Err(paper) => {
-            let mut times = paper.split_whitespace();
-            let mut next = || times.next().map_or("none".to_string(), |time| if time == "limit" { time.to_string() } else { format!("{time} µs") });
-            println!("{:<28} {:>10} {:>12} {:>12} {:>12} {:>12}", case.name, "none", "limit", "", next(), next());
+        Err(alone) => {
+            let times = alone.split_whitespace().map(|time| if time == "limit" { time.to_string() } else { format!("{time} µs") });
+            let columns: String = times.map(|time| format!(" {time:>12}")).collect();
+            println!("{:<28} {:>10} {:>12} {:>12}{columns}", case.name, "none", "limit", "");
             return;
         }
     };
-    let ratio = |ratio: Option<f64>| ratio.map_or("limit".to_string(), |ratio| format!("{ratio:.2}"));
+    let columns: String = found.ratios.iter().map(|ratio| format!(" {:>12}", ratio.map_or("limit".to_string(), |ratio| format!("{ratio:.2}")))).collect();
     let answer = if found.answer < 0 { format!("refused {}", -found.answer) } else { found.answer.to_string() };
     let remark = if found.agrees { "" } else { "  DIFFERENT ANSWERS" };
-    let (pruned, bare) = (ratio(found.pruned), ratio(found.bare));
-    println!("{:<28} {answer:>10} {:>12.2} {:>12.2} {pruned:>12} {bare:>12}{remark}", case.name, found.median, found.best);
+    println!("{:<28} {answer:>10} {:>12.2} {:>12.2}{columns}{remark}", case.name, found.median, found.best);
 }
 
 /// Median and worst ratios of a family. A search that met the limit counts as if it had ended there, which is too good for it: `>` says so.
 /// `unanswered` are the cases on which the library met its limit; they have no ratio.
 fn summary_row(family: &str, found: &[Found], unanswered: usize, limit: Duration) -> String {
     let mut library: Vec<f64> = found.iter().map(|one| one.median).collect();
-    let columns = |ratio: fn(&Found) -> Option<f64>| {
-        let least = |one: &Found| ratio(one).unwrap_or(micros(limit) / one.median);
+    let columns = |baseline: usize| {
+        let least = |one: &Found| one.ratios[baseline].unwrap_or(micros(limit) / one.median);
         let mut ratios: Vec<f64> = found.iter().map(least).collect();
         let middle = median(&mut ratios);
-        let is_bound = |figure: f64| found.iter().any(|one| ratio(one).is_none() && least(one) == figure);
+        let is_bound = |figure: f64| found.iter().any(|one| one.ratios[baseline].is_none() && least(one) == figure);
         let shown = |figure: f64| format!("{}{figure:.2}", if is_bound(figure) { ">" } else { "" });
-        let limits = found.iter().filter(|one| ratio(one).is_none()).count();
-        format!("{:>13} {:>13} {limits:>10}", shown(middle), shown(ratios[0]))
+        let limits = found.iter().filter(|one| one.ratios[baseline].is_none()).count();
+        format!(" {:>12} {:>10} {limits:>9}", shown(middle), shown(ratios[0]))
     };
     if found.is_empty() {
         return format!("{family:<8} {unanswered:>6} {:>12} {unanswered:>8}", "");
     }
-    let (pruned, bare) = (columns(|one| one.pruned), columns(|one| one.bare));
-    format!("{family:<8} {:>6} {:>12.2} {unanswered:>8} {pruned} {bare}", found.len() + unanswered, median(&mut library))
+    let columns: String = (0..BASELINES.len()).map(columns).collect();
+    format!("{family:<8} {:>6} {:>12.2} {unanswered:>8}{columns}", found.len() + unanswered, median(&mut library))
 }
 
 /// Has a child measure the case; gives the child's first line where there is no second.
@@ -116,23 +117,23 @@ fn ask_child(case: &Case, limit: Duration) -> Result<Found, String> {
     assert!(!is_done || output.status.success(), "{}: the measurement failed", case.name);
     let text = String::from_utf8(output.stdout).expect("plain text");
     let mut lines = text.lines();
-    let paper = lines.next().unwrap_or("").to_string();
-    lines.next().and_then(read_row).ok_or(paper)
+    let alone = lines.next().unwrap_or("").to_string();
+    lines.next().and_then(read_row).ok_or(alone)
 }
 
 /// The second line that a child printed.
 fn read_row(text: &str) -> Option<Found> {
     let words: Vec<&str> = text.split_whitespace().collect();
-    let [answer, agrees, best, median, pruned, bare] = words[..] else {
+    let [answer, agrees, best, median, ref ratios @ ..] = words[..] else {
         return None;
     };
+    let ratios: Vec<Option<f64>> = ratios.iter().map(|ratio| ratio.parse().ok()).collect();
     Some(Found {
         answer: answer.parse().ok()?,
         agrees: agrees == "true",
         best: best.parse().ok()?,
         median: median.parse().ok()?,
-        pruned: pruned.parse().ok(),
-        bare: bare.parse().ok(),
+        ratios: ratios.try_into().ok()?,
     })
 }
 

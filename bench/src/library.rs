@@ -1,4 +1,4 @@
-//! The proved library through its C interface (`include/onestep.h`). The only unsafe code of the benchmark stands here.
+//! The proved library through its C interface (`include/onestep.h`). The unsafe code of the benchmark stands here, but for the clock of `timing.rs`.
 
 extern "C" {
     fn onestep_list(

@@ -1,4 +1,4 @@
-//! A listing: lines as they are found, sorted, and written as document 01 lays them out.
+//! A listing: lines as they are found, sorted, and written as document 01 lays them out; and read back.
 
 use crate::library::{Tables, LINE};
 use crate::terms::*;

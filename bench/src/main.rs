@@ -2,7 +2,7 @@
 //!
 //!     bench CASES [--limit MILLISECONDS] [--case NAME]
 //!
-//! CASES is the folder of cases; the limit is what one search by the paper's algorithm may take (2000). `--case` is for the child processes.
+//! CASES is the folder of cases; the limit is what one search of (a), (b) or (c) may take (2000). `--case` is for the child processes.
 
 mod cases;
 mod families;
@@ -11,9 +11,10 @@ mod library;
 mod listing;
 mod measure;
 mod operations;
-mod paper;
+mod plain;
 mod terms;
 mod timing;
+mod tuned;
 
 use std::env;
 use std::hint::black_box;
@@ -65,13 +66,18 @@ fn read_arguments() -> Arguments {
 
 fn print_setting(cases: usize, limit: Duration) {
     println!("# Benchmark of onestep\n");
-    println!("{cases} cases, each measured in one process of its own, library and paper turn by turn; times are medians of 15 turns (fewer for slow ones).");
-    println!("Ratios: (a) is the paper's algorithm with its three prunings, (b) its bare `resolve`, both in plain Rust, each divided by the library's time;");
-    println!("above 1 the library is faster. Worst is the least ratio. `limit`: no answer within {} ms.", limit.as_millis());
-    println!("Buffers: full tables of 65,536 bytes, the same ones for each call, warm, not cleared between calls; the library clears its work area itself.");
     println!(
-        "Both sides read bytes and write sorted lines and values; the library also checks pattern and recipe, the paper's algorithm takes them as good.\n"
+        "{cases} cases, each measured in one process of its own, library and baselines turn by turn; times are medians of 15 turns (fewer for slow ones), of processor time."
     );
+    println!(
+        "Ratios: (a) is the paper's algorithm with its three prunings and (b) its bare `resolve`, both written plainly in Rust; (c) is the search of (a),"
+    );
+    println!(
+        "tuned; each divided by the library's time, so above 1 the library is faster. Worst is the least ratio. `limit`: no answer within {} ms.",
+        limit.as_millis()
+    );
+    println!("Buffers: full tables of 65,536 bytes, the same ones for each call, warm, not cleared between calls; the library clears its work area itself.");
+    println!("All read bytes and write sorted lines and values; the library, (a) and (b) check pattern and recipe, (c) takes them as good.\n");
 }
 
 /// How steady the machine is: one fixed piece of work that touches no memory, and the clearing of 65,536 bytes.

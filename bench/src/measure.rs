@@ -1,11 +1,34 @@
-//! One case: the library's list against the paper's algorithm, answers compared and times taken in one run.
+//! One case: the library's list against the baselines, answers compared and times taken in one run.
 
 use crate::cases::Case;
 use crate::library::{self, Tables, Work, LINE};
 use crate::listing::Listing;
-use crate::paper::{self, Prunings};
-use crate::timing::{in_turns, once, Time, Timed};
-use std::time::{Duration, Instant};
+use crate::plain::{self, Prunings};
+use crate::timing::{in_turns, now, once, Time, Timed};
+use crate::tuned;
+use std::time::Duration;
+
+/// What the library is measured against.
+#[derive(Clone, Copy)]
+pub enum Baseline {
+    /// (a)
+    Pruned,
+    /// (b)
+    Bare,
+    /// (c)
+    Tuned,
+}
+
+impl Baseline {
+    fn list(self, case: &Case, tables: &mut Tables, deadline: Duration) -> Option<i64> {
+        let Case { pattern, recipe, .. } = case;
+        match self {
+            Baseline::Pruned => plain::list(pattern, recipe, tables, Prunings::Three, deadline),
+            Baseline::Bare => plain::list(pattern, recipe, tables, Prunings::None, deadline),
+            Baseline::Tuned => tuned::list(pattern, recipe, tables, deadline),
+        }
+    }
+}
 
 /// What was found of a case. A time that is missing means that the limit passed.
 pub struct Row {
@@ -14,24 +37,31 @@ pub struct Row {
     /// The expected answer was given, and by the others too, down to the bytes of lines and values.
     pub agrees: bool,
     pub library: Time,
-    pub pruned: Option<Time>,
-    pub bare: Option<Time>,
+    /// The times of the baselines, in the order in which they were handed over.
+    pub others: Vec<Option<Time>>,
 }
 
-/// The answer and the time of one search by the paper's algorithm, and the tables that it wrote to; no answer means that the limit passed.
+impl Row {
+    /// What each baseline took, divided by what the library took.
+    pub fn ratios(&self) -> impl Iterator<Item = Option<f64>> + '_ {
+        self.others.iter().map(|time| time.map(|time| time.median / self.library.median))
+    }
+}
+
+/// The answer and the time of one search by a baseline, and the tables that it wrote to; no answer means that the limit passed.
 pub struct Tried {
-    prunings: Prunings,
+    baseline: Baseline,
     answer: Option<i64>,
     pub time: Duration,
     tables: Tables,
 }
 
 impl Tried {
-    /// Lets the paper's algorithm search once, no longer than the limit.
-    pub fn new(case: &Case, prunings: Prunings, limit: Duration) -> Tried {
+    /// Searches once, no longer than the limit.
+    pub fn new(case: &Case, baseline: Baseline, limit: Duration) -> Tried {
         let mut tables = Tables::new();
-        let (answer, time) = once(|| paper::list(&case.pattern, &case.recipe, &mut tables, prunings, Instant::now() + limit));
-        Tried { prunings, answer, time, tables }
+        let (answer, time) = once(|| baseline.list(case, &mut tables, now() + limit));
+        Tried { baseline, answer, time, tables }
     }
 
     pub fn is_answered(&self) -> bool {
@@ -41,40 +71,37 @@ impl Tried {
     /// The same search again, to be timed; nothing where it had no answer.
     fn timed<'a>(&'a mut self, case: &'a Case) -> Option<Timed<'a>> {
         self.answer?;
-        let deadline = Instant::now() + Duration::from_secs(3600);
+        let deadline = now() + Duration::from_secs(3600);
         Some(Timed::new(self.time, move || {
-            paper::list(&case.pattern, &case.recipe, &mut self.tables, self.prunings, deadline);
+            self.baseline.list(case, &mut self.tables, deadline);
         }))
     }
 }
 
-/// Measures the library on a case, turn by turn with the searches that were tried before; the bare one may be left out.
-pub fn measure(case: &Case, mut pruned: Tried, mut bare: Option<Tried>) -> Row {
+/// Measures the library on a case, turn by turn with the baselines that were tried before.
+pub fn measure(case: &Case, mut tried: Vec<Tried>) -> Row {
     let Case { pattern, recipe, .. } = case;
     let (mut tables, mut work) = (Tables::new(), Work::new());
     let (answer, mut first) = once(|| library::list(pattern, recipe, &mut tables, &mut work));
     if first < Duration::from_millis(50) {
         first = once(|| library::list(pattern, recipe, &mut tables, &mut work)).1;
     }
-    let agrees = answer == case.expected && [Some(&pruned), bare.as_ref()].into_iter().flatten().all(|tried| is_same(answer, &tables, tried));
+    let agrees = answer == case.expected && tried.iter().all(|one| is_same(answer, &tables, one));
 
-    let is_bare = bare.as_ref().is_some_and(Tried::is_answered);
-    let is_pruned = pruned.is_answered();
+    let answered: Vec<bool> = tried.iter().map(Tried::is_answered).collect();
     let mut things = vec![Timed::new(first, || {
         library::list(pattern, recipe, &mut tables, &mut work);
     })];
-    things.extend(pruned.timed(case));
-    things.extend(bare.as_mut().and_then(|bare| bare.timed(case)));
+    things.extend(tried.iter_mut().filter_map(|one| one.timed(case)));
     let mut times = in_turns(things).into_iter();
     let library = times.next().expect("the library's time");
-    let pruned = if is_pruned { times.next() } else { None };
-    let bare = if is_bare { times.next() } else { None };
-    Row { answer, agrees, library, pruned, bare }
+    let others = answered.into_iter().map(|is_answered| if is_answered { times.next() } else { None }).collect();
+    Row { answer, agrees, library, others }
 }
 
-/// The case measured against (a) alone.
+/// The case measured against (a) and (c).
 pub fn measure_pruned(case: &Case, limit: Duration) -> Row {
-    measure(case, Tried::new(case, Prunings::Three, limit), None)
+    measure(case, [Baseline::Pruned, Baseline::Tuned].map(|baseline| Tried::new(case, baseline, limit)).into())
 }
 
 /// No answer, or the same number and with it the same bytes of lines and values.

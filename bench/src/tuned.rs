@@ -1,29 +1,17 @@
-//! What the library is measured against: the algorithm of source document 002 (de Moor and Sittampalam) over document 01's rules.
+//! (c): the same search as (a) in `plain.rs`, tuned, over inputs that aren't checked. It shows what is left of (a)'s ratio when the baseline is made fast.
 //!
-//! `Prunings::Three` is (a), the paper's algorithm with the three prunings of its section 6: rigid heads, hard rules put off, viability.
-//! `Prunings::None` is (b), `matches` of section 3 over the bare `resolve` of section 4.
-//!
-//! Document 01's changes to the paper: a pattern may hold redexes of both kinds, and a variable that a match doesn't need stays open.
-//! Its change to the eta step needs no code: the paper's clauses are already right for it (`matching.md`, section 2).
-//!
-//! Where the paper leaves freedom, the quicker way was taken:
-//! - a substitution is not carried out but looked up: a variable that has a value stands for that value;
-//! - a variable that has a value is compared with its target at once;
+//! What it does otherwise than (a):
+//! - a substitution is not carried out but looked up: a variable that has a value stands for that value, and is compared with its target at once;
 //! - targets stand in one growing row of records that is cut back after each try, so no tree is allocated;
-//! - where E can't become E′, the bodies of E′ aren't enumerated;
-//! - the search ends at the first line that is too many.
+//! - a body is made by copying the runs of records between the copies that are replaced;
+//! - pattern and recipe are taken to be well formed.
 
 use crate::library::{Tables, LINE};
 use crate::listing::Listing;
 use crate::terms::*;
+use crate::timing::now;
 use std::collections::VecDeque;
-use std::time::Instant;
-
-#[derive(Clone, Copy, PartialEq)]
-pub enum Prunings {
-    Three,
-    None,
-}
+use std::time::Duration;
 
 /// A run of records of the store.
 #[derive(Clone, Copy)]
@@ -61,7 +49,6 @@ struct Matcher<'a> {
     /// For each part of the pattern: the place behind it, and its loose locals.
     ends: Vec<usize>,
     locals: Vec<u64>,
-    prunings: Prunings,
     /// The recipe, then every target that was made on the way to the rule at hand.
     store: Vec<Record>,
     listing: Listing,
@@ -69,19 +56,17 @@ struct Matcher<'a> {
     room: usize,
     stop: Option<Stop>,
     steps: u32,
-    deadline: Instant,
+    deadline: Duration,
 }
 
-/// Lists into the tables as `onestep_list` does, with the same answer; nothing if the deadline passed first.
-/// Pattern and recipe are taken to be well formed.
-pub fn list(pattern: &[u8], recipe: &[u8], out: &mut Tables, prunings: Prunings, deadline: Instant) -> Option<i64> {
+/// Lists into the tables as `onestep_list` does, with the same answer; nothing if the deadline, in `timing::now`'s time, passed first.
+pub fn list(pattern: &[u8], recipe: &[u8], out: &mut Tables, deadline: Duration) -> Option<i64> {
     let pattern = records_of(pattern);
     let store = records_of(recipe);
     let target = Span { start: 0, end: store.len() };
     let ends: Vec<usize> = (0..pattern.len()).map(|at| end(&pattern, at)).collect();
     let locals = (0..pattern.len()).map(|at| loose_locals(&pattern[at..ends[at]])).collect();
-    let mut matcher =
-        Matcher { pattern: &pattern, ends, locals, prunings, store, listing: Listing::new(), room: out.lines.len() / LINE, stop: None, steps: 0, deadline };
+    let mut matcher = Matcher { pattern: &pattern, ends, locals, store, listing: Listing::new(), room: out.lines.len() / LINE, stop: None, steps: 0, deadline };
     let mut rules = VecDeque::with_capacity(pattern.len());
     if matcher.add(&mut rules, &[Rule { part: 0, target }], &[None; VARIABLES]) {
         matcher.matches(rules, [None; VARIABLES]);
@@ -110,7 +95,7 @@ impl Matcher<'_> {
                     let target = if kind(first) == ABSTRACTION { Span { start: target.start + 1, ..target } } else { self.eta_expanded(target) };
                     self.add(&mut rules, &[Rule { part: part + 1, target }], &assignment)
                 }
-                _ if self.prunings == Prunings::Three && !self.is_flexible(part, &assignment) => {
+                _ if !self.is_flexible(part, &assignment) => {
                     kind(first) == APPLICATION && {
                         let split = self.split(rule);
                         self.add(&mut rules, &split, &assignment)
@@ -157,7 +142,7 @@ impl Matcher<'_> {
         let (arguments, places) = self.arguments(target);
         for (index, &argument) in arguments.iter().enumerate() {
             let wanted = Rule { part: self.ends[part + 1], target: argument };
-            if self.prunings == Prunings::None || self.is_viable(wanted, assignment) {
+            if self.is_viable(wanted, assignment) {
                 let places: Vec<Place> = places.iter().filter(|(of, _)| *of == index).map(|(_, place)| *place).collect();
                 self.resolve_bodies(rule, constant, wanted, &places, rules, assignment);
             }
@@ -205,20 +190,18 @@ impl Matcher<'_> {
         self.store.truncate(mark);
     }
 
-    /// Puts new rules to the others. (b): in front. (a): hard rules behind, others in front, and no for a rule that isn't viable.
+    /// Puts new rules to the others: hard rules behind, others in front. No if one of them isn't viable.
     fn add(&self, rules: &mut VecDeque<Rule>, new: &[Rule], assignment: &Assignment) -> bool {
-        if self.prunings == Prunings::Three {
-            for &rule in new {
-                if !self.is_viable(rule, assignment) {
-                    return false;
-                }
-                if self.is_hard(rule, assignment) {
-                    rules.push_back(rule);
-                }
+        for &rule in new {
+            if !self.is_viable(rule, assignment) {
+                return false;
+            }
+            if self.is_hard(rule, assignment) {
+                rules.push_back(rule);
             }
         }
         for &rule in new.iter().rev() {
-            if self.prunings == Prunings::None || !self.is_hard(rule, assignment) {
+            if !self.is_hard(rule, assignment) {
                 rules.push_front(rule);
             }
         }
@@ -361,7 +344,7 @@ impl Matcher<'_> {
     /// Counts a step; looks at the clock at every 1024th.
     fn is_stopped(&mut self) -> bool {
         self.steps = self.steps.wrapping_add(1);
-        if self.steps % 1024 == 0 && self.stop.is_none() && Instant::now() > self.deadline {
+        if self.steps % 1024 == 0 && self.stop.is_none() && now() > self.deadline {
             self.stop = Some(Stop::Time);
         }
         self.stop.is_some()
