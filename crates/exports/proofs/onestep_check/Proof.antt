@@ -1,10 +1,10 @@
--- `matcher::exports::onestep_check` meets its contract: the number is that of check's answer. Assumes nothing.
+-- `exports::onestep_check` meets its contract: the number is that of check's answer. Assumes nothing.
 use mathlib.Core.Path.{sym, ap, _∙_}
-use Rattle.matcher.specs.Exports.{checkCode}
-use Rattle.matcher.proofs.Answers.{fits-refusal, handed-on}
+use Rattle.exports.specs.Answers.{checkCode}
+use Rattle.exports.proofs.Answers.{fits-refusal, handed-on}
 use borrow.Author.Needs.{needs}
-use Rattle.matcher.proofs.exports.onestep_check.Statement.{statement}
-use Rattle.matcher.proofs.exports.onestep_check.Tie as tie
+use Rattle.exports.proofs.onestep_check.Statement.{statement}
+use Rattle.exports.proofs.onestep_check.Tie as tie
 
 check-requires : tie.Need-check-requires
 check-requires c κs = search needs

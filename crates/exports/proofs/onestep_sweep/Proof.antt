@@ -1,10 +1,10 @@
--- `matcher::exports::onestep_sweep` meets its contract: the number is that of sweep's answer. Assumes nothing.
+-- `exports::onestep_sweep` meets its contract: the number is that of sweep's answer. Assumes nothing.
 use mathlib.Core.Path.{refl, sym, ap, _∙_}
-use Rattle.matcher.specs.Exports.{sweepCode}
-use Rattle.matcher.proofs.Answers.{fits-refusal, handed-on, fits-records, swept-few}
+use Rattle.exports.specs.Answers.{sweepCode}
+use Rattle.exports.proofs.Answers.{fits-refusal, handed-on, fits-records, swept-few}
 use borrow.Author.Needs.{needs}
-use Rattle.matcher.proofs.exports.onestep_sweep.Statement.{statement}
-use Rattle.matcher.proofs.exports.onestep_sweep.Tie as tie
+use Rattle.exports.proofs.onestep_sweep.Statement.{statement}
+use Rattle.exports.proofs.onestep_sweep.Tie as tie
 
 sweep-requires : tie.Need-sweep-requires
 sweep-requires c κs = search needs

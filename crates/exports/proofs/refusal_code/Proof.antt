@@ -1,9 +1,9 @@
--- `matcher::exports::refusal_code` meets its contract, a refusal at a time. Assumes nothing.
+-- `exports::refusal_code` meets its contract, a refusal at a time. Assumes nothing.
 use mathlib.Core.Path.{sym, ap}
-use Rattle.matcher.specs.Exports.{refusalCode}
+use Rattle.exports.specs.Answers.{refusalCode}
 use borrow.Author.Needs.{needs}
-use Rattle.matcher.proofs.exports.refusal_code.Statement.{statement}
-use Rattle.matcher.proofs.exports.refusal_code.Tie as tie
+use Rattle.exports.proofs.refusal_code.Statement.{statement}
+use Rattle.exports.proofs.refusal_code.Tie as tie
 
 enum-told : tie.Need-enum-told
 enum-told c = search needs

@@ -1,11 +1,10 @@
--- `matcher::exports::onestep_list` meets its contract: the number is that of list's answer. Assumes nothing.
+-- `exports::onestep_list` meets its contract: the number is that of list's answer. Assumes nothing.
 use mathlib.Core.Path.{refl, sym, ap, _∙_}
-use Rattle.matcher.specs.Exports.{listCode}
-use Rattle.matcher.proofs.Answers.{fits-refusal, handed-on, fits-records}
-use Rattle.matcher.proofs.Listed.{listed-few}
+use Rattle.exports.specs.Answers.{listCode}
+use Rattle.exports.proofs.Answers.{fits-refusal, handed-on, fits-records, listed-few}
 use borrow.Author.Needs.{needs}
-use Rattle.matcher.proofs.exports.onestep_list.Statement.{statement}
-use Rattle.matcher.proofs.exports.onestep_list.Tie as tie
+use Rattle.exports.proofs.onestep_list.Statement.{statement}
+use Rattle.exports.proofs.onestep_list.Tie as tie
 
 list-requires : tie.Need-list-requires
 list-requires c κs = search needs

@@ -1,10 +1,10 @@
--- `matcher::exports::onestep_rewrite` meets its contract: the number is that of rewrite's answer. Assumes nothing.
+-- `exports::onestep_rewrite` meets its contract: the number is that of rewrite's answer. Assumes nothing.
 use mathlib.Core.Path.{refl, sym, ap, _∙_}
-use Rattle.matcher.specs.Exports.{rewriteCode}
-use Rattle.matcher.proofs.Answers.{fits-refusal, handed-on, fits-records, rewritten-few}
+use Rattle.exports.specs.Answers.{rewriteCode}
+use Rattle.exports.proofs.Answers.{fits-refusal, handed-on, fits-records, rewritten-few}
 use borrow.Author.Needs.{needs}
-use Rattle.matcher.proofs.exports.onestep_rewrite.Statement.{statement}
-use Rattle.matcher.proofs.exports.onestep_rewrite.Tie as tie
+use Rattle.exports.proofs.onestep_rewrite.Statement.{statement}
+use Rattle.exports.proofs.onestep_rewrite.Tie as tie
 
 rewrite-requires : tie.Need-rewrite-requires
 rewrite-requires c κs = search needs
