@@ -15,7 +15,7 @@ use Rattle.terms.specs.Term.{Term, app, lam, loc, con, var, Normal, size, shift
 use Rattle.terms.specs.Sweep.{sweep, fill}
 use Rattle.terms.specs.Listing.{In, Line}
 use Rattle.terms.proofs.Tests.{or-false, or-true, by-ltb}
-use Rattle.terms.proofs.Table.{kind}
+use Rattle.terms.proofs.Table.{kind, number}
 use Rattle.terms.proofs.Shift.{shift-unshift, size-shift, uses-above}
 use Rattle.terms.proofs.Substitute.{by-substitute, substitute-unused, substitute-low, substitute-high, size-used, unused-substitute}
 use Rattle.matching.specs.Abstractions.{same}
@@ -62,10 +62,12 @@ unlike-head f a g b r u φ d e p s =
     let q : app g b ≡ app (shift d 0 (sweep (fill φ f))) (shift d 0 (sweep (fill φ a))) = p ∙ ap (shift d 0) (sym s ∙ rigid-parts φ f a r) in
     u φ d (sweep (fill φ f)) (cc) refl
 
-pub unlike-constant : (m n : ℕ) → ¬ (m ≡ n) → Unlike (con m) (con n)
-unlike-constant m n h φ d e p s =
-    let q : con n ≡ con m = p ∙ ap (shift d 0) (sym s) in
-    h (cc)
+pub unlike-constant : (q t : Term) → kind q ≡ 3 → ¬ (number q ≡ number t) → Unlike q t
+unlike-constant (app f a) t k n = absurd (omega (arith, k))
+unlike-constant (lam b) t k n = absurd (omega (arith, k))
+unlike-constant (loc m) t k n = absurd (omega (arith, k))
+unlike-constant (con m) t k n = λ φ d e p s. n (ap (λ x. number (shift d 0 x)) s ∙ ap number (sym p))
+unlike-constant (var m) t k n = absurd (omega (arith, k))
 
 -- cut 2, easy goals first: goals may be taken in any order
 pub lists-swap : (n : ℕ) (S : ℕ → Type 0) (Q R : Predicate) (ls : List Line) → Lists n S (λ φ. R φ × Q φ) ls → Lists n S (λ φ. Q φ × R φ) ls
