@@ -50,6 +50,15 @@ pub enum Branch {
     Next(Agenda),
 }
 
+// What is known of an application that was put off, before its ways are gone through: how many there are, where its argument begins in the
+// pattern, whether the argument has a rigid head, and whether the application's head lacks a local of the target.
+pub struct Ways {
+    pub count: usize,
+    pub argument: usize,
+    pub rigid: bool,
+    pub lacking: bool,
+}
+
 // What a goal to build comes to: as one alternative, or that the bodies are to be gone through, one for each choice among so many copies.
 pub enum Plan {
     Failed,

@@ -22,7 +22,7 @@ use Rattle.listing.proofs.Stores.{found-tally}
 use Rattle.agenda.specs.declared.Agenda.{Agenda}
 use Rattle.agenda.specs.State.{Easy, Hard, Chain, State, Sat, Bounds, Ready, relinking}
 use Rattle.agenda.specs.Moves.{Question, Move, Failed}
-use Rattle.agenda.specs.Branches.{Way, Ways, Choices, Copies, Chosen, Forwarded}
+use Rattle.agenda.specs.Branches.{Way, HasWays, Choices, Copies, Chosen, Forwarded}
 use Rattle.agenda.specs.Applications.{Matches}
 use Rattle.agenda.specs.Builds.{Builds}
 use Rattle.agenda.proofs.Frame.{Kept, state-kept}
@@ -201,7 +201,7 @@ module _ (P W : List ℕ) (s : Agenda) (a : List Entry) (limit : ℕ) (L X : Lis
         from gs hs l φ (inl (j, u, w)) = (j, omega arith, w)
         from gs hs l φ (inr w) = (i, omega arith, w)
 
-    module _ (w : (gs hs : List Goal) (l : Line) → State relinking P W s a gs hs l → Ways n hs) where
+    module _ (w : (gs hs : List Goal) (l : Line) → State relinking P W s a gs hs l → HasWays n hs) where
       -- all ways were gone through
       pub going-end : n ≤ i → Searched relinking Sat P W s a limit L X done W₁ L₁ X₁ r
       going-end h = record {
