@@ -13,7 +13,7 @@ use Rattle.abstractions.proofs.body_into.Reads as body-into
 use Rattle.abstractions.proofs.body_into.Kinds as body-into-kinds
 use Rattle.abstractions.proofs.+body_into.Lts-body_into as body-into-lts
 use Rattle.abstractions.proofs.choice_into.Reads as choice-into-reads
-use Rattle.abstractions.proofs.is_shifted.Reads as is-shifted-reads
+use Rattle.abstractions.proofs.copy_end.Reads as copy-end-reads
 use Rattle.records.proofs.put_record.Reads as put-record-reads
 use Rattle.sweeping.proofs.shift_into.Reads as shift-into-reads
 use Rattle.abstractions.proofs.+body_into.{statement}
@@ -29,9 +29,9 @@ abbrev body-into-below : ℕ → In 3 body-into-kinds.ps
 body-into-below t =
     and 3 body-into-kinds.ps (falls 3 body-into-kinds.ps _<_ μ-body-into t) body-into.Pre
 
-body-into-is-shifted-requires : (t : ℕ) → body-into-lts.Need-is-shifted-requires (
-  is-shifted-reads.Asked,
-  is-shifted-reads.Learnt,
+body-into-copy-end-requires : (t : ℕ) → body-into-lts.Need-copy-end-requires (
+  copy-end-reads.Asked,
+  copy-end-reads.Learnt,
   choice-into-reads.Asked,
   choice-into-reads.Learnt,
   put-record-reads.Asked,
@@ -41,11 +41,11 @@ body-into-is-shifted-requires : (t : ℕ) → body-into-lts.Need-is-shifted-requ
   shift-into-reads.Asked,
   shift-into-reads.Learnt,
 ) (body-into-at t) body-into.Post
-body-into-is-shifted-requires t c κs = choosing-compares _ _ _ _ _ _ _ _ (c .before .before .before .pre .1)
+body-into-copy-end-requires t c κs = choosing-compares _ _ _ _ _ _ _ _ (c .before .before .before .pre .1)
 
 body-into-enum-known-copy : (t : ℕ) → body-into-lts.Need-enum-known-copy (
-  is-shifted-reads.Asked,
-  is-shifted-reads.Learnt,
+  copy-end-reads.Asked,
+  copy-end-reads.Learnt,
   choice-into-reads.Asked,
   choice-into-reads.Learnt,
   put-record-reads.Asked,
@@ -58,8 +58,8 @@ body-into-enum-known-copy : (t : ℕ) → body-into-lts.Need-enum-known-copy (
 body-into-enum-known-copy t c = search needs
 
 body-into-choice-into-requires : (t : ℕ) → body-into-lts.Need-choice-into-requires (
-  is-shifted-reads.Asked,
-  is-shifted-reads.Learnt,
+  copy-end-reads.Asked,
+  copy-end-reads.Learnt,
   choice-into-reads.Asked,
   choice-into-reads.Learnt,
   put-record-reads.Asked,
@@ -72,8 +72,8 @@ body-into-choice-into-requires : (t : ℕ) → body-into-lts.Need-choice-into-re
 body-into-choice-into-requires t c κs = (c .before .before .before .before .before .before .before .before .pre .1 .source, choosing-choice _ _ _ _ _ _ _ _ (c .before .before .before .before .before .before .before .before .pre .1))
 
 body-into-add-t17 : (t : ℕ) → body-into-lts.Need-add-t17 (
-  is-shifted-reads.Asked,
-  is-shifted-reads.Learnt,
+  copy-end-reads.Asked,
+  copy-end-reads.Learnt,
   choice-into-reads.Asked,
   choice-into-reads.Learnt,
   put-record-reads.Asked,
@@ -86,8 +86,8 @@ body-into-add-t17 : (t : ℕ) → body-into-lts.Need-add-t17 (
 body-into-add-t17 t c = omega (arith, choosing-choice _ _ _ _ _ _ _ _ (c .before .before .before .before .before .before .before .before .before .before .before .pre .1))
 
 body-into-same-length : (t : ℕ) → body-into-lts.Need-same-length (
-  is-shifted-reads.Asked,
-  is-shifted-reads.Learnt,
+  copy-end-reads.Asked,
+  copy-end-reads.Learnt,
   choice-into-reads.Asked,
   choice-into-reads.Learnt,
   put-record-reads.Asked,
@@ -100,8 +100,8 @@ body-into-same-length : (t : ℕ) → body-into-lts.Need-same-length (
 body-into-same-length t c = c .before .before .choice-into .kept .1 .1 .1 .1 .1 .0
 
 body-into-returns : (t : ℕ) → body-into-lts.Need-returns (
-  is-shifted-reads.Asked,
-  is-shifted-reads.Learnt,
+  copy-end-reads.Asked,
+  copy-end-reads.Learnt,
   choice-into-reads.Asked,
   choice-into-reads.Learnt,
   put-record-reads.Asked,
@@ -111,11 +111,11 @@ body-into-returns : (t : ℕ) → body-into-lts.Need-returns (
   shift-into-reads.Asked,
   shift-into-reads.Learnt,
 ) (body-into-at t) body-into.Post
-body-into-returns t c = body-copy _ _ _ _ _ _ _ _ _ _ _ _ (c .before .before .before .before .before .copy .given .1) (c .before .before .before .before .before .before .before .is-shifted .ensures) (choosing-whole _ _ _ _ _ _ _ _ (c .before .before .before .before .before .before .before .before .before .before .before .pre .1)) (c .before .before .choice-into .ensures)
+body-into-returns t c = body-copy _ _ _ _ _ _ _ _ _ _ _ _ (c .before .before .before .before .before .copy .given .1) (c .before .before .before .before .before .before .before .copy-end .ensures) (choosing-whole _ _ _ _ _ _ _ _ (c .before .before .before .before .before .before .before .before .before .before .before .pre .1)) (c .before .before .choice-into .ensures)
 
 body-into-enum-told : (t : ℕ) → body-into-lts.Need-enum-told (
-  is-shifted-reads.Asked,
-  is-shifted-reads.Learnt,
+  copy-end-reads.Asked,
+  copy-end-reads.Learnt,
   choice-into-reads.Asked,
   choice-into-reads.Learnt,
   put-record-reads.Asked,
@@ -128,8 +128,8 @@ body-into-enum-told : (t : ℕ) → body-into-lts.Need-enum-told (
 body-into-enum-told t c = search needs
 
 body-into-shared-slice-read-kind : (t : ℕ) → body-into-lts.Need-shared-slice-read-kind (
-  is-shifted-reads.Asked,
-  is-shifted-reads.Learnt,
+  copy-end-reads.Asked,
+  copy-end-reads.Learnt,
   choice-into-reads.Asked,
   choice-into-reads.Learnt,
   put-record-reads.Asked,
@@ -142,8 +142,8 @@ body-into-shared-slice-read-kind : (t : ℕ) → body-into-lts.Need-shared-slice
 body-into-shared-slice-read-kind t c = omega (arith, c .before .before .before .before .before .before .before .pre .1 .source .least)
 
 body-into-put-record-requires : (t : ℕ) → body-into-lts.Need-put-record-requires (
-  is-shifted-reads.Asked,
-  is-shifted-reads.Learnt,
+  copy-end-reads.Asked,
+  copy-end-reads.Learnt,
   choice-into-reads.Asked,
   choice-into-reads.Learnt,
   put-record-reads.Asked,
@@ -156,8 +156,8 @@ body-into-put-record-requires : (t : ℕ) → body-into-lts.Need-put-record-requ
 body-into-put-record-requires t c κs = omega (arith, c .before .before .before .before .before .before .before .before .before .before .pre .1 .source .first)
 
 body-into-add-body-into : (t : ℕ) → body-into-lts.Need-add-body-into (
-  is-shifted-reads.Asked,
-  is-shifted-reads.Learnt,
+  copy-end-reads.Asked,
+  copy-end-reads.Learnt,
   choice-into-reads.Asked,
   choice-into-reads.Learnt,
   put-record-reads.Asked,
@@ -170,8 +170,8 @@ body-into-add-body-into : (t : ℕ) → body-into-lts.Need-add-body-into (
 body-into-add-body-into t c = search needs
 
 body-into-add-body-into-2 : (t : ℕ) → body-into-lts.Need-add-body-into-2 (
-  is-shifted-reads.Asked,
-  is-shifted-reads.Learnt,
+  copy-end-reads.Asked,
+  copy-end-reads.Learnt,
   choice-into-reads.Asked,
   choice-into-reads.Learnt,
   put-record-reads.Asked,
@@ -184,8 +184,8 @@ body-into-add-body-into-2 : (t : ℕ) → body-into-lts.Need-add-body-into-2 (
 body-into-add-body-into-2 t c = search needs
 
 body-into-body-into-requires : (t : ℕ) → body-into-lts.Need-body-into-requires (
-  is-shifted-reads.Asked,
-  is-shifted-reads.Learnt,
+  copy-end-reads.Asked,
+  copy-end-reads.Learnt,
   choice-into-reads.Asked,
   choice-into-reads.Learnt,
   put-record-reads.Asked,
@@ -198,8 +198,8 @@ body-into-body-into-requires : (t : ℕ) → body-into-lts.Need-body-into-requir
 body-into-body-into-requires t c κs = (omega (arith, c .before .before .before .before .before .before .before .before .before .before .before .before .before .before .pre .1 .source .least), choosing-head _ _ _ _ _ _ _ _ (c .before .before .before .before .before .before .before .before .before .before .before .before .before .before .pre .1) _ (c .before .before .before .put-record .kept .0) (c .before .before .before .before .before .if1 .taken))
 
 body-into-body-into-requires-2 : (t : ℕ) → body-into-lts.Need-body-into-requires-2 (
-  is-shifted-reads.Asked,
-  is-shifted-reads.Learnt,
+  copy-end-reads.Asked,
+  copy-end-reads.Learnt,
   choice-into-reads.Asked,
   choice-into-reads.Learnt,
   put-record-reads.Asked,
@@ -213,8 +213,8 @@ body-into-body-into-requires-2 t c κs = let w = c .before .before .before .body
     (omega (arith, w .ends .more, w .ends .within), choosing-argument _ _ _ _ _ _ _ _ (c .before .before .before .before .before .before .before .before .before .before .before .before .before .before .before .before .before .before .pre .1) _ (c .before .before .before .body-into .kept .1 .1 .1 .1 .1 .1 .0 ∙ c .before .before .before .before .before .before .before .put-record .kept .0) _ _ _ _ _ _ (c .before .before .before .before .before .before .before .before .before .if1 .taken) w)
 
 body-into-same-length-2 : (t : ℕ) → body-into-lts.Need-same-length-2 (
-  is-shifted-reads.Asked,
-  is-shifted-reads.Learnt,
+  copy-end-reads.Asked,
+  copy-end-reads.Learnt,
   choice-into-reads.Asked,
   choice-into-reads.Learnt,
   put-record-reads.Asked,
@@ -227,8 +227,8 @@ body-into-same-length-2 : (t : ℕ) → body-into-lts.Need-same-length-2 (
 body-into-same-length-2 t c = c .before .before .body-into2 .kept .1 .1 .1 .1 .1 .1 .0 ∙ c .before .before .before .before .before .before .body-into .kept .1 .1 .1 .1 .1 .1 .0 ∙ c .before .before .before .before .before .before .before .before .before .before .put-record .kept .0
 
 body-into-returns-2 : (t : ℕ) → body-into-lts.Need-returns-2 (
-  is-shifted-reads.Asked,
-  is-shifted-reads.Learnt,
+  copy-end-reads.Asked,
+  copy-end-reads.Learnt,
   choice-into-reads.Asked,
   choice-into-reads.Learnt,
   put-record-reads.Asked,
@@ -238,11 +238,11 @@ body-into-returns-2 : (t : ℕ) → body-into-lts.Need-returns-2 (
   shift-into-reads.Asked,
   shift-into-reads.Learnt,
 ) (body-into-at t) body-into.Post
-body-into-returns-2 t c = body-application _ _ _ _ _ _ _ _ (no-copy _ _ _ _ _ (c .before .before .before .before .before .before .before .before .before .before .before .before .before .before .before .enum-told .given .1) (c .before .before .before .before .before .before .before .before .before .before .before .before .before .before .before .before .before .is-shifted .ensures)) _ _ _ _ _ _ _ _ _ (c .before .before .before .before .before .before .before .before .before .before .before .before .if1 .taken) (c .before .before .before .before .before .before .before .before .before .before .put-record .ensures) (c .before .before .before .before .before .before .body-into .ensures) (c .before .before .body-into2 .ensures)
+body-into-returns-2 t c = body-application _ _ _ _ _ _ _ _ (no-copy _ _ _ _ _ (c .before .before .before .before .before .before .before .before .before .before .before .before .before .before .before .enum-told .given .1) (c .before .before .before .before .before .before .before .before .before .before .before .before .before .before .before .before .before .copy-end .ensures)) _ _ _ _ _ _ _ _ _ (c .before .before .before .before .before .before .before .before .before .before .before .before .if1 .taken) (c .before .before .before .before .before .before .before .before .before .before .put-record .ensures) (c .before .before .before .before .before .before .body-into .ensures) (c .before .before .body-into2 .ensures)
 
 body-into-put-record-requires-2 : (t : ℕ) → body-into-lts.Need-put-record-requires-2 (
-  is-shifted-reads.Asked,
-  is-shifted-reads.Learnt,
+  copy-end-reads.Asked,
+  copy-end-reads.Learnt,
   choice-into-reads.Asked,
   choice-into-reads.Learnt,
   put-record-reads.Asked,
@@ -255,8 +255,8 @@ body-into-put-record-requires-2 : (t : ℕ) → body-into-lts.Need-put-record-re
 body-into-put-record-requires-2 t c κs = omega (arith, c .before .before .before .before .before .before .before .before .before .before .before .before .pre .1 .source .first)
 
 body-into-add-body-into-3 : (t : ℕ) → body-into-lts.Need-add-body-into-3 (
-  is-shifted-reads.Asked,
-  is-shifted-reads.Learnt,
+  copy-end-reads.Asked,
+  copy-end-reads.Learnt,
   choice-into-reads.Asked,
   choice-into-reads.Learnt,
   put-record-reads.Asked,
@@ -269,8 +269,8 @@ body-into-add-body-into-3 : (t : ℕ) → body-into-lts.Need-add-body-into-3 (
 body-into-add-body-into-3 t c = search needs
 
 body-into-add-body-into-4 : (t : ℕ) → body-into-lts.Need-add-body-into-4 (
-  is-shifted-reads.Asked,
-  is-shifted-reads.Learnt,
+  copy-end-reads.Asked,
+  copy-end-reads.Learnt,
   choice-into-reads.Asked,
   choice-into-reads.Learnt,
   put-record-reads.Asked,
@@ -283,8 +283,8 @@ body-into-add-body-into-4 : (t : ℕ) → body-into-lts.Need-add-body-into-4 (
 body-into-add-body-into-4 t c = omega (arith, c .before .before .before .before .before .before .before .before .before .before .before .before .before .before .before .pre .1 .source .shallow)
 
 body-into-add-body-into-5 : (t : ℕ) → body-into-lts.Need-add-body-into-5 (
-  is-shifted-reads.Asked,
-  is-shifted-reads.Learnt,
+  copy-end-reads.Asked,
+  copy-end-reads.Learnt,
   choice-into-reads.Asked,
   choice-into-reads.Learnt,
   put-record-reads.Asked,
@@ -297,8 +297,8 @@ body-into-add-body-into-5 : (t : ℕ) → body-into-lts.Need-add-body-into-5 (
 body-into-add-body-into-5 t c = search needs
 
 body-into-body-into-requires-3 : (t : ℕ) → body-into-lts.Need-body-into-requires-3 (
-  is-shifted-reads.Asked,
-  is-shifted-reads.Learnt,
+  copy-end-reads.Asked,
+  copy-end-reads.Learnt,
   choice-into-reads.Asked,
   choice-into-reads.Learnt,
   put-record-reads.Asked,
@@ -311,8 +311,8 @@ body-into-body-into-requires-3 : (t : ℕ) → body-into-lts.Need-body-into-requ
 body-into-body-into-requires-3 t c κs = (omega (arith, c .before .before .before .before .before .before .before .before .before .before .before .before .before .before .before .before .pre .1 .source .least), choosing-body _ _ _ _ _ _ _ _ (c .before .before .before .before .before .before .before .before .before .before .before .before .before .before .before .before .pre .1) _ (c .before .before .before .put-record2 .kept .0) (c .before .before .before .before .before .if2 .taken))
 
 body-into-same-length-3 : (t : ℕ) → body-into-lts.Need-same-length-3 (
-  is-shifted-reads.Asked,
-  is-shifted-reads.Learnt,
+  copy-end-reads.Asked,
+  copy-end-reads.Learnt,
   choice-into-reads.Asked,
   choice-into-reads.Learnt,
   put-record-reads.Asked,
@@ -325,8 +325,8 @@ body-into-same-length-3 : (t : ℕ) → body-into-lts.Need-same-length-3 (
 body-into-same-length-3 t c = c .before .before .body-into3 .kept .1 .1 .1 .1 .1 .1 .0 ∙ c .before .before .before .before .before .before .put-record2 .kept .0
 
 body-into-returns-3 : (t : ℕ) → body-into-lts.Need-returns-3 (
-  is-shifted-reads.Asked,
-  is-shifted-reads.Learnt,
+  copy-end-reads.Asked,
+  copy-end-reads.Learnt,
   choice-into-reads.Asked,
   choice-into-reads.Learnt,
   put-record-reads.Asked,
@@ -336,11 +336,11 @@ body-into-returns-3 : (t : ℕ) → body-into-lts.Need-returns-3 (
   shift-into-reads.Asked,
   shift-into-reads.Learnt,
 ) (body-into-at t) body-into.Post
-body-into-returns-3 t c = body-abstraction _ _ _ _ _ _ _ _ (no-copy _ _ _ _ _ (c .before .before .before .before .before .before .before .before .before .before .before .before .before .enum-told .given .1) (c .before .before .before .before .before .before .before .before .before .before .before .before .before .before .before .is-shifted .ensures)) _ _ _ _ _ (c .before .before .before .before .before .before .before .before .if2 .taken) (c .before .before .before .before .before .before .put-record2 .ensures) (c .before .before .body-into3 .ensures)
+body-into-returns-3 t c = body-abstraction _ _ _ _ _ _ _ _ (no-copy _ _ _ _ _ (c .before .before .before .before .before .before .before .before .before .before .before .before .before .enum-told .given .1) (c .before .before .before .before .before .before .before .before .before .before .before .before .before .before .before .copy-end .ensures)) _ _ _ _ _ (c .before .before .before .before .before .before .before .before .if2 .taken) (c .before .before .before .before .before .before .put-record2 .ensures) (c .before .before .body-into3 .ensures)
 
 body-into-shift-into-requires : (t : ℕ) → body-into-lts.Need-shift-into-requires (
-  is-shifted-reads.Asked,
-  is-shifted-reads.Learnt,
+  copy-end-reads.Asked,
+  copy-end-reads.Learnt,
   choice-into-reads.Asked,
   choice-into-reads.Learnt,
   put-record-reads.Asked,
@@ -353,8 +353,8 @@ body-into-shift-into-requires : (t : ℕ) → body-into-lts.Need-shift-into-requ
 body-into-shift-into-requires t c κs = c .before .before .before .before .before .before .before .before .before .before .before .before .pre .1 .source
 
 body-into-same-length-4 : (t : ℕ) → body-into-lts.Need-same-length-4 (
-  is-shifted-reads.Asked,
-  is-shifted-reads.Learnt,
+  copy-end-reads.Asked,
+  copy-end-reads.Learnt,
   choice-into-reads.Asked,
   choice-into-reads.Learnt,
   put-record-reads.Asked,
@@ -367,8 +367,8 @@ body-into-same-length-4 : (t : ℕ) → body-into-lts.Need-same-length-4 (
 body-into-same-length-4 t c = c .before .before .shift-into .kept .1 .1 .1 .1 .0
 
 body-into-returns-4 : (t : ℕ) → body-into-lts.Need-returns-4 (
-  is-shifted-reads.Asked,
-  is-shifted-reads.Learnt,
+  copy-end-reads.Asked,
+  copy-end-reads.Learnt,
   choice-into-reads.Asked,
   choice-into-reads.Learnt,
   put-record-reads.Asked,
@@ -378,12 +378,12 @@ body-into-returns-4 : (t : ℕ) → body-into-lts.Need-returns-4 (
   shift-into-reads.Asked,
   shift-into-reads.Learnt,
 ) (body-into-at t) body-into.Post
-body-into-returns-4 t c = body-other _ _ _ _ _ _ _ _ (no-copy _ _ _ _ _ (c .before .before .before .before .before .before .before .before .before .enum-told .given .1) (c .before .before .before .before .before .before .before .before .before .before .before .is-shifted .ensures)) _ _ _ (choosing-whole _ _ _ _ _ _ _ _ (c .before .before .before .before .before .before .before .before .before .before .before .before .before .before .before .pre .1)) (c .before .before .before .before .before .before .if1 .left) (c .before .before .before .before .if2 .left) (c .before .before .shift-into .ensures)
+body-into-returns-4 t c = body-other _ _ _ _ _ _ _ _ (no-copy _ _ _ _ _ (c .before .before .before .before .before .before .before .before .before .enum-told .given .1) (c .before .before .before .before .before .before .before .before .before .before .before .copy-end .ensures)) _ _ _ (choosing-whole _ _ _ _ _ _ _ _ (c .before .before .before .before .before .before .before .before .before .before .before .before .before .before .before .pre .1)) (c .before .before .before .before .before .before .if1 .left) (c .before .before .before .before .if2 .left) (c .before .before .shift-into .ensures)
 
 pub +body-into-spec : {M : Type 1} → statement M
 +body-into-spec = close μ-body-into λ t. body-into-lts.spec (
-  is-shifted-reads.Asked,
-  is-shifted-reads.Learnt,
+  copy-end-reads.Asked,
+  copy-end-reads.Learnt,
   choice-into-reads.Asked,
   choice-into-reads.Learnt,
   put-record-reads.Asked,
@@ -395,7 +395,7 @@ pub +body-into-spec : {M : Type 1} → statement M
 )
     (body-into-at t)
     body-into.Post
-    (body-into-is-shifted-requires t)
+    (body-into-copy-end-requires t)
     (body-into-enum-known-copy t)
     (body-into-choice-into-requires t)
     (body-into-add-t17 t)
