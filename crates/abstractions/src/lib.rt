@@ -347,7 +347,7 @@ pub fn body_into(
         records::put_record(out, o, Kind::ABSTRACTION, 0);
         return body_into(s, at + RECORD, d + 1, e, chosen, k, out, o + RECORD);
     }
-    let leaf = sweeping::shift_into(s, at, 1, d, out, o);
+    let leaf = sweeping::shift_leaf_into(s, at, 1, d, out, o);
     Built {
         next: leaf.next,
         end: leaf.end,

@@ -15,7 +15,7 @@ use Rattle.abstractions.proofs.+body_into.Lts-body_into as body-into-lt
 use Rattle.abstractions.proofs.choice_into.Reads as choice-into-reads
 use Rattle.abstractions.proofs.copy_end.Reads as copy-end-reads
 use Rattle.records.proofs.put_record.Reads as put-record-reads
-use Rattle.sweeping.proofs.shift_into.Reads as shift-into-reads
+use Rattle.sweeping.proofs.shift_leaf_into.Reads as shift-leaf-into-reads
 use Rattle.abstractions.proofs.+body_into.{statement}
 use Rattle.abstractions.proofs.+body_into.Tie.{close}
 
@@ -38,8 +38,8 @@ body-into-copy-end-requires : (t : ℕ) → body-into-lts.Need-copy-end-requires
   put-record-reads.Learnt,
   body-into-below t,
   body-into.Post,
-  shift-into-reads.Asked,
-  shift-into-reads.Learnt,
+  shift-leaf-into-reads.Asked,
+  shift-leaf-into-reads.Learnt,
 ) (body-into-at t) body-into.Post
 body-into-copy-end-requires t c κs = choosing-compares _ _ _ _ _ _ _ _ (c .before .before .before .pre .1)
 
@@ -52,8 +52,8 @@ body-into-enum-known-copy : (t : ℕ) → body-into-lts.Need-enum-known-copy (
   put-record-reads.Learnt,
   body-into-below t,
   body-into.Post,
-  shift-into-reads.Asked,
-  shift-into-reads.Learnt,
+  shift-leaf-into-reads.Asked,
+  shift-leaf-into-reads.Learnt,
 ) (body-into-at t) body-into.Post
 body-into-enum-known-copy t c = search needs
 
@@ -66,8 +66,8 @@ body-into-choice-into-requires : (t : ℕ) → body-into-lts.Need-choice-into-re
   put-record-reads.Learnt,
   body-into-below t,
   body-into.Post,
-  shift-into-reads.Asked,
-  shift-into-reads.Learnt,
+  shift-leaf-into-reads.Asked,
+  shift-leaf-into-reads.Learnt,
 ) (body-into-at t) body-into.Post
 body-into-choice-into-requires t c κs = (c .before .before .before .before .before .before .before .before .pre .1 .source, choosing-choice _ _ _ _ _ _ _ _ (c .before .before .before .before .before .before .before .before .pre .1))
 
@@ -80,8 +80,8 @@ body-into-add-t17 : (t : ℕ) → body-into-lts.Need-add-t17 (
   put-record-reads.Learnt,
   body-into-below t,
   body-into.Post,
-  shift-into-reads.Asked,
-  shift-into-reads.Learnt,
+  shift-leaf-into-reads.Asked,
+  shift-leaf-into-reads.Learnt,
 ) (body-into-at t) body-into.Post
 body-into-add-t17 t c = omega (arith, choosing-choice _ _ _ _ _ _ _ _ (c .before .before .before .before .before .before .before .before .before .before .before .pre .1))
 
@@ -94,8 +94,8 @@ body-into-same-length : (t : ℕ) → body-into-lts.Need-same-length (
   put-record-reads.Learnt,
   body-into-below t,
   body-into.Post,
-  shift-into-reads.Asked,
-  shift-into-reads.Learnt,
+  shift-leaf-into-reads.Asked,
+  shift-leaf-into-reads.Learnt,
 ) (body-into-at t) body-into.Post
 body-into-same-length t c = c .before .before .choice-into .kept .1 .1 .1 .1 .1 .0
 
@@ -108,8 +108,8 @@ body-into-returns : (t : ℕ) → body-into-lts.Need-returns (
   put-record-reads.Learnt,
   body-into-below t,
   body-into.Post,
-  shift-into-reads.Asked,
-  shift-into-reads.Learnt,
+  shift-leaf-into-reads.Asked,
+  shift-leaf-into-reads.Learnt,
 ) (body-into-at t) body-into.Post
 body-into-returns t c = body-copy _ _ _ _ _ _ _ _ _ _ _ _ (c .before .before .before .before .before .copy .given .1) (c .before .before .before .before .before .before .before .copy-end .ensures) (choosing-whole _ _ _ _ _ _ _ _ (c .before .before .before .before .before .before .before .before .before .before .before .pre .1)) (c .before .before .choice-into .ensures)
 
@@ -122,8 +122,8 @@ body-into-enum-told : (t : ℕ) → body-into-lts.Need-enum-told (
   put-record-reads.Learnt,
   body-into-below t,
   body-into.Post,
-  shift-into-reads.Asked,
-  shift-into-reads.Learnt,
+  shift-leaf-into-reads.Asked,
+  shift-leaf-into-reads.Learnt,
 ) (body-into-at t) body-into.Post
 body-into-enum-told t c = search needs
 
@@ -136,8 +136,8 @@ body-into-shared-slice-read-kind : (t : ℕ) → body-into-lts.Need-shared-slice
   put-record-reads.Learnt,
   body-into-below t,
   body-into.Post,
-  shift-into-reads.Asked,
-  shift-into-reads.Learnt,
+  shift-leaf-into-reads.Asked,
+  shift-leaf-into-reads.Learnt,
 ) (body-into-at t) body-into.Post
 body-into-shared-slice-read-kind t c = omega (arith, c .before .before .before .before .before .before .before .pre .1 .source .least)
 
@@ -150,8 +150,8 @@ body-into-put-record-requires : (t : ℕ) → body-into-lts.Need-put-record-requ
   put-record-reads.Learnt,
   body-into-below t,
   body-into.Post,
-  shift-into-reads.Asked,
-  shift-into-reads.Learnt,
+  shift-leaf-into-reads.Asked,
+  shift-leaf-into-reads.Learnt,
 ) (body-into-at t) body-into.Post
 body-into-put-record-requires t c κs = omega (arith, c .before .before .before .before .before .before .before .before .before .before .pre .1 .source .first)
 
@@ -164,8 +164,8 @@ body-into-add-body-into : (t : ℕ) → body-into-lts.Need-add-body-into (
   put-record-reads.Learnt,
   body-into-below t,
   body-into.Post,
-  shift-into-reads.Asked,
-  shift-into-reads.Learnt,
+  shift-leaf-into-reads.Asked,
+  shift-leaf-into-reads.Learnt,
 ) (body-into-at t) body-into.Post
 body-into-add-body-into t c = search needs
 
@@ -178,8 +178,8 @@ body-into-add-body-into-2 : (t : ℕ) → body-into-lts.Need-add-body-into-2 (
   put-record-reads.Learnt,
   body-into-below t,
   body-into.Post,
-  shift-into-reads.Asked,
-  shift-into-reads.Learnt,
+  shift-leaf-into-reads.Asked,
+  shift-leaf-into-reads.Learnt,
 ) (body-into-at t) body-into.Post
 body-into-add-body-into-2 t c = search needs
 
@@ -192,8 +192,8 @@ body-into-body-into-requires : (t : ℕ) → body-into-lts.Need-body-into-requir
   put-record-reads.Learnt,
   body-into-below t,
   body-into.Post,
-  shift-into-reads.Asked,
-  shift-into-reads.Learnt,
+  shift-leaf-into-reads.Asked,
+  shift-leaf-into-reads.Learnt,
 ) (body-into-at t) body-into.Post
 body-into-body-into-requires t c κs = (omega (arith, c .before .before .before .before .before .before .before .before .before .before .before .before .before .before .pre .1 .source .least), choosing-head _ _ _ _ _ _ _ _ (c .before .before .before .before .before .before .before .before .before .before .before .before .before .before .pre .1) _ (c .before .before .before .put-record .kept .0) (c .before .before .before .before .before .if1 .taken))
 
@@ -206,8 +206,8 @@ body-into-body-into-requires-2 : (t : ℕ) → body-into-lts.Need-body-into-requ
   put-record-reads.Learnt,
   body-into-below t,
   body-into.Post,
-  shift-into-reads.Asked,
-  shift-into-reads.Learnt,
+  shift-leaf-into-reads.Asked,
+  shift-leaf-into-reads.Learnt,
 ) (body-into-at t) body-into.Post
 body-into-body-into-requires-2 t c κs = let w = c .before .before .before .body-into .ensures in
     (omega (arith, w .ends .more, w .ends .within), choosing-argument _ _ _ _ _ _ _ _ (c .before .before .before .before .before .before .before .before .before .before .before .before .before .before .before .before .before .before .pre .1) _ (c .before .before .before .body-into .kept .1 .1 .1 .1 .1 .1 .0 ∙ c .before .before .before .before .before .before .before .put-record .kept .0) _ _ _ _ _ _ (c .before .before .before .before .before .before .before .before .before .if1 .taken) w)
@@ -221,8 +221,8 @@ body-into-same-length-2 : (t : ℕ) → body-into-lts.Need-same-length-2 (
   put-record-reads.Learnt,
   body-into-below t,
   body-into.Post,
-  shift-into-reads.Asked,
-  shift-into-reads.Learnt,
+  shift-leaf-into-reads.Asked,
+  shift-leaf-into-reads.Learnt,
 ) (body-into-at t) body-into.Post
 body-into-same-length-2 t c = c .before .before .body-into2 .kept .1 .1 .1 .1 .1 .1 .0 ∙ c .before .before .before .before .before .before .body-into .kept .1 .1 .1 .1 .1 .1 .0 ∙ c .before .before .before .before .before .before .before .before .before .before .put-record .kept .0
 
@@ -235,8 +235,8 @@ body-into-returns-2 : (t : ℕ) → body-into-lts.Need-returns-2 (
   put-record-reads.Learnt,
   body-into-below t,
   body-into.Post,
-  shift-into-reads.Asked,
-  shift-into-reads.Learnt,
+  shift-leaf-into-reads.Asked,
+  shift-leaf-into-reads.Learnt,
 ) (body-into-at t) body-into.Post
 body-into-returns-2 t c = body-application _ _ _ _ _ _ _ _ (no-copy _ _ _ _ _ (c .before .before .before .before .before .before .before .before .before .before .before .before .before .before .before .enum-told .given .1) (c .before .before .before .before .before .before .before .before .before .before .before .before .before .before .before .before .before .copy-end .ensures)) _ _ _ _ _ _ _ _ _ (c .before .before .before .before .before .before .before .before .before .before .before .before .if1 .taken) (c .before .before .before .before .before .before .before .before .before .before .put-record .ensures) (c .before .before .before .before .before .before .body-into .ensures) (c .before .before .body-into2 .ensures)
 
@@ -249,8 +249,8 @@ body-into-put-record-requires-2 : (t : ℕ) → body-into-lts.Need-put-record-re
   put-record-reads.Learnt,
   body-into-below t,
   body-into.Post,
-  shift-into-reads.Asked,
-  shift-into-reads.Learnt,
+  shift-leaf-into-reads.Asked,
+  shift-leaf-into-reads.Learnt,
 ) (body-into-at t) body-into.Post
 body-into-put-record-requires-2 t c κs = omega (arith, c .before .before .before .before .before .before .before .before .before .before .before .before .pre .1 .source .first)
 
@@ -263,8 +263,8 @@ body-into-add-body-into-3 : (t : ℕ) → body-into-lts.Need-add-body-into-3 (
   put-record-reads.Learnt,
   body-into-below t,
   body-into.Post,
-  shift-into-reads.Asked,
-  shift-into-reads.Learnt,
+  shift-leaf-into-reads.Asked,
+  shift-leaf-into-reads.Learnt,
 ) (body-into-at t) body-into.Post
 body-into-add-body-into-3 t c = search needs
 
@@ -277,8 +277,8 @@ body-into-add-body-into-4 : (t : ℕ) → body-into-lts.Need-add-body-into-4 (
   put-record-reads.Learnt,
   body-into-below t,
   body-into.Post,
-  shift-into-reads.Asked,
-  shift-into-reads.Learnt,
+  shift-leaf-into-reads.Asked,
+  shift-leaf-into-reads.Learnt,
 ) (body-into-at t) body-into.Post
 body-into-add-body-into-4 t c = omega (arith, c .before .before .before .before .before .before .before .before .before .before .before .before .before .before .before .pre .1 .source .shallow)
 
@@ -291,8 +291,8 @@ body-into-add-body-into-5 : (t : ℕ) → body-into-lts.Need-add-body-into-5 (
   put-record-reads.Learnt,
   body-into-below t,
   body-into.Post,
-  shift-into-reads.Asked,
-  shift-into-reads.Learnt,
+  shift-leaf-into-reads.Asked,
+  shift-leaf-into-reads.Learnt,
 ) (body-into-at t) body-into.Post
 body-into-add-body-into-5 t c = search needs
 
@@ -305,8 +305,8 @@ body-into-body-into-requires-3 : (t : ℕ) → body-into-lts.Need-body-into-requ
   put-record-reads.Learnt,
   body-into-below t,
   body-into.Post,
-  shift-into-reads.Asked,
-  shift-into-reads.Learnt,
+  shift-leaf-into-reads.Asked,
+  shift-leaf-into-reads.Learnt,
 ) (body-into-at t) body-into.Post
 body-into-body-into-requires-3 t c κs = (omega (arith, c .before .before .before .before .before .before .before .before .before .before .before .before .before .before .before .before .pre .1 .source .least), choosing-body _ _ _ _ _ _ _ _ (c .before .before .before .before .before .before .before .before .before .before .before .before .before .before .before .before .pre .1) _ (c .before .before .before .put-record2 .kept .0) (c .before .before .before .before .before .if2 .taken))
 
@@ -319,8 +319,8 @@ body-into-same-length-3 : (t : ℕ) → body-into-lts.Need-same-length-3 (
   put-record-reads.Learnt,
   body-into-below t,
   body-into.Post,
-  shift-into-reads.Asked,
-  shift-into-reads.Learnt,
+  shift-leaf-into-reads.Asked,
+  shift-leaf-into-reads.Learnt,
 ) (body-into-at t) body-into.Post
 body-into-same-length-3 t c = c .before .before .body-into3 .kept .1 .1 .1 .1 .1 .1 .0 ∙ c .before .before .before .before .before .before .put-record2 .kept .0
 
@@ -333,12 +333,12 @@ body-into-returns-3 : (t : ℕ) → body-into-lts.Need-returns-3 (
   put-record-reads.Learnt,
   body-into-below t,
   body-into.Post,
-  shift-into-reads.Asked,
-  shift-into-reads.Learnt,
+  shift-leaf-into-reads.Asked,
+  shift-leaf-into-reads.Learnt,
 ) (body-into-at t) body-into.Post
 body-into-returns-3 t c = body-abstraction _ _ _ _ _ _ _ _ (no-copy _ _ _ _ _ (c .before .before .before .before .before .before .before .before .before .before .before .before .before .enum-told .given .1) (c .before .before .before .before .before .before .before .before .before .before .before .before .before .before .before .copy-end .ensures)) _ _ _ _ _ (c .before .before .before .before .before .before .before .before .if2 .taken) (c .before .before .before .before .before .before .put-record2 .ensures) (c .before .before .body-into3 .ensures)
 
-body-into-shift-into-requires : (t : ℕ) → body-into-lts.Need-shift-into-requires (
+body-into-shift-leaf-into-requires : (t : ℕ) → body-into-lts.Need-shift-leaf-into-requires (
   copy-end-reads.Asked,
   copy-end-reads.Learnt,
   choice-into-reads.Asked,
@@ -347,10 +347,10 @@ body-into-shift-into-requires : (t : ℕ) → body-into-lts.Need-shift-into-requ
   put-record-reads.Learnt,
   body-into-below t,
   body-into.Post,
-  shift-into-reads.Asked,
-  shift-into-reads.Learnt,
+  shift-leaf-into-reads.Asked,
+  shift-leaf-into-reads.Learnt,
 ) (body-into-at t) body-into.Post
-body-into-shift-into-requires t c κs = c .before .before .before .before .before .before .before .before .before .before .before .before .pre .1 .source
+body-into-shift-leaf-into-requires t c κs = (c .before .before .before .before .before .before .before .before .before .before .before .before .pre .1 .source, record { no-application = c .before .before .before .if1 .left; no-abstraction = c .before .if2 .left })
 
 body-into-same-length-4 : (t : ℕ) → body-into-lts.Need-same-length-4 (
   copy-end-reads.Asked,
@@ -361,10 +361,10 @@ body-into-same-length-4 : (t : ℕ) → body-into-lts.Need-same-length-4 (
   put-record-reads.Learnt,
   body-into-below t,
   body-into.Post,
-  shift-into-reads.Asked,
-  shift-into-reads.Learnt,
+  shift-leaf-into-reads.Asked,
+  shift-leaf-into-reads.Learnt,
 ) (body-into-at t) body-into.Post
-body-into-same-length-4 t c = c .before .before .shift-into .kept .1 .1 .1 .1 .0
+body-into-same-length-4 t c = c .before .before .shift-leaf-into .kept .1 .1 .1 .1 .0
 
 body-into-returns-4 : (t : ℕ) → body-into-lts.Need-returns-4 (
   copy-end-reads.Asked,
@@ -375,10 +375,10 @@ body-into-returns-4 : (t : ℕ) → body-into-lts.Need-returns-4 (
   put-record-reads.Learnt,
   body-into-below t,
   body-into.Post,
-  shift-into-reads.Asked,
-  shift-into-reads.Learnt,
+  shift-leaf-into-reads.Asked,
+  shift-leaf-into-reads.Learnt,
 ) (body-into-at t) body-into.Post
-body-into-returns-4 t c = body-other _ _ _ _ _ _ _ _ (no-copy _ _ _ _ _ (c .before .before .before .before .before .before .before .before .before .enum-told .given .1) (c .before .before .before .before .before .before .before .before .before .before .before .copy-end .ensures)) _ _ _ (choosing-whole _ _ _ _ _ _ _ _ (c .before .before .before .before .before .before .before .before .before .before .before .before .before .before .before .pre .1)) (c .before .before .before .before .before .before .if1 .left) (c .before .before .before .before .if2 .left) (c .before .before .shift-into .ensures)
+body-into-returns-4 t c = body-other _ _ _ _ _ _ _ _ (no-copy _ _ _ _ _ (c .before .before .before .before .before .before .before .before .before .enum-told .given .1) (c .before .before .before .before .before .before .before .before .before .before .before .copy-end .ensures)) _ _ _ (choosing-whole _ _ _ _ _ _ _ _ (c .before .before .before .before .before .before .before .before .before .before .before .before .before .before .before .pre .1)) (c .before .before .before .before .before .before .if1 .left) (c .before .before .before .before .if2 .left) (c .before .before .shift-leaf-into .ensures)
 
 pub +body-into-spec : {M : Type 1} → statement M
 +body-into-spec = close μ-body-into λ t. body-into-lts.spec (
@@ -390,8 +390,8 @@ pub +body-into-spec : {M : Type 1} → statement M
   put-record-reads.Learnt,
   body-into-below t,
   body-into.Post,
-  shift-into-reads.Asked,
-  shift-into-reads.Learnt,
+  shift-leaf-into-reads.Asked,
+  shift-leaf-into-reads.Learnt,
 )
     (body-into-at t)
     body-into.Post
@@ -417,6 +417,6 @@ pub +body-into-spec : {M : Type 1} → statement M
     (body-into-body-into-requires-3 t)
     (body-into-same-length-3 t)
     (body-into-returns-3 t)
-    (body-into-shift-into-requires t)
+    (body-into-shift-leaf-into-requires t)
     (body-into-same-length-4 t)
     (body-into-returns-4 t)
