@@ -85,6 +85,18 @@ pub fn is_shifted(s: &[u8], at: usize, e: usize, c: usize, d: usize) -> Walk
     Walk::No
 }
 
+// Where the part of s at byte `at` ends, if it is a copy of the part at byte e: that part, shifted by the d binders above it. Nearly always the
+// first records differ, so that they are compared here, at the place of the call, and the walk is only begun where they agree.
+fn copy_end(s: &[u8], at: usize, e: usize, d: usize) -> Walk
+    requires { ⌜ Compares (now s) at e 0 d ⌝ }
+    ensures { λ r. ⌜ Compared (now (s .entry)) at e (Shifted d 0) r ⌝ }
+{
+    if s[at] != s[e] {
+        return Walk::No;
+    }
+    is_shifted(s, at, e, 0, d)
+}
+
 // Whether local n belongs to one of d binders, the first of which local c belongs to.
 fn is_inside(n: usize, c: usize, d: usize) -> bool
     requires { ⌜ (c ≤ numbers) × (d ≤ numbers) ⌝ }
@@ -249,7 +261,7 @@ pub fn copies(s: &[u8], at: usize, d: usize, e: usize) -> Counted
     requires { ⌜ Counting (now s) at d e ⌝ }
     ensures { λ r. ⌜ Counts (now (s .entry)) at d e (r .end) (r .count) ⌝ }
 {
-    let walk = is_shifted(s, at, e, 0, d);
+    let walk = copy_end(s, at, e, d);
     if let Walk::Upto(end) = walk {
         return Counted { end, count: 1 };
     }
@@ -316,7 +328,7 @@ pub fn body_into(
     requires { ⌜ Choosing (now s) at d e (length (now chosen)) k (length (now out)) o ⌝ }
     ensures { λ r. ⌜ Body (now (s .entry)) at d e (now (chosen .entry)) k (now (out .entry)) o (now (out .exit)) (r .next) (r .end) (r .k) ⌝ }
 {
-    let copy = is_shifted(s, at, e, 0, d);
+    let copy = copy_end(s, at, e, d);
     if let Walk::Upto(next) = copy {
         let end = choice_into(s, at, d, chosen, k, out, o);
         return Built {
@@ -335,7 +347,7 @@ pub fn body_into(
         records::put_record(out, o, Kind::ABSTRACTION, 0);
         return body_into(s, at + RECORD, d + 1, e, chosen, k, out, o + RECORD);
     }
-    let leaf = sweeping::shift_into(s, at, 1, d, out, o);
+    let leaf = sweeping::shift_leaf_into(s, at, 1, d, out, o);
     Built {
         next: leaf.next,
         end: leaf.end,
@@ -389,7 +401,7 @@ fn is_copy(s: &[u8], at: usize, e: usize, d: usize) -> bool
     requires { ⌜ Looks (now s) at e d ⌝ }
     ensures { λ r. ⌜ CopyAt (now (s .entry)) at e d r ⌝ }
 {
-    let walk = is_shifted(s, at, e, 0, d);
+    let walk = copy_end(s, at, e, d);
     match walk {
         Walk::Upto(_) => true,
         Walk::No => false,
