@@ -383,11 +383,11 @@ fn head_at(s: &[u8], at: usize) -> Walk
     requires { ⌜ Whole (now s) at × (length (now s) ≤ at + tableBytes) ⌝ }
     ensures { λ r. ⌜ Walked (now (s .entry)) at Head r ⌝ }
 {
-    let k = s[at];
-    if k == Kind::ABSTRACTION.code {
+    let kind = s[at];
+    if kind == Kind::ABSTRACTION.code {
         return Walk::No;
     }
-    if k == Kind::APPLICATION.code {
+    if kind == Kind::APPLICATION.code {
         let head = head_at(s, at + RECORD);
         let Walk::Upto(h) = head else {
             return Walk::No;

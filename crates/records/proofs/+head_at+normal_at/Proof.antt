@@ -38,13 +38,13 @@ abbrev normal-at-below : ℕ → In 1 normal-at-kinds.ps
 normal-at-below t =
     and 1 normal-at-kinds.ps (falls 1 normal-at-kinds.ps _<_ μ-normal-at t) normal-at.Pre
 
-head-at-shared-slice-read-k : (t : ℕ) → head-at-lts.Need-shared-slice-read-k (
+head-at-shared-slice-read-kind : (t : ℕ) → head-at-lts.Need-shared-slice-read-kind (
   head-at-below t,
   head-at.Post,
   normal-at-below t,
   normal-at.Post,
 ) (head-at-at t) head-at.Post
-head-at-shared-slice-read-k t c = search needs
+head-at-shared-slice-read-kind t c = search needs
 
 head-at-returns : (t : ℕ) → head-at-lts.Need-returns (
   head-at-below t,
@@ -247,7 +247,7 @@ pub +head-at+normal-at-spec : {M : Type 1} → statement M
 )
     (head-at-at t)
     head-at.Post
-    (head-at-shared-slice-read-k t)
+    (head-at-shared-slice-read-kind t)
     (head-at-returns t)
     (head-at-add-head-at t)
     (head-at-head-at-requires t)
