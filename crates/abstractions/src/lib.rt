@@ -23,7 +23,7 @@ ghost use Rattle.abstractions.specs.Lowering.{Inside, Lowers, Lowered};
 ghost use Rattle.abstractions.specs.Bodies.{Counting, Counts, Choosing, Chose, Body};
 ghost use Rattle.abstractions.specs.Locals.{Marks, Marked};
 ghost use Rattle.abstractions.specs.Substitution.{Substitutes, Substituted};
-ghost use Rattle.abstractions.specs.Occurrences.{Depths, DepthOf, Looks, CopyAt, Before, Earlier};
+ghost use Rattle.abstractions.specs.Occurrences.{DepthSource, WroteDepths, Depths, DepthOf, Looks, CopyAt, Before, Earlier};
 
 // Whether the part of s at byte `at` has a rigid head: its first record that is no application is a local or a constant.
 pub fn is_rigid(s: &[u8], at: usize) -> bool
@@ -353,6 +353,24 @@ pub fn body_into(
         end: leaf.end,
         k,
     }
+}
+
+// Writes how many binders stand above each record of the part of s at byte `at`, above which d binders stand, into out from index o on, one
+// byte a record. Gives where the part ends.
+pub fn depths_into(s: &[u8], at: usize, d: usize, out: &mut [u8], o: usize) -> usize
+    requires { ⌜ DepthSource (now s) at d (length (now out)) o ⌝ }
+    ensures { λ r. ⌜ WroteDepths (now (s .entry)) at d (now (out .entry)) o (now (out .exit)) r ⌝ }
+{
+    out[o] = d as u8;
+    let k = s[at];
+    if k == Kind::APPLICATION.code {
+        let h = depths_into(s, at + RECORD, d, out, o + 1);
+        return depths_into(s, h, d, out, o + (h - at) / RECORD);
+    }
+    if k == Kind::ABSTRACTION.code {
+        return depths_into(s, at + RECORD, d + 1, out, o + 1);
+    }
+    at + RECORD
 }
 
 // Where a walk to a record ends: at it, below so many binders, or at the end of a part that stands before it.
