@@ -7,7 +7,7 @@ use mathlib.Core.Bool.{Bool, true}
 use mathlib.Core.List.{List, [], _∷_}
 use Prim.Native.Nat.{ℕ, _+_, _-_, _*_, _/_, _%_, _<_, _≤_}
 use native.Mathlib.Omega.{arith}
-use lib.ListN.{length, getD, take, drop, length-take}
+use lib.ListN.{length, getD, take, drop, replicate, length-take}
 use lib.Seq.{sets}
 use Rattle.terms.specs.Figures.{variables, patternRecords, valueRecords, tableBytes}
 use Rattle.terms.specs.Term.{Term, app, lam, loc, con, var, size, shift}
@@ -37,7 +37,9 @@ use Rattle.agenda.specs.declared.Ways.{Ways}
 use Rattle.agenda.specs.Items.{itemBytes, ItemAt, Fits}
 use Rattle.agenda.specs.State.{Target, State, Bounds, Easy, Hard, Chain, relinking}
 use Rattle.agenda.specs.Moves.{Question, Move, Moved, Failed, Branched}
-use Rattle.agenda.specs.Branches.{Way, HasWays, Lacking}
+use Rattle.matching.proofs.Occurrences.{partAt}
+use Rattle.abstractions.specs.Occurrences.{DepthSource, WroteDepths}
+use Rattle.agenda.specs.Branches.{Way, HasWays, HasDepths, Lacking}
 use Rattle.agenda.specs.Builds.{Pushes, Pushed, targetItem, afterItem}
 use Rattle.agenda.specs.Applications.{Matches, Counted, matchItem, buildItem}
 use Rattle.agenda.specs.Locals.{Locals, Lacks}
@@ -141,20 +143,37 @@ module _ (P W : List ℕ) (s : Agenda) (a : List Entry) where
           })
 
       pub counted :
-          (h g : ℕ) (c d : Bool) → Ends W (r .target) h → Ends P (r .part + 4) g → ((t : Term) → Part P g t → c ≡ rigid t) → Lacks P (r .part + 4) W (r .target) d
-          → Counted P W s a (record { count = (h - r .target) / 4 + 2; argument = g; rigid = c; lacking = d })
+          (h g : ℕ) (c d : Bool) (m : List ℕ) (o : ℕ) → Ends W (r .target) h → Ends P (r .part + 4) g → ((t : Term) → Part P g t → c ≡ rigid t) → Lacks P (r .part + 4) W (r .target) d
+          → WroteDepths W (r .target) 0 (replicate valueRecords 0) 0 m o
+          → Counted P W s a (record { count = (h - r .target) / 4 + 2; argument = g; rigid = c; lacking = d; depths = m })
       unfolding Lacks
-      counted h g c d e j k m = record {
+      counted h g c d m o e j k n u = record {
         ways = λ gs hs l z. opened gs l (HasWays ((h - r .target) / 4 + 2)) (λ f b t us o. omega (arith, e .exact t (site r gs us l f b t y o .target .part))) hs z;
         argument = subst (λ (i : ℕ). Ends P (i + 4) g) (y .part) j;
         rigid-argument = k;
+        depths-are = λ gs hs l z. opened gs l (HasDepths m) (λ f b t us o i q.
+            let p : 0 + i ≡ i = omega arith in
+            subst (λ (v : ℕ). getD m v 0 ≡ partAt 0 t i .0) p (u .depths t (site r gs us l f b t y o .target .part) i q)) hs z;
         lacking-head = λ i gs hs l z.
-            let q : Lacks P (r .part + 4) W (r .target) true = subst (Lacks P (r .part + 4) W (r .target)) i m in
+            let q : Lacks P (r .part + 4) W (r .target) true = subst (Lacks P (r .part + 4) W (r .target)) i n in
             opened gs l Lacking (λ f b t us o.
             let v = site r gs us l f b t y o in
-            let n = q .1 f t (application-parts P (r .part) f b (v .part) .0) (v .target .part) in
-            (q .0, n .0, n .1)) hs z;
+            let q′ = q .1 f t (application-parts P (r .part) f b (v .part) .0) (v .target .part) in
+            (q .0, q′ .0, q′ .1)) hs z;
       }
+
+      pub depth-source : DepthSource W (r .target) 0 valueRecords 0
+      depth-source = from (DepthSource W (r .target) 0 valueRecords 0) (λ gs hs l f b t z.
+          let v = site r gs hs l f b t y z .target in
+          record {
+            tree = t;
+            part = v .part;
+            enough = omega (arith, v .short);
+            shallow = omega (arith, v .short);
+            least = omega (arith, v .part .some, v .part .within);
+            first = omega arith;
+            fits = omega arith;
+          })
 
       pub argument-ends : (w : Ways) → Counted P W s a w → Ends P (r .part + 4) (w .argument)
       argument-ends w c = subst (λ (i : ℕ). Ends P (i + 4) (w .argument)) (sym (y .part)) (c .argument)

@@ -8,9 +8,9 @@ use mathlib.Core.List.{List, _∷_}
 use Prim.Native.Nat.{ℕ, suc, _+_, _-_, _*_, _%_, _<_, _≤_}
 use native.Mathlib.Omega.{arith}
 use lib.Dec.{T}
-use lib.ListN.{length, take, drop, length-take}
+use lib.ListN.{length, getD, take, drop, length-take}
 use lib.Seq.{sets}
-use Rattle.terms.specs.Figures.{variables, patternRecords, tableBytes}
+use Rattle.terms.specs.Figures.{variables, patternRecords, valueRecords, tableBytes}
 use Rattle.terms.specs.Term.{Term, app, size, shift, unshift, uses}
 use Rattle.terms.specs.Table.{encode}
 use Rattle.terms.specs.Listing.{Line}
@@ -144,6 +144,15 @@ module _ (P W : List ℕ) (s : Agenda) (a : List Entry) (x : Matches P W s a) (r
           room = omega (arith, numbers P W s a x r y .room, x .ready .bounds .whole);
           most = omega (arith, x .ready .bounds .whole);
         })
+
+    pub depth : DepthOf W (r .target) j (getD (w .depths) j 0)
+    depth t p k = from P W s a x (getD (w .depths) j 0 ≡ partAt 0 t j .0) (λ gs hs l f b u z.
+        let q = site P W s a r gs hs l f b u y z .target .part in
+        let e : u ≡ t = encode-inj u t (q .rest) (p .rest) (sym (q .bytes) ∙ p .bytes) .0 in
+        subst (λ (v : Term). getD (w .depths) j 0 ≡ partAt 0 v j .0) e (c .depths-are gs (match (app f b) u ∷ hs) l z j (numbered gs hs l f b u z)))
+
+    pub few-records : j < valueRecords
+    few-records = omega (arith, places .within, places .few)
 
     pub part-whole : Whole W (r .target + 4 * j)
     part-whole = from P W s a x (Whole W (r .target + 4 * j)) (λ gs hs l f b t z.

@@ -34,7 +34,7 @@ use Rattle.agenda.specs.declared.Agenda.{Agenda}
 use Rattle.agenda.specs.declared.Item.{Item}
 use Rattle.agenda.specs.declared.Ways.{Ways}
 use Rattle.agenda.specs.State.{State, Ready, patternAt, relinking}
-use Rattle.agenda.specs.Branches.{HasWays, Lacking}
+use Rattle.agenda.specs.Branches.{HasWays, HasDepths, Lacking}
 
 pub record Matches (P W : List ℕ) (s : Agenda) (a : List Entry) : Type 0 where
   pub ready : Ready relinking P W s a
@@ -45,6 +45,7 @@ pub record Counted (P W : List ℕ) (s : Agenda) (a : List Entry) (w : Ways) : T
   pub ways : (gs hs : List Goal) (l : Line) → State relinking P W s a gs hs l → HasWays (w .count) hs
   pub argument : Ends P (patternAt W (s .hard) + 4) (w .argument)
   pub rigid-argument : (t : Term) → Part P (w .argument) t → w .rigid ≡ rigid t
+  pub depths-are : (gs hs : List Goal) (l : Line) → State relinking P W s a gs hs l → HasDepths (w .depths) hs
   pub lacking-head : w .lacking ≡ true → (gs hs : List Goal) (l : Line) → State relinking P W s a gs hs l → Lacking hs
 
 unfoldable pub Agree : List ℕ → ℕ → List ℕ → ℕ → Bool → Type 0

@@ -11,12 +11,14 @@ use assignments::Entry;
 use records::Kind;
 use records::PATTERN_RECORDS;
 use records::RECORD;
+use records::VALUE_RECORDS;
 use records::Walk;
 ghost use mathlib.Core.Path.{_≡_};
 ghost use Prim.Native.Nat.{suc, _+_, _≤_, _<_};
 ghost use lib.ListN.{length};
 ghost use Rattle.terms.specs.Figures.{tableBytes};
 ghost use Rattle.records.specs.Parts.{Whole};
+ghost use Rattle.abstractions.specs.Occurrences.{DepthOf};
 ghost use Rattle.agenda.specs.Applications.{Matches, Counted, Agree, matchItem, buildItem, Places, Placed, Missing, Comparable, Misses};
 ghost use Rattle.agenda.specs.Branches.{Way};
 ghost use Rattle.agenda.specs.Moves.{Branched};
@@ -60,11 +62,14 @@ pub fn ways(p: &[u8], work: &[u8], s: Agenda, a: [Entry; 8]) -> Ways
     let argument = records::end_at(p, head);
     let rigid = abstractions::is_rigid(p, argument);
     let lacking = crate::locals::lacks_local(p, head, work, target);
+    let mut depths = [0u8; VALUE_RECORDS];
+    abstractions::depths_into(work, target, 0, &mut depths, 0);
     Ways {
         count: (end - target) / RECORD + 2,
         argument,
         rigid,
         lacking,
+        depths,
     }
 }
 
@@ -160,14 +165,13 @@ fn heads_agree(p: &[u8], i: usize, work: &[u8], j: usize) -> bool
     true
 }
 
-// Writes the j-th part of the term at byte `at`, moved out of the binders above it, from byte `top` on, and gives its end; or No where it
-// uses one of those binders.
-fn place_argument(work: &mut [u8], top: usize, at: usize, j: usize) -> Walk
-    requires { ⌜ Places (now work) top at j ⌝ }
+// Writes the j-th part of the term at byte `at`, moved out of the `depth` binders above it, from byte `top` on, and gives its end; or No
+// where it uses one of those binders.
+fn place_argument(work: &mut [u8], top: usize, at: usize, j: usize, depth: usize) -> Walk
+    requires { ⌜ Places (now work) top at j × DepthOf (now work) at j depth ⌝ }
     ensures { λ r. ⌜ Placed (now (work .entry)) top at j (now (work .exit)) r ⌝ }
 {
     let part = at + RECORD * j;
-    let depth = abstractions::depth_at(work, at, j);
     let mut e = [0u8; TARGET_BYTES];
     let moved = abstractions::lower_into(work, part, 0, depth, &mut e, 0);
     let Walk::Upto(end) = moved else {
@@ -191,7 +195,9 @@ fn find_argument(p: &[u8], work: &mut [u8], s: Agenda, a: [Entry; 8], j: usize, 
             return Branch::Failed;
         }
     }
-    let placed = place_argument(work, s.top, goal.target, j);
+    let depths = w.depths;
+    let depth = records::wide(depths[j]);
+    let placed = place_argument(work, s.top, goal.target, j, depth);
     let Walk::Upto(end) = placed else {
         return Branch::Failed;
     };

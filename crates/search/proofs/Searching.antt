@@ -149,6 +149,7 @@ counted-kept P W s a W₁ w e n b c = record {
   ways = λ gs hs l x. c .ways gs hs l (back gs hs l x);
   argument = subst (λ (i : ℕ). Ends P (4 * i + 4) (w .argument)) (sym (byte-kept W s W₁ (s .hard) (omega (arith, b .hard-room)) e)) (c .argument);
   rigid-argument = c .rigid-argument;
+  depths-are = λ gs hs l x. c .depths-are gs hs l (back gs hs l x);
   lacking-head = λ q gs hs l x. c .lacking-head q gs hs l (back gs hs l x);
 }
   where
