@@ -85,8 +85,8 @@ pub fn is_shifted(s: &[u8], at: usize, e: usize, c: usize, d: usize) -> Walk
     Walk::No
 }
 
-// Where the part of s at byte `at` ends, if it is a copy of the part at byte e: that part, shifted by the d binders above it. Nearly always the
-// first records differ, so that they are compared here, at the place of the call, and the walk is only begun where they agree.
+// Where the part of s at byte `at` ends, if it is a copy of the part at byte e: that part, shifted by the d binders above it. Nearly always
+// their first records are of different kinds, which is told here, without a call of the recursive walk.
 fn copy_end(s: &[u8], at: usize, e: usize, d: usize) -> Walk
     requires { ⌜ Compares (now s) at e 0 d ⌝ }
     ensures { λ r. ⌜ Compared (now (s .entry)) at e (Shifted d 0) r ⌝ }
