@@ -3,16 +3,16 @@
 use mathlib.Core.Path.{_≡_, ap, _∙_, subst}
 use mathlib.Core.List.{List, [], _∷_, _++_}
 use mathlib.Core.Logic.{inl}
-use Prim.Native.Nat.{ℕ, max, _≤_, _<_}
+use Prim.Native.Nat.{ℕ, zero, suc, max, _≤_, _<_}
 use native.Mathlib.Nat.{le-max-left}
 use native.Mathlib.Decide.{decLt}
 use native.Mathlib.Omega.{arith}
 use lib.Dec.{lit<}
-use lib.IntN.{ℤ, pos}
+use lib.IntN.{ℤ, pos, negℤ, _-ℤ_, +ℤ-idl}
 use lib.ListN.{length}
 use mir.Syntax.{w64}
 use mir.Val.{SFits, toZ, ofZ}
-use mir.ValLaws.{toZ-ofZ}
+use mir.ValLaws.{toZ-pos, toZ-ofZ}
 use Rattle.terms.specs.Figures.{sweptRecords, tableBytes}
 use Rattle.terms.specs.Term.{Term, app, lam, loc, con, var, size}
 use Rattle.terms.specs.Sweep.{sweep, largest}
@@ -21,7 +21,7 @@ use Rattle.matcher.specs.declared.Refusal.{Refusal}
 use Rattle.matcher.specs.declared.ListAnswer.{ListAnswer}
 use Rattle.matcher.specs.declared.SweepAnswer.{SweepAnswer}
 use Rattle.matcher.specs.declared.RewriteAnswer.{RewriteAnswer}
-use Rattle.matcher.specs.Operations.{lentForList, lentForSweep, lentForRewrite, Written, WrittenLines, Listed, Swept, Rewritten}
+use Rattle.matcher.specs.Operations.{number, lentForList, lentForSweep, lentForRewrite, Written, WrittenLines, Listed, Swept, Rewritten}
 use Rattle.exports.specs.Answers.{refusalCode}
 
 -- a line table has at most 2,048 lines
@@ -77,21 +77,34 @@ rewritten-few p q r l s o w a after x n e =
 pub fits-records : (n : ℕ) → n ≤ tableBytes → SFits w64 (pos n)
 fits-records n h = record { sfits = omega arith }
 
+fits-minus : (n : ℕ) → n ≤ tableBytes → SFits w64 (negℤ (pos n))
+fits-minus zero h = record { sfits = lit< tt }
+fits-minus (suc n) h = record { sfits = omega arith }
+
+pub number-few : (c : Refusal) → number c ≤ tableBytes
+number-few Refusal.PatternLength = omega arith
+number-few Refusal.PatternRecord = omega arith
+number-few Refusal.PatternTerm = omega arith
+number-few Refusal.RecipeLength = omega arith
+number-few Refusal.RecipeRecord = omega arith
+number-few Refusal.RecipeTerm = omega arith
+number-few Refusal.RecipeRedex = omega arith
+number-few Refusal.Tables = omega arith
+number-few Refusal.LineRoom = omega arith
+number-few Refusal.ValueRoom = omega arith
+number-few Refusal.Assignment = omega arith
+number-few Refusal.SweptForm = omega arith
+number-few Refusal.Output = omega arith
+number-few Refusal.NoMatch = omega arith
+
 pub fits-refusal : (c : Refusal) → SFits w64 (refusalCode c)
-fits-refusal Refusal.PatternLength = record { sfits = lit< tt }
-fits-refusal Refusal.PatternRecord = record { sfits = lit< tt }
-fits-refusal Refusal.PatternTerm = record { sfits = lit< tt }
-fits-refusal Refusal.RecipeLength = record { sfits = lit< tt }
-fits-refusal Refusal.RecipeRecord = record { sfits = lit< tt }
-fits-refusal Refusal.RecipeTerm = record { sfits = lit< tt }
-fits-refusal Refusal.RecipeRedex = record { sfits = lit< tt }
-fits-refusal Refusal.Tables = record { sfits = lit< tt }
-fits-refusal Refusal.LineRoom = record { sfits = lit< tt }
-fits-refusal Refusal.ValueRoom = record { sfits = lit< tt }
-fits-refusal Refusal.Assignment = record { sfits = lit< tt }
-fits-refusal Refusal.SweptForm = record { sfits = lit< tt }
-fits-refusal Refusal.Output = record { sfits = lit< tt }
-fits-refusal Refusal.NoMatch = record { sfits = lit< tt }
+fits-refusal c = fits-minus (number c) (number-few c)
+
+-- 0 minus a refusal's number, as 64 bits hold it
+pub minus-number : (c : Refusal) (n : ℕ) → n ≡ number c → pos 0 -ℤ toZ w64 n ≡ refusalCode c
+minus-number c n e =
+    ap (λ (m : ℕ). pos 0 -ℤ toZ w64 m) e
+    ∙ ap (λ (z : ℤ). pos 0 -ℤ z) (toZ-pos w64 (number c) (fits-records (number c) (number-few c) .sfits)) ∙ +ℤ-idl (refusalCode c)
 
 -- a number that was handed on is still itself
 pub handed-on : (z k : ℤ) → z ≡ k → SFits w64 k → toZ w64 (ofZ w64 z) ≡ k

@@ -18,22 +18,8 @@ ghost use Rattle.exports.specs.Answers.{refusalCode, ListedAs, CheckedAs
 fn refusal_code(c: Refusal) -> i64
     ensures { λ r. ⌜ r ≡ refusalCode c ⌝ }
 {
-    match c {
-        Refusal::PatternLength => -1,
-        Refusal::PatternRecord => -2,
-        Refusal::PatternTerm => -3,
-        Refusal::RecipeLength => -4,
-        Refusal::RecipeRecord => -5,
-        Refusal::RecipeTerm => -6,
-        Refusal::RecipeRedex => -7,
-        Refusal::Tables => -8,
-        Refusal::LineRoom => -9,
-        Refusal::ValueRoom => -10,
-        Refusal::Assignment => -11,
-        Refusal::SweptForm => -12,
-        Refusal::Output => -13,
-        Refusal::NoMatch => -14,
-    }
+    let number = matcher::number_of(c) as i64;
+    -number
 }
 
 #[no_mangle]
