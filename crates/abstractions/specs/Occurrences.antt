@@ -1,5 +1,4 @@
 -- The parts of a part, numbered in table order as `matching` numbers them: how deep one stands, and whether one is a copy of a term.
---   Depths l at goal d r     the part at byte `at` has a part at byte goal, below r binders where d stand above it; or it ends before that
 --   DepthOf l at j r         r binders stand between the start of the part at byte `at` and its j-th part
 --   DepthSource l at d room o     a term stands in l from byte `at` on, and the depths of its records, counted from d, can be written from index o on,
 --                            before index `room`: they fit a byte
@@ -22,13 +21,7 @@ use Rattle.records.specs.Parts.{Part, Whole, Ends}
 use Rattle.records.specs.Tests.{Says}
 use Rattle.records.specs.declared.Walk.{Walk}
 use Rattle.records.specs.declared.Walk.the-variants.{Upto, No}
-use Rattle.abstractions.specs.declared.Depth.{Depth}
-use Rattle.abstractions.specs.declared.Depth.the-variants.{At, Behind}
 use Rattle.abstractions.specs.Tests.{Shifted}
-
-unfoldable pub Depths : List ℕ → ℕ → ℕ → ℕ → Depth → Type 0
-Depths l at goal d (At r) = (t : Term) (i : ℕ) → Part l at t → goal ≡ at + 4 * i → (i < size t) × (r ≡ partAt d t i .0)
-Depths l at goal d (Behind h) = Ends l at h × ((t : Term) (i : ℕ) → Part l at t → goal ≡ at + 4 * i → size t ≤ i)
 
 abbrev pub DepthOf : List ℕ → ℕ → ℕ → ℕ → Type 0
 DepthOf l at j r = (t : Term) → Part l at t → j < size t → r ≡ partAt 0 t j .0

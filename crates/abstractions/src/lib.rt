@@ -23,7 +23,7 @@ ghost use Rattle.abstractions.specs.Lowering.{Inside, Lowers, Lowered};
 ghost use Rattle.abstractions.specs.Bodies.{Counting, Counts, Choosing, Chose, Body};
 ghost use Rattle.abstractions.specs.Locals.{Marks, Marked};
 ghost use Rattle.abstractions.specs.Substitution.{Substitutes, Substituted};
-ghost use Rattle.abstractions.specs.Occurrences.{DepthSource, WroteDepths, Depths, DepthOf, Looks, CopyAt, Before, Earlier};
+ghost use Rattle.abstractions.specs.Occurrences.{DepthSource, WroteDepths, Looks, CopyAt, Before, Earlier};
 
 // Whether the part of s at byte `at` has a rigid head: its first record that is no application is a local or a constant.
 pub fn is_rigid(s: &[u8], at: usize) -> bool
@@ -371,47 +371,6 @@ pub fn depths_into(s: &[u8], at: usize, d: usize, out: &mut [u8], o: usize) -> u
         return depths_into(s, at + RECORD, d + 1, out, o + 1);
     }
     at + RECORD
-}
-
-// Where a walk to a record ends: at it, below so many binders, or at the end of a part that stands before it.
-enum Depth {
-    At(usize),
-    Behind(usize),
-}
-
-// Walks over the part of s at byte `at`, above which d binders stand, to the record at byte `goal`.
-fn depth_from(s: &[u8], at: usize, goal: usize, d: usize) -> Depth
-    requires { ⌜ Whole (now s) at × (d + length (now s) ≤ at + tableBytes) ⌝ }
-    ensures { λ r. ⌜ Depths (now (s .entry)) at goal d r ⌝ }
-{
-    if at == goal {
-        return Depth::At(d);
-    }
-    let k = s[at];
-    if k == Kind::APPLICATION.code {
-        let head = depth_from(s, at + RECORD, goal, d);
-        match head {
-            Depth::At(r) => return Depth::At(r),
-            Depth::Behind(h) => return depth_from(s, h, goal, d),
-        }
-    }
-    if k == Kind::ABSTRACTION.code {
-        return depth_from(s, at + RECORD, goal, d + 1);
-    }
-    Depth::Behind(at + RECORD)
-}
-
-// How many binders of the part of s at byte `at` stand above its j-th record.
-pub fn depth_at(s: &[u8], at: usize, j: usize) -> usize
-    requires { ⌜ Whole (now s) at × (length (now s) ≤ tableBytes) × (j ≤ numbers) ⌝ }
-    ensures { λ r. ⌜ DepthOf (now (s .entry)) at j r ⌝ }
-{
-    let depth = depth_from(s, at, at + RECORD * j, 0);
-    match depth {
-        Depth::At(r) => r,
-        // the part has no such record
-        Depth::Behind(_) => 0,
-    }
 }
 
 // Whether the part of s at byte `at` is the part at byte e, moved in below d binders.

@@ -37,7 +37,7 @@ use Rattle.agenda.specs.declared.Ways.{Ways}
 use Rattle.agenda.specs.Items.{itemBytes, ItemAt, Fits}
 use Rattle.agenda.specs.State.{Target, State, Bounds, Easy, Hard, Chain, relinking}
 use Rattle.agenda.specs.Moves.{Question, Move, Moved, Failed, Branched}
-use Rattle.matching.proofs.Occurrences.{partAt}
+use Rattle.abstractions.proofs.Depths.{depth-source, depth-written}
 use Rattle.abstractions.specs.Occurrences.{DepthSource, WroteDepths}
 use Rattle.agenda.specs.Branches.{Way, HasWays, HasDepths, Lacking}
 use Rattle.agenda.specs.Builds.{Pushes, Pushed, targetItem, afterItem}
@@ -151,9 +151,7 @@ module _ (P W : List ℕ) (s : Agenda) (a : List Entry) where
         ways = λ gs hs l z. opened gs l (HasWays ((h - r .target) / 4 + 2)) (λ f b t us o. omega (arith, e .exact t (site r gs us l f b t y o .target .part))) hs z;
         argument = subst (λ (i : ℕ). Ends P (i + 4) g) (y .part) j;
         rigid-argument = k;
-        depths-are = λ gs hs l z. opened gs l (HasDepths m) (λ f b t us o i q.
-            let p : 0 + i ≡ i = omega arith in
-            subst (λ (v : ℕ). getD m v 0 ≡ partAt 0 t i .0) p (u .depths t (site r gs us l f b t y o .target .part) i q)) hs z;
+        depths-are = λ gs hs l z. opened gs l (HasDepths m) (λ f b t us v i q. depth-written W (r .target) _ m o u i t (site r gs us l f b t y v .target .part) q) hs z;
         lacking-head = λ i gs hs l z.
             let q : Lacks P (r .part + 4) W (r .target) true = subst (Lacks P (r .part + 4) W (r .target)) i n in
             opened gs l Lacking (λ f b t us o.
@@ -162,18 +160,10 @@ module _ (P W : List ℕ) (s : Agenda) (a : List Entry) where
             (q .0, q′ .0, q′ .1)) hs z;
       }
 
-      pub depth-source : DepthSource W (r .target) 0 valueRecords 0
-      depth-source = from (DepthSource W (r .target) 0 valueRecords 0) (λ gs hs l f b t z.
+      pub depths-room : DepthSource W (r .target) 0 valueRecords 0
+      depths-room = from (DepthSource W (r .target) 0 valueRecords 0) (λ gs hs l f b t z.
           let v = site r gs hs l f b t y z .target in
-          record {
-            tree = t;
-            part = v .part;
-            enough = omega (arith, v .short);
-            shallow = omega (arith, v .short);
-            least = omega (arith, v .part .some, v .part .within);
-            first = omega arith;
-            fits = omega arith;
-          })
+          depth-source W (r .target) 0 valueRecords 0 t (v .part) (omega (arith, v .short)) (omega (arith, v .short)))
 
       pub argument-ends : (w : Ways) → Counted P W s a w → Ends P (r .part + 4) (w .argument)
       argument-ends w c = subst (λ (i : ℕ). Ends P (i + 4) (w .argument)) (sym (y .part)) (c .argument)
