@@ -4,16 +4,15 @@
 // the operation, the answer, and whether the bytes behind the answer (`rest`: the whole output table, if the answer is a refusal) and the
 // work area are as they were. The table that is kept beside it has document 01's cases, every refusal that the operations can give, both
 // sides of each limit, and the order of the refusals. It promises that it is safe and that it ends; `matcher`
-// promises the answers and a refusal's number. It rests on `matcher` and, for the kinds, on `records`.
+// promises the answers and a refusal's number. It rests on `matcher`, and on `notation` to read the cases.
 //
 // A case is one line of fields, each ended by `;` or the line:
 //     NAME; list; PATTERN; RECIPE; LINES; VALUES; WORK
 //     NAME; check; PATTERN; RECIPE; LINE; VALUES; WORK
 //     NAME; sweep; PATTERN; LINE; VALUES; OUTPUT; WORK
 //     NAME; rewrite; LEFT; RIGHT; RECIPE; LINE; VALUES; OUTPUT; WORK
-// WORK, OUTPUT and, of list, LINES and VALUES are numbers of bytes; without one the work area has its right length. The others are tables, written in items, each a
-// sign and a number, which is 0 if it is left out: `@`, `\`, `#n`, `kn`, `pn` are records, `=n:n` an assigned entry by its first record
-// and its count, `-` an open one, `!n` one byte, and `*n` has the next item n times. Any other line is a heading, and printed as it is.
+// WORK, OUTPUT and, of list, LINES and VALUES are numbers of bytes; without one the work area has its right length. The others are tables, in
+// the items of `notation`. Any other line is a heading, and printed as it is.
 // The values that list wrote are taken to end where the first byte is as it was before the call.
 // Cases behind the first 65,536 bytes, and bytes of a table behind the room that is named below, are cut off.
 
@@ -25,11 +24,16 @@ use matcher::ListAnswer;
 use matcher::Refusal;
 use matcher::RewriteAnswer;
 use matcher::SweepAnswer;
-use records::Kind;
+use notation::build_field;
+use notation::field;
+use notation::find;
+use notation::is_all;
+use notation::lend_field;
+use notation::letter_of;
+use notation::say;
+use notation::say_heading;
+use notation::within;
 use records::RECORD;
-ghost use Prim.Native.Nat.{_≤_};
-ghost use lib.ListN.{length};
-ghost use Rattle.io.specs.Counts.{Counts};
 
 // The bytes of a work area, and the most of a value or output table.
 const TABLE_BYTES: usize = 65536;
@@ -42,226 +46,6 @@ const SHORT: usize = 512;
 
 // What the bytes of an output table and a work area are before a call.
 const MARK: u8 = 238;
-
-// How many values one byte has.
-const BYTE: usize = 256;
-
-// The base of a text's numbers.
-const TEN: usize = 10;
-
-// An item of a text, and how many times it stands there.
-struct Item {
-    sign: u8,
-    number: usize,
-    times: usize,
-}
-
-// Puts one byte, if there is room.
-fn put(out: &mut [u8], at: usize, b: usize) -> usize
-    requires { ⌜ at ≤ length (now out) ⌝ }
-    ensures { λ r. ⌜ r ≤ length (now (out .exit)) ⌝ }
-{
-    if at == out.len() {
-        return at;
-    }
-    out[at] = (b % BYTE) as u8;
-    at + 1
-}
-
-// Puts a number, high byte first.
-fn put_number(out: &mut [u8], at: usize, number: usize) -> usize
-    requires { ⌜ at ≤ length (now out) ⌝ }
-    ensures { λ r. ⌜ r ≤ length (now (out .exit)) ⌝ }
-{
-    let low = put(out, at, number / BYTE);
-    put(out, low, number)
-}
-
-fn put_record(out: &mut [u8], at: usize, kind: u8, number: usize) -> usize
-    requires { ⌜ at ≤ length (now out) ⌝ }
-    ensures { λ r. ⌜ r ≤ length (now (out .exit)) ⌝ }
-{
-    let zero = put(out, at, kind as usize);
-    let high = put(out, zero, 0);
-    put_number(out, high, number)
-}
-
-// Puts the record, the half of an entry or the byte that a sign and a number stand for.
-fn put_item(out: &mut [u8], at: usize, sign: u8, number: usize) -> usize
-    requires { ⌜ at ≤ length (now out) ⌝ }
-    ensures { λ r. ⌜ r ≤ length (now (out .exit)) ⌝ }
-{
-    match sign {
-        b'@' | b'-' => put_record(out, at, Kind::APPLICATION.code, number),
-        b'\\' => put_record(out, at, Kind::ABSTRACTION.code, number),
-        b'#' => put_record(out, at, Kind::LOCAL.code, number),
-        b'k' => put_record(out, at, Kind::CONSTANT.code, number),
-        b'p' => put_record(out, at, Kind::VARIABLE.code, number),
-        b'=' | b':' => put_number(out, at, number),
-        b'!' => put(out, at, number),
-        _ => at,
-    }
-}
-
-fn put_items(out: &mut [u8], at: usize, item: Item) -> usize
-    requires { ⌜ at ≤ length (now out) ⌝ }
-    ensures { λ r. ⌜ r ≤ length (now (out .exit)) ⌝ }
-{
-    let mut end = at;
-    let mut i = 0;
-    while i < item.times {
-        end = put_item(out, end, item.sign, item.number);
-        i += 1;
-    }
-    end
-}
-
-// Puts the items before the character c, unless c is a digit of their number.
-fn put_before(out: &mut [u8], at: usize, item: Item, c: u8) -> usize
-    requires { ⌜ at ≤ length (now out) ⌝ }
-    ensures { λ r. ⌜ r ≤ length (now (out .exit)) ⌝ }
-{
-    if is_digit(c) {
-        return at;
-    }
-    put_items(out, at, item)
-}
-
-fn is_digit(c: u8) -> bool {
-    b'0' <= c && c <= b'9'
-}
-
-// A number with the digit c behind it; no text has a number of more than five digits.
-fn with_digit(number: usize, c: u8) -> usize {
-    if TABLE_BYTES < number || c < b'0' {
-        return number;
-    }
-    number * TEN + (c - b'0') as usize
-}
-
-// The item that is being read, after the character c.
-fn read(item: Item, c: u8) -> Item {
-    if is_digit(c) {
-        return Item {
-            sign: item.sign,
-            number: with_digit(item.number, c),
-            times: item.times,
-        };
-    }
-    if item.sign == b'*' {
-        return Item {
-            sign: c,
-            number: 0,
-            times: item.number,
-        };
-    }
-    Item {
-        sign: c,
-        number: 0,
-        times: 1,
-    }
-}
-
-// Builds the table that a text writes, and gives its length.
-fn build(text: &[u8], out: &mut [u8]) -> usize
-    ensures { λ r. ⌜ Counts r (now (out .exit)) ⌝ }
-{
-    let mut end = 0;
-    let mut item = Item {
-        sign: b' ',
-        number: 0,
-        times: 1,
-    };
-    let mut i = 0;
-    while i < text.len() {
-        let c = text[i];
-        end = put_before(out, end, item, c);
-        item = read(item, c);
-        i += 1;
-    }
-    put_items(out, end, item)
-}
-
-// The number of bytes that a field gives, or `none` if it is empty.
-fn bytes_in(field: &[u8], none: usize) -> usize {
-    if field.len() == 0 {
-        return none;
-    }
-    let mut number = 0;
-    let mut i = 0;
-    while i < field.len() {
-        number = with_digit(number, field[i]);
-        i += 1;
-    }
-    number
-}
-
-// A number of bytes, cut to those that a table has.
-fn within(bytes: usize, table: &[u8]) -> usize
-    ensures { λ r. ⌜ Counts r (now (table .entry)) ⌝ }
-{
-    if table.len() < bytes {
-        return table.len();
-    }
-    bytes
-}
-
-// Where the first `sign` from `at` on stands, or the end.
-fn find(text: &[u8], at: usize, sign: u8) -> usize
-    requires { ⌜ at ≤ length (now text) ⌝ }
-    ensures { λ r. ⌜ (at ≤ r) × (r ≤ length (now (text .entry))) ⌝ }
-{
-    let mut i = at;
-    while i < text.len() {
-        if text[i] == sign {
-            return i;
-        }
-        i += 1;
-    }
-    i
-}
-
-// Where the field after the one from `at` on starts, or the end.
-fn next_field(case: &[u8], at: usize) -> usize
-    requires { ⌜ at ≤ length (now case) ⌝ }
-    ensures { λ r. ⌜ r ≤ length (now (case .entry)) ⌝ }
-{
-    let end = find(case, at, b';');
-    if end == case.len() {
-        return end;
-    }
-    end + 1
-}
-
-// The k-th field of a case, from 0; empty if it has none.
-fn field(case: &[u8], k: usize) -> &[u8] {
-    let mut at = 0;
-    let mut i = 0;
-    while i < k {
-        at = next_field(case, at);
-        i += 1;
-    }
-    let end = find(case, at, b';');
-    &case[at..end]
-}
-
-// Builds the table of the k-th field, and gives its length.
-fn build_field(case: &[u8], k: usize, out: &mut [u8]) -> usize
-    ensures { λ r. ⌜ Counts r (now (out .exit)) ⌝ }
-{
-    build(field(case, k), out)
-}
-
-// How many bytes of a table the k-th field lends.
-fn lend_field(case: &[u8], k: usize, none: usize, table: &[u8]) -> usize
-    ensures { λ r. ⌜ Counts r (now (table .entry)) ⌝ }
-{
-    within(bytes_in(field(case, k), none), table)
-}
-
-fn say(text: &[u8]) {
-    io::write_all(STDOUT_FILENO, text);
-}
 
 fn wide(b: u8) -> u64 {
     b as u64
@@ -321,17 +105,6 @@ fn say_untouched(c: Refusal, out: &[u8]) {
     say_refused(c);
     say(b"; rest");
     say_left(out);
-}
-
-fn is_all(table: &[u8], b: u8) -> bool {
-    let mut i = 0;
-    while i < table.len() {
-        if table[i] != b {
-            return false;
-        }
-        i += 1;
-    }
-    true
 }
 
 // Prints what became of bytes that held MARK.
@@ -519,14 +292,6 @@ fn rewrite(case: &[u8]) {
     );
 }
 
-// The letter that a field's word starts with, behind a blank.
-fn letter_of(field: &[u8]) -> u8 {
-    if field.len() < 2 {
-        return b' ';
-    }
-    field[1]
-}
-
 fn run(case: &[u8]) {
     let letter = letter_of(field(case, 1));
     match letter {
@@ -536,11 +301,6 @@ fn run(case: &[u8]) {
         b'r' => rewrite(case),
         _ => say_heading(case),
     }
-}
-
-fn say_heading(text: &[u8]) {
-    say(text);
-    say(b"\n");
 }
 
 fn run_all(cases: &[u8]) {

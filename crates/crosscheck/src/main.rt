@@ -1,0 +1,451 @@
+// Listings against a plain enumeration, on named examples and on random patterns and recipes.
+//
+// The program goes through all runs of up to six records and keeps those that are closed normal terms over the constants 0 to 2. For each
+// pattern and recipe it lists, and then tries every assignment of the pattern's variables to the first of these terms, or to a few that
+// are drawn: check and the swept form must say the same, a match must agree with exactly one line, and what is no match with none. Every
+// line must rise above the one before, have its values where document 01 puts them, and match however its open variables are filled; the
+// bytes behind stay and the work area is zero. Nothing here uses the search. It prints what it compared and how many of each outcome. It promises that it is
+// safe and that it ends; `matcher` promises the rest. It rests on `matcher`, and on `notation` to read the cases.
+//
+// A case is one line of fields, each ended by `;` or the line:
+//     NAME; list; PATTERN; RECIPE; COUNT; REFUSAL
+//     NAME; random; SHAPE; SEED; CASES
+// COUNT is the number of lines, found by other means, and REFUSAL the number of the refusal, if there is to be one. SHAPE is the number of what the patterns are to have many of: 0 nothing
+// special, 1 applied abstractions, 2 abstractions over `M #0`, 3 both, 4 repeated variables, 5 locals, 6 all eight variables. Any other
+// line is a heading, and printed as it is.
+
+mod agreement;
+mod generate;
+mod outcome;
+mod pool;
+mod random;
+mod scan;
+mod trials;
+
+use agreement::value_at;
+use generate::put_part;
+use libc::STDIN_FILENO;
+use listing::LINE;
+use matcher::SweepAnswer;
+use notation::build_field;
+use notation::bytes_in;
+use notation::field;
+use notation::find;
+use notation::letter_of;
+use notation::put;
+use notation::say;
+use notation::say_heading;
+use notation::within;
+use outcome::SIZE;
+use outcome::add_all;
+use outcome::disagreements;
+use outcome::say_number;
+use outcome::say_total;
+use outcome::tally_if;
+use outcome::total;
+use random::draw;
+use records::RECORD;
+use scan::variables;
+use trials::assign;
+use trials::copy_entry;
+use trials::power;
+use trials::try_case;
+ghost use Prim.Native.Nat.{_≤_};
+ghost use lib.ListN.{length};
+ghost use Rattle.io.specs.Counts.{Counts};
+
+// The bytes of a work area and of the value table.
+const TABLE_BYTES: usize = 65536;
+
+// Room for the lines of one case.
+const LINES_BYTES: usize = 32768;
+
+// Room for the entries of the enumerated terms.
+const ENTRIES: usize = 4096;
+
+// Room for a pattern or a recipe.
+const SHORT: usize = 384;
+
+// The most assignments of an example, and of a random case.
+const EXAMPLE_ASSIGNMENTS: usize = 3000;
+
+const RANDOM_ASSIGNMENTS: usize = 256;
+
+// Terms of up to three and of up to four records. Patterns with two variables or more have terms that are drawn from these.
+const THREE_RECORDS: usize = 21;
+
+const FOUR_RECORDS: usize = 52;
+
+// The most terms such that there are no more assignments of the variables than allowed.
+fn terms_for(variables: usize, terms: usize, allowed: usize) -> usize {
+    let mut n = 1;
+    while n < terms {
+        if allowed < power(n + 1, variables) {
+            return n;
+        }
+        n += 1;
+    }
+    n
+}
+
+fn say_example(totals: &[u64; SIZE]) {
+    say_total(totals, outcome::LINES, b": lines ");
+    say_total(totals, outcome::OPEN_LINES, b", open ");
+    say_total(totals, outcome::ASSIGNMENTS, b"; assignments ");
+    say_total(totals, outcome::MATCHES, b", matches ");
+    say_total(totals, outcome::FILLINGS, b"; fillings ");
+    say(b"; disagreements ");
+    say_number(disagreements(totals));
+    say(b"\n");
+}
+
+fn run_example(
+    case: &[u8],
+    entries: &[u8],
+    lines: &mut [u8],
+    values: &mut [u8],
+    work: &mut [u8],
+    all: &mut [u64; SIZE],
+) {
+    let mut p = [0u8; SHORT];
+    let mut r = [0u8; SHORT];
+    let mut totals = [0u64; SIZE];
+    let p_end = build_field(case, 2, &mut p);
+    let r_end = build_field(case, 3, &mut r);
+    let n = terms_for(
+        variables(&p[..p_end], 1),
+        entries.len() / RECORD,
+        EXAMPLE_ASSIGNMENTS,
+    );
+    let end = within(n % 65536 * RECORD, entries);
+    let count = try_case(
+        &p[..p_end],
+        &r[..r_end],
+        &entries[..end],
+        lines,
+        values,
+        work,
+        &mut totals,
+    );
+    tally_if(
+        &mut totals,
+        outcome::NUMBER,
+        count != bytes_in(field(case, 4), 0),
+    );
+    say(field(case, 0));
+    say_example(&totals);
+    add_all(all, &totals);
+}
+
+// The i-th term for a pattern with so many variables: of all, if it has one, or else a small one that is drawn.
+fn choice(i: usize, variables: usize, seed: &mut u64) -> usize {
+    match variables {
+        0 | 1 => i,
+        2 | 3 | 4 => draw(seed, FOUR_RECORDS),
+        _ => draw(seed, THREE_RECORDS),
+    }
+}
+
+// Copies the entries of n terms.
+fn choose(entries: &[u8], n: usize, variables: usize, seed: &mut u64, terms: &mut [u8]) {
+    let mut i = 0;
+    while i < n {
+        copy_entry(entries, choice(i, variables, seed), terms, i);
+        i += 1;
+    }
+}
+
+fn byte(b: u8) -> usize {
+    b as usize
+}
+
+fn copy(from: &[u8], to: &mut [u8]) -> usize
+    ensures { λ r. ⌜ Counts r (now (to .exit)) ⌝ }
+{
+    let mut end = 0;
+    let mut i = 0;
+    while i < from.len() {
+        end = put(to, end, byte(from[i]));
+        i += 1;
+    }
+    within(end, to)
+}
+
+// The bytes of a swept form, which is a random filling of the pattern's; none if it is too long.
+fn put_swept(
+    pattern: &[u8],
+    terms: &[u8],
+    values: &[u8],
+    seed: &mut u64,
+    out: &mut [u8],
+    work: &mut [u8],
+) -> usize
+    ensures { λ r. ⌜ Counts r (now (out .exit)) ⌝ }
+{
+    let mut line = [0u8; LINE];
+    let number = draw(seed, power(terms.len() / RECORD, variables(pattern, 1)));
+    assign(pattern, terms, number, &mut line);
+    let answer = matcher::sweep(pattern, &line, values, out, work);
+    match answer {
+        SweepAnswer::Records(n) => within(n % 65536 * RECORD, out),
+        SweepAnswer::Refused(_) => within(0, out),
+    }
+}
+
+// A recipe: the swept form of a filling of the pattern, a term of the enumeration, or any closed term.
+fn put_recipe(
+    pattern: &[u8],
+    terms: &[u8],
+    entries: &[u8],
+    values: &[u8],
+    seed: &mut u64,
+    out: &mut [u8],
+    work: &mut [u8],
+) -> usize
+    ensures { λ r. ⌜ Counts r (now (out .exit)) ⌝ }
+{
+    let d = draw(seed, 6);
+    if d < 3 {
+        return put_swept(pattern, terms, values, seed, out, work);
+    }
+    if d < 5 {
+        return copy(
+            value_at(values, entries, draw(seed, entries.len() / RECORD)),
+            out,
+        );
+    }
+    let mut next = 0;
+    let end = put_part(
+        out,
+        0,
+        generate::GROUND,
+        1 + draw(seed, 7),
+        0,
+        seed,
+        &mut next,
+    );
+    within(end, out)
+}
+
+fn size(shape: usize, seed: &mut u64) -> usize {
+    if shape == generate::EIGHT {
+        return 17 + draw(seed, 5);
+    }
+    3 + draw(seed, 8)
+}
+
+fn run_random(
+    shape: usize,
+    seed: &mut u64,
+    entries: &[u8],
+    lines: &mut [u8],
+    values: &mut [u8],
+    work: &mut [u8],
+    totals: &mut [u64; SIZE],
+) {
+    let mut p = [0u8; SHORT];
+    let mut r = [0u8; SHORT];
+    let mut t = [0u8; ENTRIES];
+    let mut next = draw(seed, 8);
+    let records = size(shape, seed);
+    let p_end = within(put_part(&mut p, 0, shape, records, 0, seed, &mut next), &p);
+    let v = variables(&p[..p_end], 1);
+    let n = terms_for(v, entries.len() / RECORD, RANDOM_ASSIGNMENTS);
+    choose(entries, n, v, seed, &mut t);
+    let t_end = within(n % 65536 * RECORD, &t);
+    let r_end = put_recipe(
+        &p[..p_end],
+        &t[..t_end],
+        entries,
+        values,
+        seed,
+        &mut r,
+        work,
+    );
+    try_case(
+        &p[..p_end],
+        &r[..r_end],
+        &t[..t_end],
+        lines,
+        values,
+        work,
+        totals,
+    );
+}
+
+fn say_group(totals: &[u64; SIZE]) {
+    say_total(totals, outcome::CASES, b": cases ");
+    say_total(totals, outcome::NO_LINE, b", with no line ");
+    say_total(totals, outcome::REFUSED + 7, b", refused 7 ");
+    say_total(totals, outcome::WITH_BETA, b"; with beta redexes ");
+    say_total(totals, outcome::WITH_ETA, b", eta redexes ");
+    say_total(totals, outcome::WITH_REPEATED, b", a repeated variable ");
+    say_total(
+        totals,
+        outcome::WITH_APPLIED,
+        b", a variable applied to a local ",
+    );
+    say_total(totals, outcome::WITH_EIGHT, b", all eight variables ");
+    say_total(totals, outcome::WITH_NONE, b", no variable ");
+    say_example(totals);
+}
+
+fn run_group(
+    case: &[u8],
+    entries: &[u8],
+    lines: &mut [u8],
+    values: &mut [u8],
+    work: &mut [u8],
+    all: &mut [u64; SIZE],
+) {
+    let mut totals = [0u64; SIZE];
+    let shape = bytes_in(field(case, 2), 0);
+    let mut seed = bytes_in(field(case, 3), 0) as u64;
+    let cases = bytes_in(field(case, 4), 0);
+    let mut i = 0;
+    while i < cases {
+        run_random(shape, &mut seed, entries, lines, values, work, &mut totals);
+        i += 1;
+    }
+    say(field(case, 0));
+    say_group(&totals);
+    add_all(all, &totals);
+}
+
+fn run(
+    case: &[u8],
+    entries: &[u8],
+    lines: &mut [u8],
+    values: &mut [u8],
+    work: &mut [u8],
+    all: &mut [u64; SIZE],
+) {
+    let letter = letter_of(field(case, 1));
+    match letter {
+        b'l' => run_example(case, entries, lines, values, work, all),
+        b'r' => run_group(case, entries, lines, values, work, all),
+        _ => say_heading(case),
+    }
+}
+
+fn run_all(
+    cases: &[u8],
+    entries: &[u8],
+    lines: &mut [u8],
+    values: &mut [u8],
+    work: &mut [u8],
+    all: &mut [u64; SIZE],
+) {
+    let mut at = 0;
+    while at < cases.len() {
+        let end = find(cases, at, b'\n');
+        run(&cases[at..end], entries, lines, values, work, all);
+        at = end + 1;
+    }
+}
+
+fn say_disagreements(all: &[u64; SIZE]) {
+    say_total(
+        all,
+        outcome::CHECK_AND_SWEEP,
+        b"disagreements\n  check and the swept form: ",
+    );
+    say_total(
+        all,
+        outcome::IN_NO_LINE,
+        b"\n  a match that agrees with no line: ",
+    );
+    say_total(
+        all,
+        outcome::IN_TWO_LINES,
+        b"\n  a match that agrees with two lines: ",
+    );
+    say_total(
+        all,
+        outcome::NO_MATCH_IN_LINE,
+        b"\n  no match, and agrees with a line: ",
+    );
+    say_total(
+        all,
+        outcome::FILLING,
+        b"\n  a filling of a line that is no match: ",
+    );
+    say_total(
+        all,
+        outcome::ORDER,
+        b"\n  a line that is not above the one before: ",
+    );
+    say_total(
+        all,
+        outcome::LAYOUT,
+        b"\n  lines and values that are not laid out as document 01 says: ",
+    );
+    say_total(
+        all,
+        outcome::BEHIND,
+        b"\n  bytes behind the lines or the values that changed: ",
+    );
+    say_total(all, outcome::AREA, b"\n  a work area that is not zero: ");
+    say_total(
+        all,
+        outcome::REFUSAL,
+        b"\n  a refusal of a normal recipe, or none of another: ",
+    );
+    say_total(
+        all,
+        outcome::NUMBER,
+        b"\n  a count that is not the one expected: ",
+    );
+    say(b"\n");
+}
+
+fn say_refusal(all: &[u64; SIZE], number: usize) {
+    say(b" ");
+    say_number(number as u64);
+    say_total(all, outcome::REFUSED + number % 16, b": ");
+}
+
+fn say_refusals(all: &[u64; SIZE]) {
+    let mut number = 1;
+    while number < 15 {
+        say_refusal(all, number);
+        number += 1;
+    }
+}
+
+fn say_all(all: &[u64; SIZE]) {
+    say(b"all");
+    say_group(all);
+    say(b"refused");
+    say_refusals(all);
+    say_total(all, outcome::TOO_LONG, b"\ntoo long to sweep: ");
+    say(b"\n");
+    say_disagreements(all);
+}
+
+// Fills the part of the value table that list is not lent, and gives the bytes of the entries.
+fn fill_pool(values: &mut [u8], entries: &mut [u8]) -> usize {
+    let lent = within(trials::LENT, values);
+    pool::fill(&mut values[lent..], entries, trials::LENT / RECORD)
+}
+
+fn main() {
+    let mut cases = io::large_buffer();
+    let mut values = [0u8; TABLE_BYTES];
+    let mut entries = [0u8; ENTRIES];
+    let mut lines = [0u8; LINES_BYTES];
+    let mut work = [0u8; TABLE_BYTES];
+    let mut all = [0u64; SIZE];
+    let n = io::read_full(STDIN_FILENO, &mut cases);
+    let filled = fill_pool(&mut values, &mut entries);
+    let end = within(filled, &entries);
+    run_all(
+        &cases[..n],
+        &entries[..end],
+        &mut lines,
+        &mut values,
+        &mut work,
+        &mut all,
+    );
+    say_all(&all);
+}
