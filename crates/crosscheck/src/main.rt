@@ -66,6 +66,9 @@ const ENTRIES: usize = 4096;
 // Room for a pattern or a recipe.
 const SHORT: usize = 384;
 
+// Room for a random recipe: of a longer one, a random pattern with eight variables can have more lines than there is room for.
+const RANDOM_RECIPE: usize = 48;
+
 // The most assignments of an example, and of a random case.
 const EXAMPLE_ASSIGNMENTS: usize = 3000;
 
@@ -88,15 +91,40 @@ fn terms_for(variables: usize, terms: usize, allowed: usize) -> usize {
     n
 }
 
-fn say_example(totals: &[u64; SIZE]) {
-    say_total(totals, outcome::LINES, b": lines ");
-    say_total(totals, outcome::OPEN_LINES, b", open ");
+// Prints what was compared, behind the number of lines.
+fn say_compared(totals: &[u64; SIZE]) {
+    say_total(totals, outcome::OPEN_LINES, b", of which open ");
     say_total(totals, outcome::ASSIGNMENTS, b"; assignments ");
     say_total(totals, outcome::MATCHES, b", matches ");
     say_total(totals, outcome::FILLINGS, b"; fillings ");
     say(b"; disagreements ");
     say_number(disagreements(totals));
     say(b"\n");
+}
+
+fn say_example(totals: &[u64; SIZE], refusal: usize) {
+    if refusal == 0 {
+        say_total(totals, outcome::LINES, b": lines ");
+        say_compared(totals);
+        return;
+    }
+    say(b": refused ");
+    say_number(refusal as u64);
+    say(b"; disagreements ");
+    say_number(disagreements(totals));
+    say(b"\n");
+}
+
+// The number of the refusal that is expected, or 0.
+fn refusal_in(case: &[u8]) -> usize {
+    bytes_in(field(case, 5), 0) % 16
+}
+
+// Counts a count of lines, or a refusal, that is not the one expected.
+fn tally_expected(count: usize, expected: usize, refusal: usize, totals: &mut [u64; SIZE]) {
+    let refused = total(totals, outcome::REFUSED + refusal % 16);
+    tally_if(totals, outcome::NUMBER, count != expected);
+    tally_if(totals, outcome::NUMBER, refused != 1);
 }
 
 fn run_example(
@@ -127,13 +155,10 @@ fn run_example(
         work,
         &mut totals,
     );
-    tally_if(
-        &mut totals,
-        outcome::NUMBER,
-        count != bytes_in(field(case, 4), 0),
-    );
+    let refusal = refusal_in(case);
+    tally_expected(count, bytes_in(field(case, 4), 0), refusal, &mut totals);
     say(field(case, 0));
-    say_example(&totals);
+    say_example(&totals, refusal);
     add_all(all, &totals);
 }
 
@@ -171,7 +196,7 @@ fn copy(from: &[u8], to: &mut [u8]) -> usize
     within(end, to)
 }
 
-// The bytes of a swept form, which is a random filling of the pattern's; none if it is too long.
+// The swept form of a random filling of the pattern; none if there is no room for it.
 fn put_swept(
     pattern: &[u8],
     terms: &[u8],
@@ -192,7 +217,27 @@ fn put_swept(
     }
 }
 
-// A recipe: the swept form of a filling of the pattern, a term of the enumeration, or any closed term.
+// A term of the enumeration.
+fn put_term(entries: &[u8], values: &[u8], seed: &mut u64, out: &mut [u8]) -> usize
+    ensures { λ r. ⌜ Counts r (now (out .exit)) ⌝ }
+{
+    copy(
+        value_at(values, entries, draw(seed, entries.len() / RECORD)),
+        out,
+    )
+}
+
+// Any closed term, though perhaps not a normal one.
+fn put_ground(seed: &mut u64, out: &mut [u8]) -> usize
+    ensures { λ r. ⌜ Counts r (now (out .exit)) ⌝ }
+{
+    let mut next = 0;
+    let size = 1 + draw(seed, 7);
+    let end = put_part(out, 0, generate::GROUND, size, 0, seed, &mut next);
+    within(end, out)
+}
+
+// A recipe: the swept form of a filling of the pattern, if it is short, a term of the enumeration, or any closed term.
 fn put_recipe(
     pattern: &[u8],
     terms: &[u8],
@@ -205,26 +250,17 @@ fn put_recipe(
     ensures { λ r. ⌜ Counts r (now (out .exit)) ⌝ }
 {
     let d = draw(seed, 6);
+    if d == 5 {
+        return put_ground(seed, out);
+    }
     if d < 3 {
-        return put_swept(pattern, terms, values, seed, out, work);
+        let end = put_swept(pattern, terms, values, seed, out, work);
+        if 0 < end {
+            return end;
+        }
+        return put_term(entries, values, seed, out);
     }
-    if d < 5 {
-        return copy(
-            value_at(values, entries, draw(seed, entries.len() / RECORD)),
-            out,
-        );
-    }
-    let mut next = 0;
-    let end = put_part(
-        out,
-        0,
-        generate::GROUND,
-        1 + draw(seed, 7),
-        0,
-        seed,
-        &mut next,
-    );
-    within(end, out)
+    put_term(entries, values, seed, out)
 }
 
 fn size(shape: usize, seed: &mut u64) -> usize {
@@ -244,7 +280,7 @@ fn run_random(
     totals: &mut [u64; SIZE],
 ) {
     let mut p = [0u8; SHORT];
-    let mut r = [0u8; SHORT];
+    let mut r = [0u8; RANDOM_RECIPE];
     let mut t = [0u8; ENTRIES];
     let mut next = draw(seed, 8);
     let records = size(shape, seed);
@@ -275,9 +311,7 @@ fn run_random(
 
 fn say_group(totals: &[u64; SIZE]) {
     say_total(totals, outcome::CASES, b": cases ");
-    say_total(totals, outcome::NO_LINE, b", with no line ");
-    say_total(totals, outcome::REFUSED + 7, b", refused 7 ");
-    say_total(totals, outcome::WITH_BETA, b"; with beta redexes ");
+    say_total(totals, outcome::WITH_BETA, b" (with beta redexes ");
     say_total(totals, outcome::WITH_ETA, b", eta redexes ");
     say_total(totals, outcome::WITH_REPEATED, b", a repeated variable ");
     say_total(
@@ -287,7 +321,10 @@ fn say_group(totals: &[u64; SIZE]) {
     );
     say_total(totals, outcome::WITH_EIGHT, b", all eight variables ");
     say_total(totals, outcome::WITH_NONE, b", no variable ");
-    say_example(totals);
+    say_total(totals, outcome::REFUSED + 7, b"), refused for the recipe ");
+    say_total(totals, outcome::NO_LINE, b", with no line ");
+    say_total(totals, outcome::LINES, b"; lines ");
+    say_compared(totals);
 }
 
 fn run_group(
