@@ -4,16 +4,18 @@
 // pattern and recipe it lists, and then tries every assignment of the pattern's variables to the first of these terms, or to a few that
 // are drawn: check and the swept form must say the same, a match must agree with exactly one line, and what is no match with none. Every
 // line must rise above the one before, have its values where document 01 puts them, and match however its open variables are filled; the
-// bytes behind stay and the work area is zero. Nothing here uses the search. It prints what it compared and how many of each outcome. It promises that it is
-// safe and that it ends; `matcher` promises the rest. It rests on `matcher`, and on `notation` to read the cases.
+// bytes behind stay and the work area is zero. The enumeration doesn't use the search. The program prints what it compared and how many of
+// each outcome. It promises that it is safe and that it ends; `matcher` promises the rest. It rests on `matcher`, and on `notation` to read
+// the cases.
 //
 // A case is one line of fields, each ended by `;` or the line:
 //     NAME; list; PATTERN; RECIPE; COUNT; REFUSAL
 //     NAME; random; SHAPE; SEED; CASES
 //     NAME; total; NUMBER
-// COUNT is the number of lines, found by other means, and REFUSAL the number of the refusal, if there is to be one. SHAPE is the number of what the patterns are to have many of: 0 nothing
-// special, 1 applied abstractions, 2 abstractions over `M #0`, 3 both, 4 repeated variables, 5 locals, 6 all eight variables. NUMBER is
-// that of a total in `outcome`, over all cases so far. Any other line is a heading, and printed as it is.
+// COUNT is the number of lines, found by other means, and REFUSAL the number of the refusal, if there is to be one. SHAPE is the number of
+// what the patterns are to have many of: 0 nothing special, 1 applied abstractions, 2 abstractions over `M #0`, 3 both, 4 repeated
+// variables, 5 locals, 6 all eight variables. NUMBER is that of a total in `outcome`, over all cases so far. Any other line is a heading,
+// and printed as it is.
 
 mod agreement;
 mod generate;
