@@ -3,10 +3,10 @@
 #
 #   tests/run.sh [path of the static library] [number of calls] [other options of src/main.rs, such as seed=5]
 #
-# The library is target/staticlib/libmatcher.a unless given. A difference ends the run with status 1 and prints the call.
+# The library is target/staticlib/libexports.a unless given. A difference ends the run with status 1 and prints the call.
 set -eu
 here=$(cd "$(dirname "$0")" && pwd)
-library=${1:-$here/../target/staticlib/libmatcher.a}
+library=${1:-$here/../target/staticlib/libexports.a}
 calls=${2:-200000}
 [ $# -ge 2 ] && shift 2 || shift $#
 [ -f "$library" ] || { echo "no static library at $library" >&2; exit 2; }

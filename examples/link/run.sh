@@ -1,10 +1,10 @@
 #!/bin/sh
 # run.sh [path of the static library]: builds rewrite.c and rewrite.rs, runs both on the examples and on some terms that are refused, and compares what they
-# print with the file `printed`, which was checked by hand. The library is target/staticlib/libmatcher.a unless given.
+# print with the file `printed`, which was checked by hand. The library is target/staticlib/libexports.a unless given.
 set -eu
 here=$(cd "$(dirname "$0")" && pwd)
 top=$here/../..
-library=${1:-$top/target/staticlib/libmatcher.a}
+library=${1:-$top/target/staticlib/libexports.a}
 [ -f "$library" ] || { echo "no static library at $library" >&2; exit 2; }
 
 room=$(mktemp -d)

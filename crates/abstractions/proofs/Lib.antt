@@ -4,3 +4,4 @@ pub mod Locals
 pub mod Substitution
 pub mod Bodies
 pub mod Occurrences
+pub mod Depths

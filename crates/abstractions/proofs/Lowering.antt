@@ -162,7 +162,7 @@ module _ (l : List ℕ) (at c d o : ℕ) where
       pub lowered-application : (after : List ℕ) (h : ℕ) (r s : Walk) → Whole l at → r ≡ Upto h → Lowered l (at + 4) c d p (o + 4) q r → Lowered l h c d q (o + (h - at)) after s → Lowered l at c d out o after s
       unfolding Leaves
       lowered-application after h r s a i x y =
-          record { walked = walked-app l at (Movable d c) h r s z (movable-two d c) i (x .walked) (y .walked); leaves = go s (y .walked) (y .leaves) }
+          record { walked = walked-app l at (Movable d c) (Movable d c) (Movable d c) h r s z (movable-two d c) i (x .walked) (y .walked); leaves = go s (y .walked) (y .leaves) }
         where
           ends : Ends l (at + 4) h
           ends = walked-ends l (at + 4) (Movable d c) h r i (x .walked)
@@ -182,7 +182,7 @@ module _ (l : List ℕ) (at c d o : ℕ) where
       lowered-stop r i x =
           let w : Leaves l (at + 4) c d p (o + 4) q No = subst (Leaves l (at + 4) c d p (o + 4) q) i (x .leaves) in
           record {
-            walked = walked-stop l at (Movable d c) r z (movable-two d c) i (x .walked);
+            walked = walked-stop l at (Movable d c) (Movable d c) (Movable d c) r z (movable-two d c) i (x .walked);
             leaves = take-less q p o (o + 4) (omega arith) w ∙ ap (take o) e ∙ take-sets (bytes 0 0 []) out o o (omega arith);
           }
 

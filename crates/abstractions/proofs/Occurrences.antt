@@ -1,4 +1,4 @@
--- The parts of a part by their positions: the j-th one stands 4 * j bytes on, how deep it stands, and whether it is a copy of a term. By the
+-- The parts of a part by their positions: the j-th one stands 4 * j bytes on, and whether it is a copy of a term. By the
 -- term's kind, which its first record shows; the parts of a head come before those of the argument. Assumes nothing.
 use mathlib.Core.Path.{_≡_, refl, sym, ap, ap₂, _∙_, subst}
 use mathlib.Core.Bool.{Bool, true, false}
@@ -14,10 +14,8 @@ use Rattle.records.specs.declared.Walk.{Walk}
 use Rattle.records.specs.declared.Walk.the-variants.{Upto, No}
 use Rattle.records.specs.Parts.{Part, Whole, Ends}
 use Rattle.records.proofs.Parts.{Application, whole-head, whole-body, whole-argument, kind-at, leaf-size, application, abstraction, argument-part, ends-app, ends-lam, ends-leaf}
-use Rattle.abstractions.specs.declared.Depth.{Depth}
-use Rattle.abstractions.specs.declared.Depth.the-variants.{At, Behind}
 use Rattle.abstractions.specs.Tests.{Shifted, Compared}
-use Rattle.abstractions.specs.Occurrences.{Depths, DepthOf, Looks, CopyAt, NoneBefore, Before, Earlier}
+use Rattle.abstractions.specs.Occurrences.{Looks, CopyAt, NoneBefore, Before, Earlier}
 use Rattle.abstractions.proofs.Tests.{heads-same, bodies-same, compared-yes, compared-no}
 
 -- the j-th part of a term is the term itself, or a part of its own parts
@@ -83,88 +81,6 @@ head-index d t f a i k e n h = ap₂ (partAt d) e n ∙ partAt-head d f a k h
 
 argument-index : (d : ℕ) (t f a : Term) (i k : ℕ) → t ≡ app f a → i ≡ suc (size f + k) → partAt d t i ≡ partAt d a k
 argument-index d t f a i k e n = ap₂ (partAt d) e n ∙ partAt-argument d f a k
-
-module _ (l : List ℕ) (at goal d : ℕ) where
-  pub depth-here : at ≡ goal → Depths l at goal d (At d)
-  unfolding Depths
-  depth-here h t i p e =
-      let z : i ≡ 0 = omega arith in
-      (omega (arith, p .some), sym (ap (λ (k : ℕ). partAt d t k .0) z ∙ ap (λ (q : ℕ × Term). q .0) (partAt-first d t)))
-
-  module _ (n : ¬ (at ≡ goal)) where
-    module _ (z : getD l at 0 ≡ 0) where
-      pub depth-head : (r : ℕ) (w : Depth) → w ≡ At r → Depths l (at + 4) goal d w → Depths l at goal d (At r)
-      unfolding Depths
-      depth-head r w g x t i p e =
-          let m : Depths l (at + 4) goal d (At r) = subst (Depths l (at + 4) goal d) g x in
-          let v = application l at t p z in
-          let s = m (v .f) (i - 1) (v .head) (omega arith) in (
-            omega (arith, ap size (v .is), s .0),
-            s .1 ∙ sym (ap (λ (q : ℕ × Term). q .0) (head-index d t (v .f) (v .a) i (i - 1) (v .is) (omega arith) (s .0))),
-          )
-
-      pub depth-ends : (h : ℕ) (w : Depth) → w ≡ Behind h → Depths l (at + 4) goal d w → Ends l (at + 4) h
-      unfolding Depths
-      depth-ends h w g x = let m : Depths l (at + 4) goal d (Behind h) = subst (Depths l (at + 4) goal d) g x in m .0
-
-      pub depth-argument : (h : ℕ) (w s : Depth) → w ≡ Behind h → Depths l (at + 4) goal d w → Depths l h goal d s → Depths l at goal d s
-      unfolding Depths
-      depth-argument h w s g x y = go s y
-        where
-          m : Depths l (at + 4) goal d (Behind h)
-          m = subst (Depths l (at + 4) goal d) g x
-
-          go : (s : Depth) → Depths l h goal d s → Depths l at goal d s
-          go (At r) y = λ t i p e.
-              let v = application l at t p z in
-              let u = m .1 (v .f) (i - 1) (v .head) (omega arith) in
-              let k = m .0 .exact (v .f) (v .head) in
-              let s = y (v .a) (i - 1 - size (v .f)) (argument-part l at h t (m .0) v) (omega arith) in (
-                omega (arith, ap size (v .is), s .0),
-                s .1 ∙ sym (ap (λ (q : ℕ × Term). q .0) (argument-index d t (v .f) (v .a) i (i - 1 - size (v .f)) (v .is) (omega arith))),
-              )
-          go (Behind j) y = (
-            ends-app l at h j z (m .0) (y .0),
-            λ t i p e.
-                let v = application l at t p z in
-                let u = m .1 (v .f) (i - 1) (v .head) (omega arith) in
-                let k = m .0 .exact (v .f) (v .head) in
-                let s = y .1 (v .a) (i - 1 - size (v .f)) (argument-part l at h t (m .0) v) (omega arith) in
-                omega (arith, ap size (v .is)),
-          )
-
-    pub depth-body : (s : Depth) → getD l at 0 ≡ 1 → Depths l (at + 4) goal (d + 1) s → Depths l at goal d s
-    unfolding Depths
-    depth-body (At r) z y = λ t i p e.
-        let v = abstraction l at t p z in
-        let s = y (v .b) (i - 1) (v .body) (omega arith) in
-        let k : d + 1 ≡ suc d = omega arith in
-        let j : i ≡ suc (i - 1) = omega arith in (
-          omega (arith, ap size (v .is), s .0),
-          s .1 ∙ ap (λ (c : ℕ). partAt c (v .b) (i - 1) .0) k ∙ sym (ap₂ (λ (u : Term) (c : ℕ). partAt d u c .0) (v .is) j),
-        )
-    depth-body (Behind h) z y = (
-      ends-lam l at h z (y .0),
-      λ t i p e.
-          let v = abstraction l at t p z in
-          let s = y .1 (v .b) (i - 1) (v .body) (omega arith) in
-          omega (arith, ap size (v .is)),
-    )
-
-    pub depth-leaf : Whole l at → ¬ (getD l at 0 ≡ 0) → ¬ (getD l at 0 ≡ 1) → Depths l at goal d (Behind (at + 4))
-    unfolding Depths
-    depth-leaf a x y = (ends-leaf l at x y a, λ t i p e. omega (arith, leaf-size l at t p x y))
-
--- what a walk to the j-th part gives
-pub depth-found : (l : List ℕ) (at j r : ℕ) (w : Depth) → w ≡ At r → Depths l at (at + 4 * j) 0 w → DepthOf l at j r
-unfolding Depths
-depth-found l at j r w g x t p h = let m : Depths l at (at + 4 * j) 0 (At r) = subst (Depths l at (at + 4 * j) 0) g x in m t j p refl .1
-
-pub depth-none : (l : List ℕ) (at j h : ℕ) (w : Depth) → w ≡ Behind h → Depths l at (at + 4 * j) 0 w → DepthOf l at j 0
-unfolding Depths
-depth-none l at j h w g x t p q =
-    let m : Depths l at (at + 4 * j) 0 (Behind h) = subst (Depths l at (at + 4 * j) 0) g x in
-    absurd (omega (arith, m .1 t j p refl))
 
 -- whether a part is a copy
 module _ (l : List ℕ) (at e d : ℕ) where

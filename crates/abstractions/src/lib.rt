@@ -23,7 +23,7 @@ ghost use Rattle.abstractions.specs.Lowering.{Inside, Lowers, Lowered};
 ghost use Rattle.abstractions.specs.Bodies.{Counting, Counts, Choosing, Chose, Body};
 ghost use Rattle.abstractions.specs.Locals.{Marks, Marked};
 ghost use Rattle.abstractions.specs.Substitution.{Substitutes, Substituted};
-ghost use Rattle.abstractions.specs.Occurrences.{Depths, DepthOf, Looks, CopyAt, Before, Earlier};
+ghost use Rattle.abstractions.specs.Occurrences.{DepthSource, WroteDepths, Looks, CopyAt, Before, Earlier};
 
 // Whether the part of s at byte `at` has a rigid head: its first record that is no application is a local or a constant.
 pub fn is_rigid(s: &[u8], at: usize) -> bool
@@ -83,6 +83,18 @@ pub fn is_shifted(s: &[u8], at: usize, e: usize, c: usize, d: usize) -> Walk
         return Walk::Upto(at + RECORD);
     }
     Walk::No
+}
+
+// Where the part of s at byte `at` ends, if it is a copy of the part at byte e: that part, shifted by the d binders above it. Nearly always
+// their first records are of different kinds, which is told here, without a call of the recursive walk.
+fn copy_end(s: &[u8], at: usize, e: usize, d: usize) -> Walk
+    requires { ⌜ Compares (now s) at e 0 d ⌝ }
+    ensures { λ r. ⌜ Compared (now (s .entry)) at e (Shifted d 0) r ⌝ }
+{
+    if s[at] != s[e] {
+        return Walk::No;
+    }
+    is_shifted(s, at, e, 0, d)
 }
 
 // Whether local n belongs to one of d binders, the first of which local c belongs to.
@@ -249,7 +261,7 @@ pub fn copies(s: &[u8], at: usize, d: usize, e: usize) -> Counted
     requires { ⌜ Counting (now s) at d e ⌝ }
     ensures { λ r. ⌜ Counts (now (s .entry)) at d e (r .end) (r .count) ⌝ }
 {
-    let walk = is_shifted(s, at, e, 0, d);
+    let walk = copy_end(s, at, e, d);
     if let Walk::Upto(end) = walk {
         return Counted { end, count: 1 };
     }
@@ -316,7 +328,7 @@ pub fn body_into(
     requires { ⌜ Choosing (now s) at d e (length (now chosen)) k (length (now out)) o ⌝ }
     ensures { λ r. ⌜ Body (now (s .entry)) at d e (now (chosen .entry)) k (now (out .entry)) o (now (out .exit)) (r .next) (r .end) (r .k) ⌝ }
 {
-    let copy = is_shifted(s, at, e, 0, d);
+    let copy = copy_end(s, at, e, d);
     if let Walk::Upto(next) = copy {
         let end = choice_into(s, at, d, chosen, k, out, o);
         return Built {
@@ -335,7 +347,7 @@ pub fn body_into(
         records::put_record(out, o, Kind::ABSTRACTION, 0);
         return body_into(s, at + RECORD, d + 1, e, chosen, k, out, o + RECORD);
     }
-    let leaf = sweeping::shift_into(s, at, 1, d, out, o);
+    let leaf = sweeping::shift_leaf_into(s, at, 1, d, out, o);
     Built {
         next: leaf.next,
         end: leaf.end,
@@ -343,45 +355,22 @@ pub fn body_into(
     }
 }
 
-// Where a walk to a record ends: at it, below so many binders, or at the end of a part that stands before it.
-enum Depth {
-    At(usize),
-    Behind(usize),
-}
-
-// Walks over the part of s at byte `at`, above which d binders stand, to the record at byte `goal`.
-fn depth_from(s: &[u8], at: usize, goal: usize, d: usize) -> Depth
-    requires { ⌜ Whole (now s) at × (d + length (now s) ≤ at + tableBytes) ⌝ }
-    ensures { λ r. ⌜ Depths (now (s .entry)) at goal d r ⌝ }
+// Writes how many binders stand above each record of the part of s at byte `at`, above which d binders stand, into out from index o on, one
+// byte a record. Gives where the part ends.
+pub fn depths_into(s: &[u8], at: usize, d: usize, out: &mut [u8], o: usize) -> usize
+    requires { ⌜ DepthSource (now s) at d (length (now out)) o ⌝ }
+    ensures { λ r. ⌜ WroteDepths (now (s .entry)) at d (now (out .entry)) o (now (out .exit)) r ⌝ }
 {
-    if at == goal {
-        return Depth::At(d);
-    }
+    out[o] = d as u8;
     let k = s[at];
     if k == Kind::APPLICATION.code {
-        let head = depth_from(s, at + RECORD, goal, d);
-        match head {
-            Depth::At(r) => return Depth::At(r),
-            Depth::Behind(h) => return depth_from(s, h, goal, d),
-        }
+        let h = depths_into(s, at + RECORD, d, out, o + 1);
+        return depths_into(s, h, d, out, o + (h - at) / RECORD);
     }
     if k == Kind::ABSTRACTION.code {
-        return depth_from(s, at + RECORD, goal, d + 1);
+        return depths_into(s, at + RECORD, d + 1, out, o + 1);
     }
-    Depth::Behind(at + RECORD)
-}
-
-// How many binders of the part of s at byte `at` stand above its j-th record.
-pub fn depth_at(s: &[u8], at: usize, j: usize) -> usize
-    requires { ⌜ Whole (now s) at × (length (now s) ≤ tableBytes) × (j ≤ numbers) ⌝ }
-    ensures { λ r. ⌜ DepthOf (now (s .entry)) at j r ⌝ }
-{
-    let depth = depth_from(s, at, at + RECORD * j, 0);
-    match depth {
-        Depth::At(r) => r,
-        // the part has no such record
-        Depth::Behind(_) => 0,
-    }
+    at + RECORD
 }
 
 // Whether the part of s at byte `at` is the part at byte e, moved in below d binders.
@@ -389,7 +378,7 @@ fn is_copy(s: &[u8], at: usize, e: usize, d: usize) -> bool
     requires { ⌜ Looks (now s) at e d ⌝ }
     ensures { λ r. ⌜ CopyAt (now (s .entry)) at e d r ⌝ }
 {
-    let walk = is_shifted(s, at, e, 0, d);
+    let walk = copy_end(s, at, e, d);
     match walk {
         Walk::Upto(_) => true,
         Walk::No => false,

@@ -3,21 +3,24 @@
 --   Site P W s r f b t   the item r, first of those put off, is the goal that the application of f and b sweeps to t
 --   Numbers P W s r      what reading that goal and writing at the top needs
 use mathlib.Core.Path.{_≡_, refl, sym, ap, _∙_, subst}
+use mathlib.Core.Bool.{Bool, true}
 use mathlib.Core.List.{List, [], _∷_}
 use Prim.Native.Nat.{ℕ, _+_, _-_, _*_, _/_, _%_, _<_, _≤_}
 use native.Mathlib.Omega.{arith}
-use lib.ListN.{length, getD, take, drop, length-take}
+use lib.ListN.{length, getD, take, drop, replicate, length-take}
 use lib.Seq.{sets}
 use Rattle.terms.specs.Figures.{variables, patternRecords, valueRecords, tableBytes}
 use Rattle.terms.specs.Term.{Term, app, lam, loc, con, var, size, shift}
 use Rattle.terms.specs.Table.{bytes, encode}
 use Rattle.terms.specs.Listing.{Line}
 use Rattle.terms.specs.Refusal.{OccursIn}
+use Rattle.terms.proofs.Locals.{rigid}
 use Rattle.terms.proofs.Table.{kind, encode-length}
 use Rattle.terms.proofs.Shift.{size-shift}
 use Rattle.matching.proofs.Lines.{Values}
 use Rattle.matching.proofs.Goals.{Goal, Goal.match, Goal.build, Listable}
 use Rattle.matching.proofs.Alternatives.{alternative-parts, alternative-no-parts, listable-parts, listable-constant}
+use Rattle.matching.proofs.Prune.{no-local, constant-local}
 use Rattle.matching.proofs.Step.{constant, constant-normal}
 use Rattle.matching.proofs.Targets.{closed-more, closed-shift, constant-closed, constant-ground}
 use Rattle.records.specs.Parts.{Part, Whole, Ends}
@@ -30,12 +33,16 @@ use Rattle.assignments.specs.declared.Entry.{Entry}
 use Rattle.agenda.specs.declared.Agenda.{Agenda}
 use Rattle.agenda.specs.declared.Branch.{Branch}
 use Rattle.agenda.specs.declared.Item.{Item}
+use Rattle.agenda.specs.declared.Ways.{Ways}
 use Rattle.agenda.specs.Items.{itemBytes, ItemAt, Fits}
 use Rattle.agenda.specs.State.{Target, State, Bounds, Easy, Hard, Chain, relinking}
 use Rattle.agenda.specs.Moves.{Question, Move, Moved, Failed, Branched}
-use Rattle.agenda.specs.Branches.{Way, Ways}
+use Rattle.abstractions.proofs.Depths.{depth-source, depth-written}
+use Rattle.abstractions.specs.Occurrences.{DepthSource, WroteDepths}
+use Rattle.agenda.specs.Branches.{Way, HasWays, HasDepths, Lacking}
 use Rattle.agenda.specs.Builds.{Pushes, Pushed, targetItem, afterItem}
 use Rattle.agenda.specs.Applications.{Matches, Counted, matchItem, buildItem}
+use Rattle.agenda.specs.Locals.{Locals, Lacks}
 use Rattle.agenda.proofs.Frame.{Kept, part-kept, part-stored, target-kept, chain-kept, holds-kept, kept-sets, kept-then, length-stored, item-stored, chain-match}
 
 -- the head and the argument of an application that stands in a table
@@ -116,13 +123,50 @@ module _ (P W : List ℕ) (s : Agenda) (a : List Entry) where
             room = omega (arith, z .room, u .0 .some, u .1 .some);
           })
 
-      pub counted : (h : ℕ) → Ends W (r .target) h → Counted P W s a ((h - r .target) / 4 + 2)
-      counted h e = record {
-        few = from ((h - r .target) / 4 + 2 ≤ valueRecords + 2) (λ gs hs l f b t z.
-            let v = site r gs hs l f b t y z .target in
-            omega (arith, e .exact t (v .part), v .short));
-        ways = λ gs hs l z. opened gs l (Ways ((h - r .target) / 4 + 2)) (λ f b t us o. omega (arith, e .exact t (site r gs us l f b t y o .target .part))) hs z;
+      -- what is known before the ways are gone through
+      pub argument-whole : (h : ℕ) → Ends P (r .part + 4) h → Whole P h
+      argument-whole h e = from (Whole P h) (λ gs hs l f b t z. whole P h b (argument-from P (r .part) h f b e (site r gs hs l f b t y z .part)))
+
+      pub locals : Locals P (r .part + 4) W (r .target)
+      locals = from (Locals P (r .part + 4) W (r .target)) (λ gs hs l f b t z.
+          let v = site r gs hs l f b t y z .target in
+          record {
+            part = numbers .head;
+            short = x .ready .bounds .short;
+            target = record {
+              tree = t;
+              part = v .part;
+              closed = closed-more (patternRecords - size (app f b)) (0 + patternRecords) t (omega arith) (v .closed);
+              shallow = omega (arith, v .short);
+              least = omega (arith, v .part .some, v .part .within);
+            };
+          })
+
+      pub counted :
+          (h g : ℕ) (c d : Bool) (m : List ℕ) (o : ℕ) → Ends W (r .target) h → Ends P (r .part + 4) g → ((t : Term) → Part P g t → c ≡ rigid t) → Lacks P (r .part + 4) W (r .target) d
+          → WroteDepths W (r .target) 0 (replicate valueRecords 0) 0 m o
+          → Counted P W s a (record { count = (h - r .target) / 4 + 2; argument = g; rigid = c; lacking = d; depths = m })
+      unfolding Lacks
+      counted h g c d m o e j k n u = record {
+        ways = λ gs hs l z. opened gs l (HasWays ((h - r .target) / 4 + 2)) (λ f b t us o. omega (arith, e .exact t (site r gs us l f b t y o .target .part))) hs z;
+        argument = subst (λ (i : ℕ). Ends P (i + 4) g) (y .part) j;
+        rigid-argument = k;
+        depths-are = λ gs hs l z. opened gs l (HasDepths m) (λ f b t us v i q. depth-written W (r .target) _ m o u i t (site r gs us l f b t y v .target .part) q) hs z;
+        lacking-head = λ i gs hs l z.
+            let q : Lacks P (r .part + 4) W (r .target) true = subst (Lacks P (r .part + 4) W (r .target)) i n in
+            opened gs l Lacking (λ f b t us o.
+            let v = site r gs us l f b t y o in
+            let q′ = q .1 f t (application-parts P (r .part) f b (v .part) .0) (v .target .part) in
+            (q .0, q′ .0, q′ .1)) hs z;
       }
+
+      pub depths-room : DepthSource W (r .target) 0 valueRecords 0
+      depths-room = from (DepthSource W (r .target) 0 valueRecords 0) (λ gs hs l f b t z.
+          let v = site r gs hs l f b t y z .target in
+          depth-source W (r .target) 0 valueRecords 0 t (v .part) (omega (arith, v .short)) (omega (arith, v .short)))
+
+      pub argument-ends : (w : Ways) → Counted P W s a w → Ends P (r .part + 4) (w .argument)
+      argument-ends w c = subst (λ (i : ℕ). Ends P (i + 4) (w .argument)) (sym (y .part)) (c .argument)
 
       -- no way
       pub dead :
@@ -276,6 +320,14 @@ pub parts-pushed :
 parts-pushed P W s a r h e Y X i j x y eh ee p q first second =
     parts P W s a r h e Y X (x .ready .bounds) eh ee y (numbers P W s a x r y) (stored-as W Y (s .top) i (matchItem h e (s .easy)) p first)
     (stored-as Y X (s .top + 8) j (matchItem (r .part + 4) (r .target + 4) (s .top)) q second) x
+
+-- a head that lacks a local of the target is no abstraction over it
+pub constant-lacking : (P W : List ℕ) (s : Agenda) (a : List Entry) (w : Ways) → Matches P W s a → Counted P W s a w → w .lacking ≡ true → Branched P W s a (Way 1) W Branch.Failed
+constant-lacking P W s a w x c e = died P W s a (Way 1) W (record {
+  none = λ gs hs l z φ v. opened P W s a x gs l (λ us. Lacking us → ¬ Way 1 gs us l φ) (λ f b t us o k p.
+      no-local φ v f (constant t) (k .0) (k .1) (constant-local (k .0) t ∙ k .2) (p .1 .0)) hs z (c .lacking-head e gs hs l z);
+  kept = refl;
+})
 
 -- the abstraction over the target, moved in below its binder
 module _ (P W : List ℕ) (s : Agenda) (a : List Entry) (x : Matches P W s a) (r : Item) (y : ItemAt W (s .hard) r) where

@@ -8,20 +8,20 @@ use mathlib.Core.List.{List, _∷_}
 use Prim.Native.Nat.{ℕ, suc, _+_, _-_, _*_, _%_, _<_, _≤_}
 use native.Mathlib.Omega.{arith}
 use lib.Dec.{T}
-use lib.ListN.{length, take, drop, length-take}
+use lib.ListN.{length, getD, take, drop, length-take}
 use lib.Seq.{sets}
 use Rattle.terms.specs.Figures.{variables, patternRecords, valueRecords, tableBytes}
 use Rattle.terms.specs.Term.{Term, app, size, shift, unshift, uses}
 use Rattle.terms.specs.Table.{encode}
 use Rattle.terms.specs.Listing.{Line}
 use Rattle.terms.specs.Refusal.{OccursIn}
-use Rattle.terms.proofs.Table.{encode-length}
+use Rattle.terms.proofs.Table.{encode-inj, encode-length}
 use Rattle.matching.proofs.Goals.{Goal, Goal.match, Goal.build}
 use Rattle.matching.proofs.Occurrences.{partAt, First, each-part, first-lowered, first-movable, first-not-again, first-from}
 use Rattle.matching.proofs.Prune.{build-local}
 use Rattle.matching.proofs.Alternatives.{alternative-argument, listable-argument}
 use Rattle.matching.proofs.Targets.{closed-more, part-closed, part-normal, part-ground, part-size}
-use Rattle.records.specs.Parts.{Part, Ends}
+use Rattle.records.specs.Parts.{Part, Whole, Ends}
 use Rattle.records.specs.Tests.{Walked}
 use Rattle.records.specs.declared.Walk.{Walk}
 use Rattle.records.specs.declared.Walk.the-variants.{Upto, No}
@@ -35,13 +35,14 @@ use Rattle.abstractions.proofs.Occurrences.{part-at}
 use Rattle.agenda.specs.declared.Agenda.{Agenda}
 use Rattle.agenda.specs.declared.Branch.{Branch}
 use Rattle.agenda.specs.declared.Item.{Item}
+use Rattle.agenda.specs.declared.Ways.{Ways}
 use Rattle.agenda.specs.Items.{itemBytes, ItemAt}
 use Rattle.agenda.specs.State.{Target, State, Easy, Hard, Chain, relinking}
 use Rattle.agenda.specs.Moves.{Move, Moved, Failed, Branched}
 use Rattle.agenda.specs.Branches.{Way}
-use Rattle.agenda.specs.Applications.{Matches, matchItem, buildItem, argumentOf, Places, Argument, Placed, Comparable, Misses}
+use Rattle.agenda.specs.Applications.{Matches, Counted, Agree, matchItem, buildItem, argumentOf, Places, Argument, Placed, Comparable, Misses}
 use Rattle.agenda.proofs.Frame.{Kept, part-kept, part-stored, target-kept, chain-kept, holds-kept, kept-sets, kept-then, length-stored, item-stored, chain-match, chain-build}
-use Rattle.agenda.proofs.Applications.{application-parts, argument-from, stored-as, live, died, Site, MatchState, site, opened, from, numbers, dead}
+use Rattle.agenda.proofs.Applications.{application-parts, argument-from, stored-as, live, died, Site, MatchState, site, opened, from, numbers, argument-ends, dead}
 
 -- how large and how deep a part is
 part-most : (t : Term) (j : ℕ) → j < size t → partAt 0 t j .0 + size (partAt 0 t j .1) ≤ size t
@@ -49,13 +50,11 @@ part-most t j h = each-part (λ d x. d + size x ≤ size t) (λ d f a p. (omega 
 
 -- the part moved out of the binders above it
 module _ (W : List ℕ) (top at j : ℕ) where
-  pub beyond : (h : ℕ) → Ends W at h → h ≤ at + 4 * j → Placed W top at j W No
-  unfolding Placed
-  beyond h e l = (refl, λ t u p f. omega (arith, e .exact t p, f .within))
-
-  module _ (x : Places W top at j) (h : ℕ) (e : Ends W at h) (l : at + 4 * j < h) (d : ℕ) (k : DepthOf W at j d) where
+  module _ (x : Places W top at j) (d : ℕ) (k : DepthOf W at j d) where
     number-within : (t : Term) → Part W at t → j < size t
-    number-within t p = omega (arith, e .exact t p)
+    number-within t p =
+        let e : t ≡ x .tree = encode-inj t (x .tree) (p .rest) (x .part .rest) (sym (p .bytes) ∙ x .part .bytes) .0 in
+        subst (λ (u : Term). j < size u) (sym e) (x .within)
 
     pub lowers : (room : ℕ) → room ≡ 640 → Lowers W (at + 4 * j) 0 d room 0
     lowers room r =
@@ -130,17 +129,44 @@ placed-at W top at j X w r p c = subst (Placed W top at j X) c p
 
 -- the way that tries the j-th part
 module _ (P W : List ℕ) (s : Agenda) (a : List Entry) (x : Matches P W s a) (r : Item) (y : ItemAt W (s .hard) r) (j : ℕ) where
-  pub places : j < valueRecords → Places W (s .top) (r .target) j
-  places h = from P W s a x (Places W (s .top) (r .target) j) (λ gs hs l f b t z.
-      let v = site P W s a r gs hs l f b t y z .target in
-      record {
-        tree = t;
-        part = v .part;
-        few = omega (arith, v .short);
-        room = omega (arith, numbers P W s a x r y .room, x .ready .bounds .whole);
-        most = omega (arith, x .ready .bounds .whole);
-        number = h;
-      })
+  module _ (w : Ways) (c : Counted P W s a w) (h : j + 2 < w .count) where
+    numbered : (gs hs : List Goal) (l : Line) (f b t : Term) → MatchState P W s a gs l f b t hs → j < size t
+    numbered gs hs l f b t z = omega (arith, c .ways gs (match (app f b) t ∷ hs) l z)
+
+    pub places : Places W (s .top) (r .target) j
+    places = from P W s a x (Places W (s .top) (r .target) j) (λ gs hs l f b t z.
+        let v = site P W s a r gs hs l f b t y z .target in
+        record {
+          tree = t;
+          part = v .part;
+          few = omega (arith, v .short);
+          within = numbered gs hs l f b t z;
+          room = omega (arith, numbers P W s a x r y .room, x .ready .bounds .whole);
+          most = omega (arith, x .ready .bounds .whole);
+        })
+
+    pub depth : DepthOf W (r .target) j (getD (w .depths) j 0)
+    depth t p k = from P W s a x (getD (w .depths) j 0 ≡ partAt 0 t j .0) (λ gs hs l f b u z.
+        let q = site P W s a r gs hs l f b u y z .target .part in
+        let e : u ≡ t = encode-inj u t (q .rest) (p .rest) (sym (q .bytes) ∙ p .bytes) .0 in
+        subst (λ (v : Term). getD (w .depths) j 0 ≡ partAt 0 v j .0) e (c .depths-are gs (match (app f b) u ∷ hs) l z j (numbered gs hs l f b u z)))
+
+    pub few-records : j < valueRecords
+    few-records = omega (arith, places .within, places .few)
+
+    pub part-whole : Whole W (r .target + 4 * j)
+    part-whole = from P W s a x (Whole W (r .target + 4 * j)) (λ gs hs l f b t z.
+        whole W (r .target + 4 * j) (partAt 0 t j .1) (part-at W (r .target) 0 t j (site P W s a r gs hs l f b t y z .target .part) (numbered gs hs l f b t z)))
+
+    -- the argument has a rigid head, and the part has another one
+    pub unlike : (e : Bool) → Agree P (w .argument) W (r .target + 4 * j) e → e ≡ false → w .rigid ≡ true → Branched P W s a (Way (suc (suc j))) W Branch.Failed
+    unfolding Agree
+    unlike e q n k =
+        let m : Agree P (w .argument) W (r .target + 4 * j) false = subst (Agree P (w .argument) W (r .target + 4 * j)) n q in
+        died P W s a (Way (suc (suc j))) W (dead P W s a x r y (suc (suc j)) W refl (λ f b t gs hs l φ v u o.
+        let i = argument-from P (r .part) (w .argument) f b (argument-ends P W s a x r y w c) (v .part) in
+        let d = o .1 .0 .1 in
+        m b (partAt 0 t j .1) i (part-at W (r .target) 0 t j (v .target .part) (d .within)) (sym (c .rigid-argument b i) ∙ k) φ (partAt 0 t j .0) (o .1 .0 .0) (d .copy) (o .1 .0 .2)))
 
   pub no-argument : (X : List ℕ) (w : Walk) → Placed W (s .top) (r .target) j X w → w ≡ No → Branched P W s a (Way (suc (suc j))) X Branch.Failed
   no-argument X w p c =

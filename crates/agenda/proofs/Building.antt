@@ -2,16 +2,19 @@
 -- head sweeps to leaves nothing. The state after a step stands where it says since what is below the top is kept. Assumes nothing.
 --   Site P W s r f t e     the item r, first of those put off, is the goal to build f's body from t and e
 --   Bodied P W s r m b     b is the table of the body that the choices m give
+--   Used P W s r m u       u says whether that body uses its local
 --   Numbers .. f t e       how long that table is
 --   Facts .. gs hs f t e   what writing the abstraction over it needs to know
 use mathlib.Core.Path.{_≡_, refl, sym, ap, _∙_, subst}
 use mathlib.Core.Bool.{Bool, true, false}
+use mathlib.Core.Logic.{_↔_}
 use mathlib.Core.List.{List, [], _∷_}
 use Prim.Native.Nat.{ℕ, suc, _+_, _-_, _*_, _%_, _<_, _≤_}
 use native.Mathlib.Omega.{arith}
 use lib.Dec.{T}
-use lib.ListN.{length, take, drop}
+use lib.ListN.{length, getD, take, drop}
 use lib.Seq.{sets}
+use borrow.Author.Tests.{lt-ltb, ltb-true}
 use Rattle.terms.specs.Figures.{variables, tableBytes}
 use Rattle.terms.specs.Term.{Term, lam, size, uses, isEta, shift}
 use Rattle.terms.specs.Table.{bytes, encode}
@@ -22,11 +25,11 @@ use Rattle.terms.proofs.Shift.{size-shift}
 use Rattle.matching.proofs.Lines.{Values}
 use Rattle.matching.proofs.Lister.{Sweeps}
 use Rattle.matching.proofs.Goals.{Goal, Goal.match, Goal.build, Listable}
-use Rattle.matching.proofs.Bodies.{body, body-size, body-closed, body-ground, body-normal, body-eta}
+use Rattle.matching.proofs.Bodies.{copies, copies-size, body, body-uses, body-size, body-closed, body-ground, body-normal, body-eta, Some}
 use Rattle.matching.proofs.Targets.{closed-more, closed-shift}
 use Rattle.matching.proofs.Choices.{listable-chosen}
 use Rattle.records.specs.Parts.{Part, Tree}
-use Rattle.records.specs.Tests.{Equals}
+use Rattle.records.specs.Tests.{Says, Equals}
 use Rattle.records.proofs.Parts.{tree, whole}
 use Rattle.sweeping.proofs.Contraction.{closed-fits}
 use Rattle.sweeping.proofs.Stores as Stores
@@ -39,7 +42,7 @@ use Rattle.agenda.specs.Items.{itemBytes, ItemAt, Fits}
 use Rattle.agenda.specs.State.{Target, State, Bounds, Ready, Easy, Hard, Chain, weights, relinking}
 use Rattle.agenda.specs.Moves.{Move, Moved, Failed, Branched, progress}
 use Rattle.agenda.specs.Branches.{Chosen}
-use Rattle.agenda.specs.Builds.{Builds, Pushes, Pushed, targetItem, afterItem}
+use Rattle.agenda.specs.Builds.{Builds, AnyChosen, Pushes, Pushed, targetItem, afterItem}
 use Rattle.agenda.proofs.Frame.{Kept, part-kept, chain-kept, holds-kept, kept-sets, kept-then, length-stored, part-stored, item-stored, chain-match}
 
 pub record Site (P W : List ℕ) (s : Agenda) (r : Item) (f t e : Term) : Type 0 where
@@ -53,6 +56,22 @@ pub record Site (P W : List ℕ) (s : Agenda) (r : Item) (f t e : Term) : Type 0
 
 pub record Bodied (P W : List ℕ) (s : Agenda) (r : Item) (m b : List ℕ) : Type 0 where
   pub is : (f t e : Term) → Site P W s r f t e → b ≡ encode (body e 0 t (chosenIn m) 0)
+
+pub record Used (P W : List ℕ) (s : Agenda) (r : Item) (m : List ℕ) (u : Bool) : Type 0 where
+  pub is : (f t e : Term) → Site P W s r f t e → u ≡ uses 0 (body e 0 t (chosenIn m) 0)
+
+-- a choice that is made, and none
+pub choice-made : (m : List ℕ) (n i : ℕ) → i < n → ¬ (getD m i 0 ≡ 0) → AnyChosen m n true
+choice-made m n i h z = record { is = (i, omega arith, omega arith, lt-ltb 0 (getD m i 0) (omega arith)) }
+
+pub none-made : (m : List ℕ) (n : ℕ) → ((i : ℕ) → i < n → getD m i 0 ≡ 0) → AnyChosen m n false
+none-made m n h = record { is = λ x. omega (arith, ltb-true 0 (getD m (x .0) 0) (x .3), h (x .0) (omega (arith, x .2))) }
+
+-- two answers to one question
+answers-same : (A : Type 0) (u v : Bool) → Says u A → (v ≡ true) ↔ A → u ≡ v
+answers-same A true v x h = sym (h .1 x)
+answers-same A false true x h = absurd (x (h .0 refl))
+answers-same A false false x h = refl
 
 -- the goal that is read
 module _ (P W : List ℕ) (s : Agenda) (a : List Entry) where
@@ -125,6 +144,35 @@ module _ (P W : List ℕ) (s : Agenda) (a : List Entry) where
               Stores.stored b c (encode (body e 0 t (chosenIn m) 0)) n q (omega (arith, p .0, encode-length (body e 0 t (chosenIn m) 0))) (omega (arith, p .1));
         }
 
+        number : (f t e : Term) → Site P W s r f t e → k ≡ copies e 0 t
+        number f t e v = omega (arith, w .number t e (v .target .part) (v .argument .part))
+
+        pub choices-within : k ≤ 160
+        choices-within = from (k ≤ 160) (λ gs hs l f t e z.
+            let v = site r gs hs l f t e y z in
+            omega (arith, number f t e v, copies-size e 0 t, v .target .short))
+
+        -- the local is used where a choice is made
+        pub used-chosen : (u : Bool) → AnyChosen m k u → Used P W s r m u
+        used-chosen u h = record {
+          is = λ f t e v.
+              answers-same (Some (chosenIn m) 0 (copies e 0 t)) u (uses 0 (body e 0 t (chosenIn m) 0)) (subst (λ (j : ℕ). Says u (Some (chosenIn m) 0 j)) (number f t e v) (h .is))
+              (body-uses e 0 t (chosenIn m) 0);
+        }
+
+      -- a body that no head sweeps to, or that doesn't use its local, leaves nothing
+      module _ (m : List ℕ) where
+        none : (W′ : List ℕ) → W′ ≡ W → ((f t e : Term) (φ : ℕ → Term) → Site P W s r f t e → Values φ → ¬ (Sweeps f (lam (body e 0 t (chosenIn m) 0)) φ × (uses 0 (body e 0 t (chosenIn m) 0) ≡ true))) → Failed relinking P W s a (Chosen m) W′
+        none W′ q h = record {
+          none = λ gs hs l z φ v.
+              opened gs l (λ us. ¬ Chosen m gs us l φ) (λ f t e us o p. h f t e φ (site r gs us l f t e y o) v (p .1 .0)) hs z;
+          kept = ap (take (s .top)) q;
+        }
+
+        pub unused : (W′ : List ℕ) → W′ ≡ W → (u : Bool) → Used P W s r m u → u ≡ false → Branched P W s a (Chosen m) W′ Branch.Failed
+        unfolding Branched
+        unused W′ q u h n = none W′ q (λ f t e φ v o p. subst T (sym (p .1) ∙ sym (h .is f t e v) ∙ n) tt)
+
       module _ (m b : List ℕ) (w : Bodied P W s r m b) where
         pub record Numbers (f t e : Term) : Type 0 where
           pub length-is : length b ≡ 4 * size (body e 0 t (chosenIn m) 0)
@@ -153,20 +201,9 @@ module _ (P W : List ℕ) (s : Agenda) (a : List Entry) where
               part = o .part;
             })
 
-        none : (W′ : List ℕ) → W′ ≡ W → ((f t e : Term) (φ : ℕ → Term) → Site P W s r f t e → Values φ → ¬ (Sweeps f (lam (body e 0 t (chosenIn m) 0)) φ × (uses 0 (body e 0 t (chosenIn m) 0) ≡ true))) → Failed relinking P W s a (Chosen m) W′
-        none W′ q h = record {
-          none = λ gs hs l z φ v.
-              opened gs l (λ us. ¬ Chosen m gs us l φ) (λ f t e us o p. h f t e φ (site r gs us l f t e y o) v (p .1 .0)) hs z;
-          kept = ap (take (s .top)) q;
-        }
-
-        pub unused : (W′ : List ℕ) → W′ ≡ W → (u : Bool) → Equals b (uses 0) u → u ≡ false → Branched P W s a (Chosen m) W′ Branch.Failed
-        unfolding Branched
-        unused W′ q u h n = none W′ q (λ f t e φ v o p. subst T (sym (p .1) ∙ sym (h (body e 0 t (chosenIn m) 0) (w .is f t e v)) ∙ n) tt)
-
         pub eta : (W′ : List ℕ) → W′ ≡ W → (u : Bool) → Equals b isEta u → u ≡ true → Branched P W s a (Chosen m) W′ Branch.Failed
         unfolding Branched
-        eta W′ q u h n = none W′ q (λ f t e φ v o p.
+        eta W′ q u h n = none m W′ q (λ f t e φ v o p.
             body-eta φ f e t (chosenIn m) (v .target .normal) (sym (h (body e 0 t (chosenIn m) 0) (w .is f t e v)) ∙ n) (p .0))
 
 -- the abstraction over the body is the target of the head
@@ -242,7 +279,7 @@ module _ (P W : List ℕ) (s : Agenda) (r : Item) (f t e : Term) (m b X : List �
     }
 
 module _ (P W : List ℕ) (s : Agenda) (a : List Entry) (ready : Ready relinking P W s a) (x : Builds W s) (r : Item) (y : ItemAt W (s .hard) r) (m b : List ℕ) (w : Bodied P W s r m b) (X : List ℕ)
-    (i j : Bool) (used : Equals b (uses 0) i) (no-eta : Equals b isEta j) (is-used : i ≡ true) (is-none : j ≡ false)
+    (i j : Bool) (used : Used P W s r m i) (no-eta : Equals b isEta j) (is-used : i ≡ true) (is-none : j ≡ false)
     (q : X ≡ sets (sets W (s .top) (bytes 1 0 b)) (s .top + 4 + length b) (itemBytes (targetItem r (s .top) (s .easy))))
   where
     abbrev last : Agenda
@@ -265,7 +302,7 @@ module _ (P W : List ℕ) (s : Agenda) (a : List Entry) (ready : Ready relinking
         record {
           site = v;
           is = p;
-          uses-local = sym (used (body e 0 t (chosenIn m) 0) p) ∙ is-used;
+          uses-local = sym (used .is f t e v) ∙ is-used;
           normal = sym (no-eta (body e 0 t (chosenIn m) 0) p) ∙ is-none;
           room = omega (arith, z .room, n .short);
           within = omega (arith, z .room, n .short);
@@ -302,7 +339,7 @@ module _ (P W : List ℕ) (s : Agenda) (a : List Entry) (ready : Ready relinking
 
 pub pushed :
     (P W : List ℕ) (s : Agenda) (a : List Entry) (r : Item) (m b X : List ℕ) (s′ : Agenda) (i j : Bool) → Ready relinking P W s a → Builds W s → ItemAt W (s .hard) r → Bodied P W s r m b
-    → Equals b (uses 0) i → Equals b isEta j → i ≡ true → j ≡ false → Pushed W s r b X s′ → Branched P W s a (Chosen m) X (Branch.Next s′)
+    → Used P W s r m i → Equals b isEta j → i ≡ true → j ≡ false → Pushed W s r b X s′ → Branched P W s a (Chosen m) X (Branch.Next s′)
 unfolding Branched
 pushed P W s a r m b X s′ i j ready x y w used no-eta is-used is-none p =
     subst (λ (u : Agenda). Move relinking P W s a (Chosen m) X u a) (sym (p .agenda)) (move P W s a ready x r y m b w X i j used no-eta is-used is-none (p .stored))

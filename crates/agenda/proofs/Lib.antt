@@ -5,6 +5,7 @@ pub mod Lacking
 pub mod Descents
 pub mod Applications
 pub mod Missing
+pub mod Agreement
 pub mod Arguments
 pub mod Heads
 pub mod Building

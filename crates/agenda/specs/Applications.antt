@@ -1,10 +1,11 @@
 -- What the ways of an application that was put off need.
 --   Matches P W s a              the first goal put off is an application that has to sweep to a target
---   Counted P W s a r            it has r ways to come to its target
+--   Counted P W s a w            what w says of its ways holds
+--   Agree P i W j b              unless b, the term of P at byte i, if it has a rigid head, never sweeps to the one of W at byte j, moved out of binders
 --   matchItem part target next   the goal that the part sweeps to the target
 --   buildItem part target next argument   the goal that the part builds the target from the argument's target
 --   argumentOf t j               the j-th part of t, moved out of the binders above it
---   Places W top at j            the term of W at byte `at` is a target, and there is room for another one from byte `top` on
+--   Places W top at j            the term of W at byte `at` is a target with a j-th part, and there is room for another one from byte `top` on
 --   Argument W top t j X r       the j-th part of t uses none of the binders above it, and stands moved out of them in X from byte `top` on
 --   Placed W top at j X r        the same of the term of W at byte `at`; or its j-th part is no argument
 --   Missing P i k m n b          if b, local k is marked by m and not by n, and the term of P at byte i doesn't use it
@@ -20,26 +21,36 @@ use Rattle.terms.specs.Figures.{patternRecords, valueRecords, tableBytes}
 use Rattle.terms.specs.Term.{Term, size, unshift, uses}
 use Rattle.terms.specs.Table.{encode}
 use Rattle.terms.specs.Listing.{Line}
+use Rattle.terms.proofs.Locals.{rigid}
 use Rattle.matching.proofs.Goals.{Goal}
+use Rattle.matching.proofs.Prune.{Unlike}
 use Rattle.matching.proofs.Occurrences.{partAt, Copy, First}
-use Rattle.records.specs.Parts.{Part, Whole}
+use Rattle.records.specs.Parts.{Part, Whole, Ends}
 use Rattle.records.specs.declared.Walk.{Walk}
 use Rattle.records.specs.declared.Walk.the-variants.{Upto, No}
 use Rattle.abstractions.specs.Locals.{Marks}
 use Rattle.assignments.specs.declared.Entry.{Entry}
 use Rattle.agenda.specs.declared.Agenda.{Agenda}
 use Rattle.agenda.specs.declared.Item.{Item}
-use Rattle.agenda.specs.State.{State, Ready, relinking}
-use Rattle.agenda.specs.Branches.{Ways}
+use Rattle.agenda.specs.declared.Ways.{Ways}
+use Rattle.agenda.specs.State.{State, Ready, patternAt, relinking}
+use Rattle.agenda.specs.Branches.{HasWays, HasDepths, Lacking}
 
 pub record Matches (P W : List ℕ) (s : Agenda) (a : List Entry) : Type 0 where
   pub ready : Ready relinking P W s a
   pub some-hard : 0 < s .hard
   pub kind : getD W (s .hard + 1) 0 ≡ 0
 
-pub record Counted (P W : List ℕ) (s : Agenda) (a : List Entry) (r : ℕ) : Type 0 where
-  pub few : r ≤ valueRecords + 2
-  pub ways : (gs hs : List Goal) (l : Line) → State relinking P W s a gs hs l → Ways r hs
+pub record Counted (P W : List ℕ) (s : Agenda) (a : List Entry) (w : Ways) : Type 0 where
+  pub ways : (gs hs : List Goal) (l : Line) → State relinking P W s a gs hs l → HasWays (w .count) hs
+  pub argument : Ends P (patternAt W (s .hard) + 4) (w .argument)
+  pub rigid-argument : (t : Term) → Part P (w .argument) t → w .rigid ≡ rigid t
+  pub depths-are : (gs hs : List Goal) (l : Line) → State relinking P W s a gs hs l → HasDepths (w .depths) hs
+  pub lacking-head : w .lacking ≡ true → (gs hs : List Goal) (l : Line) → State relinking P W s a gs hs l → Lacking hs
+
+unfoldable pub Agree : List ℕ → ℕ → List ℕ → ℕ → Bool → Type 0
+Agree P i W j true = Unit {0}
+Agree P i W j false = (q t : Term) → Part P i q → Part W j t → rigid q ≡ true → Unlike q t
 
 abbrev pub matchItem : ℕ → ℕ → ℕ → Item
 matchItem part target next = record { part = part; kind = 0; target = target; next = next; argument = 0 }
@@ -54,9 +65,9 @@ pub record Places (W : List ℕ) (top at j : ℕ) : Type 0 where
   pub tree : Term
   pub part : Part W at tree
   pub few : size tree ≤ valueRecords
+  pub within : j < size tree
   pub room : top + 640 ≤ length W
   pub most : length W ≤ tableBytes
-  pub number : j < valueRecords
 
 pub record Argument (W : List ℕ) (top : ℕ) (t : Term) (j : ℕ) (X : List ℕ) (r : ℕ) : Type 0 where
   pub within : j < size t

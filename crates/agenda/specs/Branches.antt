@@ -1,18 +1,22 @@
 -- The steps of a goal that was put off.
 --   Way i            the assignments by which the first goal put off, an application, comes to its target in the i-th way
+--   HasWays n hs     the first goal of hs has n ways
+--   HasDepths m hs   m has the number of binders above each record of its target
+--   Lacking hs       its head lacks a loose local of its target
 --   Choices m k      those by which the first goal put off, a goal to build, has a body with the first k choices of m
 --   Chosen m         those by which it has the body of m's choices
 --   Brought, Forwarded ..   the same goals, another one first
 --   Planned ..       what the answer of a plan for a goal to build says
 use mathlib.Core.Path.{_≡_}
-use mathlib.Core.Bool.{true}
+use mathlib.Core.Bool.{true, false}
 use mathlib.Core.Logic.{_↔_}
 use mathlib.Core.List.{List, [], _∷_}
 use Prim.Native.Nat.{ℕ, _+_, _<_, _≤_}
-use lib.ListN.{take}
+use lib.ListN.{getD, take}
 use Rattle.terms.specs.Figures.{valueRecords}
 use Rattle.terms.specs.Term.{Term, app, lam, loc, con, var, size, uses}
 use Rattle.terms.specs.Listing.{Line}
+use Rattle.matching.proofs.Occurrences.{partAt}
 use Rattle.matching.proofs.Lines.{Values, Extends}
 use Rattle.matching.proofs.Lists.{Predicate}
 use Rattle.matching.proofs.Lister.{Sweeps}
@@ -36,11 +40,24 @@ Way i gs (match (con n) t ∷ hs) l φ = ⊥
 Way i gs (match (var n) t ∷ hs) l φ = ⊥
 Way i gs (build f t e ∷ hs) l φ = ⊥
 
--- how many ways there are
-abbrev pub Ways : ℕ → List Goal → Type 0
-Ways n [] = ⊥
-Ways n (match p t ∷ hs) = n ≡ size t + 2
-Ways n (build f t e ∷ hs) = ⊥
+abbrev pub HasWays : ℕ → List Goal → Type 0
+HasWays n [] = ⊥
+HasWays n (match p t ∷ hs) = n ≡ size t + 2
+HasWays n (build f t e ∷ hs) = ⊥
+
+abbrev pub HasDepths : List ℕ → List Goal → Type 0
+HasDepths m [] = ⊥
+HasDepths m (match p t ∷ hs) = (j : ℕ) → j < size t → getD m j 0 ≡ partAt 0 t j .0
+HasDepths m (build f t e ∷ hs) = ⊥
+
+abbrev pub Lacking : List Goal → Type 0
+Lacking [] = ⊥
+Lacking (match (app f a) t ∷ hs) = (k : ℕ) × (uses k f ≡ false) × (uses k t ≡ true)
+Lacking (match (lam b) t ∷ hs) = ⊥
+Lacking (match (loc n) t ∷ hs) = ⊥
+Lacking (match (con n) t ∷ hs) = ⊥
+Lacking (match (var n) t ∷ hs) = ⊥
+Lacking (build f t e ∷ hs) = ⊥
 
 abbrev pub Choices : List ℕ → ℕ → Question
 Choices m k gs [] l φ = ⊥

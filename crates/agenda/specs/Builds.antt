@@ -1,5 +1,6 @@
 -- What the steps of a goal to build need, and what they leave.
 --   Builds W s             the first goal put off is one to build, and no easy goal is left
+--   AnyChosen m n r        r says whether one of the first n choices of m is made
 --   targetItem r at n      the goal that the part of r sweeps to the target at byte `at`, the next goal being at byte n
 --   afterItem s r at       the agenda when an easy goal was written at byte `at`, and the goal r was dropped from those put off
 --   Pushes W s r b         there is room for the abstraction over the body with the table b, and for a goal
@@ -19,8 +20,10 @@ use lib.Seq.{sets}
 use Rattle.terms.specs.Figures.{variables, tableBytes}
 use Rattle.terms.specs.Term.{Term, app, lam, loc, con, var, substitute, uses, Below}
 use Rattle.terms.specs.Table.{bytes}
+use Rattle.matching.proofs.Bodies.{Some}
 use Rattle.records.specs.Parts.{Part, Whole}
 use Rattle.records.specs.Tests.{Says}
+use Rattle.abstractions.specs.Bodies.{chosenIn}
 use Rattle.assignments.specs.declared.Entry.{Entry}
 use Rattle.assignments.specs.declared.Entry.the-variants.{Open}
 use Rattle.agenda.specs.declared.Agenda.{Agenda}
@@ -31,6 +34,9 @@ pub record Builds (W : List ℕ) (s : Agenda) : Type 0 where
   pub none-easy : s .easy ≡ 0
   pub some-hard : 0 < s .hard
   pub kind : ¬ (getD W (s .hard + 1) 0 ≡ 0)
+
+pub record AnyChosen (m : List ℕ) (n : ℕ) (r : Bool) : Type 0 where
+  pub is : Says r (Some (chosenIn m) 0 n)
 
 abbrev pub targetItem : Item → ℕ → ℕ → Item
 targetItem r at n = record { part = r .part; kind = 0; target = at; next = n; argument = 0 }

@@ -5,18 +5,21 @@ use crate::Agenda;
 use crate::Branch;
 use crate::ITEM;
 use crate::Item;
+use crate::Ways;
 use crate::builds::TARGET_BYTES;
 use assignments::Entry;
 use records::Kind;
 use records::PATTERN_RECORDS;
 use records::RECORD;
+use records::VALUE_RECORDS;
 use records::Walk;
 ghost use mathlib.Core.Path.{_≡_};
 ghost use Prim.Native.Nat.{suc, _+_, _≤_, _<_};
 ghost use lib.ListN.{length};
-ghost use Rattle.terms.specs.Figures.{valueRecords, tableBytes};
+ghost use Rattle.terms.specs.Figures.{tableBytes};
 ghost use Rattle.records.specs.Parts.{Whole};
-ghost use Rattle.agenda.specs.Applications.{Matches, Counted, matchItem, buildItem, Places, Placed, Missing, Comparable, Misses};
+ghost use Rattle.abstractions.specs.Occurrences.{DepthOf};
+ghost use Rattle.agenda.specs.Applications.{Matches, Counted, Agree, matchItem, buildItem, Places, Placed, Missing, Comparable, Misses};
 ghost use Rattle.agenda.specs.Branches.{Way};
 ghost use Rattle.agenda.specs.Moves.{Branched};
 
@@ -46,16 +49,28 @@ fn build_item(part: usize, target: usize, next: usize, argument: usize) -> Item
     }
 }
 
-// In how many ways the first goal put off, an application, can come to its target: by the target's own parts, by a head that throws its
+// The ways in which the first goal put off, an application, can come to its target: by the target's own parts, by a head that throws its
 // argument away, and by each part of the target as the argument's.
-pub fn ways(p: &[u8], work: &[u8], s: Agenda, a: [Entry; 8]) -> usize
+pub fn ways(p: &[u8], work: &[u8], s: Agenda, a: [Entry; 8]) -> Ways
     requires { ⌜ Matches (now p) (now work) s a ⌝ }
     ensures { λ r. ⌜ Counted (now (p .entry)) (now (work .entry)) s a r ⌝ }
 {
     let goal = crate::item_at(work, s.hard);
+    let head = goal.part + RECORD;
     let target = goal.target;
     let end = records::end_at(work, target);
-    (end - target) / RECORD + 2
+    let argument = records::end_at(p, head);
+    let rigid = abstractions::is_rigid(p, argument);
+    let lacking = crate::locals::lacks_local(p, head, work, target);
+    let mut depths = [0u8; VALUE_RECORDS];
+    abstractions::depths_into(work, target, 0, &mut depths, 0);
+    Ways {
+        count: (end - target) / RECORD + 2,
+        argument,
+        rigid,
+        lacking,
+        depths,
+    }
 }
 
 // The target's own parts: its head is the head's target, and its argument the argument's.
@@ -83,11 +98,15 @@ fn split(p: &[u8], work: &mut [u8], s: Agenda, a: [Entry; 8]) -> Branch
     })
 }
 
-// A head that throws its argument away: it is the abstraction over the target, moved in below the binder.
-fn constant_head(p: &[u8], work: &mut [u8], s: Agenda, a: [Entry; 8]) -> Branch
-    requires { ⌜ Matches (now p) (now work) s a ⌝ }
+// A head that throws its argument away: it is the abstraction over the target, moved in below the binder. A head that lacks a local of the
+// target lacks it in that abstraction too.
+fn constant_head(p: &[u8], work: &mut [u8], s: Agenda, a: [Entry; 8], w: Ways) -> Branch
+    requires { ⌜ Matches (now p) (now work) s a × Counted (now p) (now work) s a w ⌝ }
     ensures { λ r. ⌜ Branched (now (p .entry)) (now (work .entry)) s a (Way 1) (now (work .exit)) r ⌝ }
 {
+    if w.lacking {
+        return Branch::Failed;
+    }
     let goal = crate::item_at(work, s.hard);
     let mut b = [0u8; TARGET_BYTES];
     let moved = sweeping::shift_into(work, goal.target, 1, 0, &mut b, 0);
@@ -127,17 +146,32 @@ fn misses_local(p: &[u8], i: usize, work: &[u8], j: usize, e: usize) -> bool
     false
 }
 
-// Writes the j-th part of the term at byte `at`, moved out of the binders above it, from byte `top` on, and gives its end; or No where there
-// is no such part, or it uses one of those binders.
-fn place_argument(work: &mut [u8], top: usize, at: usize, j: usize) -> Walk
-    requires { ⌜ Places (now work) top at j ⌝ }
+// Whether the part of p at byte i, where it has a rigid head, may sweep to the part of work at byte j, moved out of some binders. Down to
+// the head their records are of the same kinds, and the constant is the same; a local may have another number below the binders.
+fn heads_agree(p: &[u8], i: usize, work: &[u8], j: usize) -> bool
+    requires { ⌜ Whole (now p) i × Whole (now work) j ⌝ }
+    ensures { λ r. ⌜ Agree (now (p .entry)) i (now (work .entry)) j r ⌝ }
+{
+    let kind = p[i];
+    if kind != work[j] {
+        return false;
+    }
+    if kind == Kind::APPLICATION.code {
+        return heads_agree(p, i + RECORD, work, j + RECORD);
+    }
+    if kind == Kind::CONSTANT.code {
+        return records::number_at(p, i) == records::number_at(work, j);
+    }
+    true
+}
+
+// Writes the j-th part of the term at byte `at`, moved out of the `depth` binders above it, from byte `top` on, and gives its end; or No
+// where it uses one of those binders.
+fn place_argument(work: &mut [u8], top: usize, at: usize, j: usize, depth: usize) -> Walk
+    requires { ⌜ Places (now work) top at j × DepthOf (now work) at j depth ⌝ }
     ensures { λ r. ⌜ Placed (now (work .entry)) top at j (now (work .exit)) r ⌝ }
 {
     let part = at + RECORD * j;
-    if records::end_at(work, at) <= part {
-        return Walk::No;
-    }
-    let depth = abstractions::depth_at(work, at, j);
     let mut e = [0u8; TARGET_BYTES];
     let moved = abstractions::lower_into(work, part, 0, depth, &mut e, 0);
     let Walk::Upto(end) = moved else {
@@ -149,13 +183,21 @@ fn place_argument(work: &mut [u8], top: usize, at: usize, j: usize) -> Walk
 }
 
 // The argument found at the j-th part of the target: it sweeps to that part, moved out of the binders above it, and the head builds the
-// target from it. Of parts that give the same argument the first one counts.
-fn find_argument(p: &[u8], work: &mut [u8], s: Agenda, a: [Entry; 8], j: usize) -> Branch
-    requires { ⌜ Matches (now p) (now work) s a × (j < valueRecords) ⌝ }
+// target from it. Of parts that give the same argument the first one counts. The quick tests come first.
+fn find_argument(p: &[u8], work: &mut [u8], s: Agenda, a: [Entry; 8], j: usize, w: Ways) -> Branch
+    requires { ⌜ Matches (now p) (now work) s a × Counted (now p) (now work) s a w × (j + 2 < w .count) ⌝ }
     ensures { λ r. ⌜ Branched (now (p .entry)) (now (work .entry)) s a (Way (suc (suc j))) (now (work .exit)) r ⌝ }
 {
     let goal = crate::item_at(work, s.hard);
-    let placed = place_argument(work, s.top, goal.target, j);
+    let argument = w.argument;
+    if w.rigid {
+        if !heads_agree(p, argument, work, goal.target + RECORD * j) {
+            return Branch::Failed;
+        }
+    }
+    let depths = w.depths;
+    let depth = records::wide(depths[j]);
+    let placed = place_argument(work, s.top, goal.target, j, depth);
     let Walk::Upto(end) = placed else {
         return Branch::Failed;
     };
@@ -163,10 +205,11 @@ fn find_argument(p: &[u8], work: &mut [u8], s: Agenda, a: [Entry; 8], j: usize) 
         return Branch::Failed;
     }
     let head = goal.part + RECORD;
-    if misses_local(p, head, work, goal.target, s.top) {
-        return Branch::Failed;
+    if w.lacking {
+        if misses_local(p, head, work, goal.target, s.top) {
+            return Branch::Failed;
+        }
     }
-    let argument = records::end_at(p, head);
     crate::put_item(work, end, build_item(head, goal.target, goal.next, s.top));
     crate::put_item(work, end + ITEM, match_item(argument, s.top, s.easy));
     Branch::Next(Agenda {
@@ -177,15 +220,15 @@ fn find_argument(p: &[u8], work: &mut [u8], s: Agenda, a: [Entry; 8], j: usize) 
 }
 
 // The i-th way in which the first goal put off, an application, comes to its target.
-pub fn way(p: &[u8], work: &mut [u8], s: Agenda, a: [Entry; 8], i: usize) -> Branch
-    requires { ⌜ Matches (now p) (now work) s a × (i < valueRecords + 2) ⌝ }
+pub fn way(p: &[u8], work: &mut [u8], s: Agenda, a: [Entry; 8], i: usize, w: Ways) -> Branch
+    requires { ⌜ Matches (now p) (now work) s a × Counted (now p) (now work) s a w × (i < w .count) ⌝ }
     ensures { λ r. ⌜ Branched (now (p .entry)) (now (work .entry)) s a (Way i) (now (work .exit)) r ⌝ }
 {
     if i == 0 {
         return split(p, work, s, a);
     }
     if i == 1 {
-        return constant_head(p, work, s, a);
+        return constant_head(p, work, s, a, w);
     }
-    find_argument(p, work, s, a, i - 2)
+    find_argument(p, work, s, a, i - 2, w)
 }

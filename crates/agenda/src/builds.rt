@@ -11,10 +11,12 @@ use records::Kind;
 use records::RECORD;
 use records::VALUE_RECORDS;
 use records::Walk;
+ghost use Prim.Native.Nat.{_≤_};
+ghost use lib.ListN.{length};
 ghost use Rattle.agenda.specs.State.{Ready, relinking};
 ghost use Rattle.agenda.specs.Branches.{Chosen, Planned};
 ghost use Rattle.agenda.specs.Moves.{Branched};
-ghost use Rattle.agenda.specs.Builds.{Builds, Pushes, Pushed, Heads, HeadEntry, Solving, Solved};
+ghost use Rattle.agenda.specs.Builds.{Builds, AnyChosen, Pushes, Pushed, Heads, HeadEntry, Solving, Solved};
 
 // The bytes of the longest target.
 pub const TARGET_BYTES: usize = 640;
@@ -42,8 +44,23 @@ pub fn push_abstraction(work: &mut [u8], s: Agenda, goal: Item, b: &[u8]) -> Age
     }
 }
 
+// Whether one of the first n choices is made.
+fn any_chosen(chosen: &[u8], n: usize) -> bool
+    requires { ⌜ n ≤ length (now chosen) ⌝ }
+    ensures { λ r. ⌜ AnyChosen (now (chosen .entry)) n r ⌝ }
+{
+    let mut i = 0;
+    while i < n {
+        if chosen[i] != 0 {
+            return true;
+        }
+        i += 1;
+    }
+    false
+}
+
 // The goal with the body of the chosen copies: what its head then has to sweep to is written at the top. No head sweeps to an abstraction
-// that is a redex, and an abstraction that doesn't use its local belongs to another goal.
+// that is a redex, and an abstraction that doesn't use its local belongs to another goal: it uses it where a choice is made.
 pub fn body(
     p: &[u8],
     work: &mut [u8],
@@ -58,7 +75,7 @@ pub fn body(
     let mut b = [0u8; TARGET_BYTES];
     let built = abstractions::body_into(work, goal.target, 0, goal.argument, &chosen, 0, &mut b, 0);
     let n = built.end;
-    if !records::uses_local(&b[0..n], 0) {
+    if !any_chosen(&chosen, built.k) {
         return Branch::Failed;
     }
     if records::is_eta(&b[0..n]) {

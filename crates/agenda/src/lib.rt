@@ -16,6 +16,7 @@ pub mod steps;
 use assignments::Entry;
 use assignments::Span;
 use records::RECORD;
+use records::VALUE_RECORDS;
 ghost use mathlib.Core.Path.{_≡_};
 ghost use Prim.Native.Nat.{_+_, _≤_};
 ghost use lib.ListN.{length};
@@ -48,6 +49,17 @@ pub enum Step {
 pub enum Branch {
     Failed,
     Next(Agenda),
+}
+
+// What is known of an application that was put off, before its ways are gone through: how many there are, where its argument begins in the
+// pattern, whether the argument has a rigid head, whether the application's head lacks a local of the target, and how many binders stand above
+// each record of the target.
+pub struct Ways {
+    pub count: usize,
+    pub argument: usize,
+    pub rigid: bool,
+    pub lacking: bool,
+    pub depths: [u8; VALUE_RECORDS],
 }
 
 // What a goal to build comes to: as one alternative, or that the bodies are to be gone through, one for each choice among so many copies.

@@ -123,11 +123,15 @@ fn without(work: &mut [u8], top: usize, list: usize, goal: usize) -> Rest
     }
 }
 
-// Brings the cheapest of the goals put off to the front of their list. Where it is there already, nothing is written.
+// Brings the cheapest of the goals put off to the front of their list. Where it is there already, as the only one is, nothing is written.
 pub fn bring_forward(p: &[u8], work: &mut [u8], s: Agenda, a: [Entry; 8]) -> Agenda
     requires { ⌜ Ready 0 (now p) (now work) s a × (s .easy ≡ 0) × (0 < s .hard) ⌝ }
     ensures { λ r. ⌜ Forwarded (now (p .entry)) (now (work .entry)) s a (now (work .exit)) r ⌝ }
 {
+    let first = crate::item_at(work, s.hard);
+    if first.next == 0 {
+        return s;
+    }
     let best = cheapest(p, work, s.hard, a);
     let goal = best.goal;
     if goal == s.hard {

@@ -134,14 +134,14 @@ no-next s a i l h x = go l (subst (λ (b : List Entry). LineStands s b l) (drop-
 
 -- a line written entry by entry
 module _ (s : List ℕ) (a : List Entry) (i : ℕ) (lines : List ℕ) (at : ℕ) (values : List ℕ) (first : ℕ) where
-  pub wrote-none : length a ≤ i → WroteLine s (drop i a) lines at values first lines values first
+  wrote-none : length a ≤ i → WroteLine s (drop i a) lines at values first lines values first
   wrote-none h = record {
     records = λ l x. rw (no-next s a i l h x) (sym (add-zero first));
     bytes = λ l x. rw (no-next s a i l h x) refl;
     copied = λ l x. rw (no-next s a i l h x) refl;
   }
 
-  pub wrote-next :
+  wrote-next :
       (p w q x : List ℕ) (m r : ℕ) → i < length a → Wrote s (getD a i Open) lines at values first p w m → WroteLine s (drop (i + 1) a) p (at + 4) w m q x r
       → WroteLine s (drop i a) lines at values first q x r
   wrote-next p w q x m r h y z = record { records = λ l n. go l n .0; bytes = λ l n. go l n .1; copied = λ l n. go l n .2 }
@@ -161,7 +161,7 @@ module _ (s : List ℕ) (a : List Entry) (i : ℕ) (lines : List ℕ) (at : ℕ)
                 ∙ ap (sets values (4 * first)) (sym (values-entry o (k .rest))),
           )
 
-  pub entry-of : WriteLine s a i lines at values first → i < variables → WriteEntry s (getD a i Open) lines at values first
+  entry-of : WriteLine s a i lines at values first → i < variables → WriteEntry s (getD a i Open) lines at values first
   entry-of x h =
       let k = next s a i (x .line) (omega (arith, x .entries)) (x .stands) in
       record {
@@ -172,7 +172,7 @@ module _ (s : List ℕ) (a : List Entry) (i : ℕ) (lines : List ℕ) (at : ℕ)
         values-most = x .values-most;
       }
 
-  pub others-of :
+  others-of :
       (p w : List ℕ) (m : ℕ) → WriteLine s a i lines at values first → i < variables → Wrote s (getD a i Open) lines at values first p w m → length p ≡ length lines → length w ≡ length values
       → WriteLine s a (i + 1) p (at + 4) w m
   others-of p w m x h y e f =
@@ -186,6 +186,45 @@ module _ (s : List ℕ) (a : List Entry) (i : ℕ) (lines : List ℕ) (at : ℕ)
         values-most = omega (arith, x .values-most);
         entries = x .entries;
       }
+
+-- a line of which the entries below i are written: the others can be, and then the line is
+pub record Writing (s : List ℕ) (a : List Entry) (lines : List ℕ) (at : ℕ) (values : List ℕ) (first : ℕ) (lines-now values-now : List ℕ) (next i : ℕ) : Type 0 where
+  pub left : WriteLine s a i lines-now (at + 4 * i) values-now next
+  pub whole : (p w : List ℕ) (r : ℕ) → WroteLine s (drop i a) lines-now (at + 4 * i) values-now next p w r → WroteLine s a lines at values first p w r
+  pub same-lines : length lines-now ≡ length lines
+  pub same-values : length values-now ≡ length values
+
+module _ (s : List ℕ) (a : List Entry) (lines : List ℕ) (at : ℕ) (values : List ℕ) (first : ℕ) where
+  pub writing-start : WriteLine s a 0 lines at values first → Writing s a lines at values first lines values first 0
+  writing-start x =
+      let e : at ≡ at + 4 * 0 = omega arith in
+      record {
+        left = subst (λ (k : ℕ). WriteLine s a 0 lines k values first) e x;
+        whole = λ p w r y. subst (λ (k : ℕ). WroteLine s a lines k values first p w r) (sym e) y;
+        same-lines = refl;
+        same-values = refl;
+      }
+
+  module _ (now then : List ℕ) (next i : ℕ) (x : Writing s a lines at values first now then next i) where
+    pub writing-entry : i < variables → WriteEntry s (getD a i Open) now (at + 4 * i) then next
+    writing-entry h = entry-of s a i now (at + 4 * i) then next (x .left) h
+
+    pub writing-more :
+        (p w : List ℕ) (m : ℕ) → i < variables → Wrote s (getD a i Open) now (at + 4 * i) then next p w m → length p ≡ length now → length w ≡ length then
+        → Writing s a lines at values first p w m (i + 1)
+    writing-more p w m h y f g =
+        let e : at + 4 * i + 4 ≡ at + 4 * (i + 1) = omega arith in
+        record {
+          left = subst (λ (k : ℕ). WriteLine s a (i + 1) p k w m) e (others-of s a i now (at + 4 * i) then next p w m (x .left) h y f g);
+          whole = λ q v r z.
+              x .whole q v r
+              (wrote-next s a i now (at + 4 * i) then next p w q v m r (omega (arith, x .left .entries)) y (subst (λ (k : ℕ). WroteLine s (drop (i + 1) a) p k w m q v r) (sym e) z));
+          same-lines = f ∙ x .same-lines;
+          same-values = g ∙ x .same-values;
+        }
+
+    pub writing-done : variables ≤ i → WroteLine s a lines at values first now then next
+    writing-done h = x .whole now then next (wrote-none s a i now (at + 4 * i) then next (omega (arith, x .left .entries)))
 
 -- the records that entries say
 pub total-next : (a : List Entry) (i : ℕ) → i < length a → total (drop i a) ≡ countOf (getD a i Open) + total (drop (i + 1) a)

@@ -63,25 +63,26 @@ fn write_entry(
     first + span.count
 }
 
-// Writes the entries of a line from the i-th on, and their values. Answers the record behind them.
+// Writes the line at byte `at`, and its values from record `first` of the values on. Answers the record behind them.
 fn write_line(
     s: &[u8],
     a: [Entry; 8],
-    i: usize,
     lines: &mut [u8],
     at: usize,
     values: &mut [u8],
     first: usize,
 ) -> usize
-    requires { ⌜ WriteLine (now s) a i (now lines) at (now values) first ⌝ }
-    ensures { λ r. ⌜ WroteLine (now (s .entry)) (drop i a) (now (lines .entry)) at (now (values .entry)) first (now (lines .exit)) (now (values .exit)) r ⌝ }
+    requires { ⌜ WriteLine (now s) a 0 (now lines) at (now values) first ⌝ }
+    ensures { λ r. ⌜ WroteLine (now (s .entry)) a (now (lines .entry)) at (now (values .entry)) first (now (lines .exit)) (now (values .exit)) r ⌝ }
 {
-    if i == VARIABLES {
-        return first;
+    let mut next = first;
+    let mut i = 0;
+    while i < VARIABLES {
+        let entry = a[i];
+        next = write_entry(s, entry, lines, at + RECORD * i, values, next);
+        i += 1;
     }
-    let e = a[i];
-    let next = write_entry(s, e, lines, at, values, first);
-    write_line(s, a, i + 1, lines, at + RECORD, values, next)
+    next
 }
 
 // The records that an entry's value has.
@@ -130,7 +131,7 @@ pub fn found(work: &[u8], a: [Entry; 8], lines: &mut [u8], values: &mut [u8], do
             records: records,
         };
     }
-    let end = write_line(work, a, 0, lines, at, values, first);
+    let end = write_line(work, a, lines, at, values, first);
     Tally {
         lines: count,
         records: end,
@@ -307,7 +308,7 @@ fn lay_line(s: &[u8], lines: &mut [u8], at: usize, values: &mut [u8], first: usi
 {
     let end = at + LINE;
     let a = assignments::entries_of(&lines[at..end]);
-    write_line(s, a, 0, lines, at, values, first)
+    write_line(s, a, lines, at, values, first)
 }
 
 // Writes the first `count` lines anew, their values in line order from record 0 on; they stand in s.

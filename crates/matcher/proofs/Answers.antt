@@ -1,19 +1,8 @@
 -- The operations' answers, from what their steps say. Each step's rows are the next ones of the operation's. Assumes nothing.
-use mathlib.Core.Path.{_≡_, refl, sym, ap, _∙_, subst}
-use mathlib.Core.List.{List, [], _∷_, _++_, append-assoc}
+use mathlib.Core.Path.{_≡_, refl, sym, subst}
+use mathlib.Core.List.{List, _++_, append-assoc}
 use mathlib.Core.Logic.{inl}
-use Prim.Native.Nat.{ℕ, max, _≤_, _<_}
-use native.Mathlib.Nat.{le-max-left}
-use native.Mathlib.Decide.{decLt}
-use native.Mathlib.Omega.{arith}
-use lib.Dec.{lit<}
-use lib.IntN.{ℤ, pos}
-use mir.Syntax.{w64}
-use mir.Val.{SFits, toZ, ofZ}
-use mir.ValLaws.{toZ-ofZ}
-use Rattle.terms.specs.Figures.{sweptRecords, tableBytes}
-use Rattle.terms.specs.Term.{Term, app, lam, loc, con, var, size}
-use Rattle.terms.specs.Sweep.{sweep, largest}
+use Prim.Native.Nat.{ℕ}
 use Rattle.terms.specs.Refusal.{Row, Refused, Passed, swept, output, unmatched}
 use Rattle.terms.proofs.Refusal.{refused-first, refused-later, passed-both}
 use Rattle.matcher.specs.declared.Verdict.{Verdict}
@@ -22,8 +11,7 @@ use Rattle.matcher.specs.declared.Match.{Match}
 use Rattle.matcher.specs.declared.CheckAnswer.{CheckAnswer}
 use Rattle.matcher.specs.declared.SweepAnswer.{SweepAnswer}
 use Rattle.matcher.specs.declared.RewriteAnswer.{RewriteAnswer}
-use Rattle.matcher.specs.Operations.{number, lentForCheck, lentForSweep, lentForRewrite, Written, Checked, Swept, Rewritten}
-use Rattle.matcher.specs.Exports.{refusalCode}
+use Rattle.matcher.specs.Operations.{number, lentForCheck, lentForSweep, lentForRewrite, Checked, Swept, Rewritten}
 use Rattle.matcher.specs.Steps.{Judged, Matched, Put}
 
 -- what the tables decide
@@ -119,64 +107,3 @@ module _ (p q r l s o w : List ℕ) (W : Type 0) (v : Verdict) (x : Judged (lent
       rewritten-refused c f =
           let k = subst (λ (b : SweepAnswer). Put q l s o b after) f u in
           (subst (λ (rows : List Row). Refused rows (number c)) (sym regroup) (refused-later (lent ++ (swept p l s ++ unmatched p l s r)) right (number c) left-passed (k .0)), k .1)
-
--- a swept form that is written is short
-sweep-largest : (t : Term) → size (sweep t) ≤ largest t
-sweep-largest (app f a) = le-max-left (size (sweep (app f a))) (max (largest f) (largest a))
-sweep-largest (lam b) = le-max-left (size (sweep (lam b))) (largest b)
-sweep-largest (loc n) = omega arith
-sweep-largest (con n) = omega arith
-sweep-largest (var n) = omega arith
-
-passed-first : (rows more : List Row) → Passed (rows ++ more) → Passed rows
-passed-first [] more h = tt
-passed-first (r ∷ rows) more h = (h .0, passed-first rows more (h .1))
-
-passed-later : (rows more : List Row) → Passed (rows ++ more) → Passed more
-passed-later [] more h = h
-passed-later (r ∷ rows) more h = passed-later rows more (h .1)
-
-written-few : (p l s o : List ℕ) (n : ℕ) (after : List ℕ) → Passed (swept p l s) → Written p l s o n after → n ≤ tableBytes
-written-few p l s o n after h w = go (decLt sweptRecords (largest (w .term)))
-  where
-    go : Dec (sweptRecords < largest (w .term)) → n ≤ tableBytes
-    go (yes d) = absurd (h .0 (w .term, w .filled, d))
-    go (no d) = omega (arith, w .records, sweep-largest (w .term))
-
-pub swept-few : (p l s o w : List ℕ) (a : SweepAnswer) (after : List ℕ) → Swept p l s o w a after → (n : ℕ) → a ≡ SweepAnswer.Records n → n ≤ tableBytes
-unfolding Swept
-swept-few p l s o w a after x n e =
-    let y = subst (λ (b : SweepAnswer). Swept p l s o w b after) e x in
-    written-few p l s o n after (passed-first (swept p l s) (output p l s o) (passed-later (lentForSweep p l s o w) (swept p l s ++ output p l s o) (y .0))) (y .1)
-
-pub rewritten-few : (p q r l s o w : List ℕ) (a : RewriteAnswer) (after : List ℕ) → Rewritten p q r l s o w a after → (n : ℕ) → a ≡ RewriteAnswer.Records n → n ≤ tableBytes
-unfolding Rewritten
-rewritten-few p q r l s o w a after x n e =
-    let y = subst (λ (b : RewriteAnswer). Rewritten p q r l s o w b after) e x in
-    let z = passed-later (lentForRewrite p q r l s o w) (swept p l s ++ (unmatched p l s r ++ (swept q l s ++ output q l s o))) (y .0) in
-    let u = passed-later (unmatched p l s r) (swept q l s ++ output q l s o) (passed-later (swept p l s) (unmatched p l s r ++ (swept q l s ++ output q l s o)) z) in
-    written-few q l s o n after (passed-first (swept q l s) (output q l s o) u) (y .1)
-
--- the numbers of answers fit
-pub fits-records : (n : ℕ) → n ≤ tableBytes → SFits w64 (pos n)
-fits-records n h = record { sfits = omega arith }
-
-pub fits-refusal : (c : Refusal) → SFits w64 (refusalCode c)
-fits-refusal Refusal.PatternLength = record { sfits = lit< tt }
-fits-refusal Refusal.PatternRecord = record { sfits = lit< tt }
-fits-refusal Refusal.PatternTerm = record { sfits = lit< tt }
-fits-refusal Refusal.RecipeLength = record { sfits = lit< tt }
-fits-refusal Refusal.RecipeRecord = record { sfits = lit< tt }
-fits-refusal Refusal.RecipeTerm = record { sfits = lit< tt }
-fits-refusal Refusal.RecipeRedex = record { sfits = lit< tt }
-fits-refusal Refusal.Tables = record { sfits = lit< tt }
-fits-refusal Refusal.LineRoom = record { sfits = lit< tt }
-fits-refusal Refusal.ValueRoom = record { sfits = lit< tt }
-fits-refusal Refusal.Assignment = record { sfits = lit< tt }
-fits-refusal Refusal.SweptForm = record { sfits = lit< tt }
-fits-refusal Refusal.Output = record { sfits = lit< tt }
-fits-refusal Refusal.NoMatch = record { sfits = lit< tt }
-
--- a number that was handed on is still itself
-pub handed-on : (z k : ℤ) → z ≡ k → SFits w64 k → toZ w64 (ofZ w64 z) ≡ k
-handed-on z k e f = ap (λ (y : ℤ). toZ w64 (ofZ w64 y)) e ∙ toZ-ofZ w64 k f

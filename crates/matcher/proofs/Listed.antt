@@ -4,12 +4,11 @@ use mathlib.Core.Path.{_≡_, refl, sym, ap, _∙_, subst, subst₂}
 use mathlib.Core.Bool.{Bool, true, false}
 use mathlib.Core.List.{List, [], _∷_, append-nil}
 use mathlib.Core.Logic.{_⊎_, inl, inr}
-use Prim.Native.Nat.{ℕ, _≤_, _<_}
-use native.Mathlib.Decide.{decLt}
+use Prim.Native.Nat.{ℕ, _<_}
 use native.Mathlib.Omega.{arith}
 use lib.Dec.{lit<}
 use lib.ListN.{length}
-use Rattle.terms.specs.Figures.{variables, tableBytes}
+use Rattle.terms.specs.Figures.{variables}
 use Rattle.terms.specs.Term.{Term, Below}
 use Rattle.terms.specs.Table.{encode, goodRecords, IsTable}
 use Rattle.terms.specs.Listing.{Line, Full}
@@ -20,7 +19,7 @@ use Rattle.matching.proofs.Listing.{unique}
 use Rattle.matcher.specs.declared.Verdict.{Verdict}
 use Rattle.matcher.specs.declared.Refusal.{Refusal}
 use Rattle.matcher.specs.declared.ListAnswer.{ListAnswer}
-use Rattle.matcher.specs.Operations.{number, lentForList, lentLines, lentRecords, ListingOf, WrittenLines, NoRoom, Listed, TooMany, NineExactly}
+use Rattle.matcher.specs.Operations.{number, lentForList, lentLines, lentRecords, ListingOf, NoRoom, Listed, TooMany, NineExactly}
 use Rattle.matcher.specs.Steps.{Judged, Listable, Enumerated}
 
 -- the numbers of the rows before 9
@@ -123,15 +122,3 @@ module _ (p r l s w : List ℕ) where
         go : (a : ListAnswer) → Enumerated p r l s a m q → Listed p r l s w a m q
         go (ListAnswer.Lines n) z = (passed, z)
         go (ListAnswer.Refused c) z = (inr (passed, z .0), z .1, z .2)
-
-  -- a line table has at most 2,048 lines
-  pub listed-few : (a : ListAnswer) (m q : List ℕ) → Listed p r l s w a m q → (n : ℕ) → a ≡ ListAnswer.Lines n → n ≤ tableBytes
-  unfolding Listed
-  listed-few a m q x n e = few (subst (λ (b : ListAnswer). Listed p r l s w b m q) e x)
-    where
-      few : Passed lent × WrittenLines p r l s n m q → n ≤ tableBytes
-      few (h, f) = go (decLt tableBytes (length l))
-        where
-          go : Dec (tableBytes < length l) → n ≤ tableBytes
-          go (yes d) = absurd (h .0 (inl d))
-          go (no d) = let g = f .room .0 in omega (arith, f .count)

@@ -5,7 +5,6 @@
 // as they were, and the work area is all zero unless its own length was wrong. It rests on `records`, `assignments`, `sweeping`, `listing` and
 // `search`.
 
-pub mod exports;
 mod listings;
 
 use listing::LINE;

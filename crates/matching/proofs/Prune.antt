@@ -1,5 +1,6 @@
 -- What a search may skip, each cut of it a fact of every assignment: no assignment satisfies the goal, or exactly one body is left.
 -- From the rows of one step of matching, from what a swept form can be, and from what stands in an assignment. Assumes nothing.
+--   Unlike q t        where t is a term moved in below some binders, q never sweeps to that term
 --   Build f t e φ     the head f sweeps to an abstraction that uses its local and comes to t with e put in
 --   replaceAll e d t  t with each outermost occurrence of e replaced by local d
 use mathlib.Core.Path.{_≡_, refl, sym, ap, ap₂, _∙_, subst}
@@ -13,7 +14,8 @@ use borrow.Author.Tests.{eqb-true, lt-ltb, le-ltb}
 use Rattle.terms.specs.Term.{Term, app, lam, loc, con, var, Normal, size, shift, unshift, substitute, uses, isAbstraction}
 use Rattle.terms.specs.Sweep.{sweep, fill}
 use Rattle.terms.specs.Listing.{In, Line}
-use Rattle.terms.proofs.Tests.{or-false, or-true}
+use Rattle.terms.proofs.Tests.{or-false, or-true, by-ltb}
+use Rattle.terms.proofs.Table.{kind, number}
 use Rattle.terms.proofs.Shift.{shift-unshift, size-shift, uses-above}
 use Rattle.terms.proofs.Substitute.{by-substitute, substitute-unused, substitute-low, substitute-high, size-used, unused-substitute}
 use Rattle.matching.specs.Abstractions.{same}
@@ -38,6 +40,35 @@ rigid-application φ f a t h r = (λ s. go (match-application φ f a t h .0 s), 
     go (inl (body b p q u n)) = absurd (no-abstraction φ f b r p)
     go (inr p) = absurd (no-abstraction φ f (shift 1 0 t) r p)
 
+-- cut 1 again: a rigid term keeps the kind of its first record, and its head's, whatever the binders above the target
+pub rigid-parts : (φ : ℕ → Term) (f a : Term) → rigid f ≡ true → sweep (fill φ (app f a)) ≡ app (sweep (fill φ f)) (sweep (fill φ a))
+rigid-parts φ f a r = rw (rigid-sweep φ f r)
+
+abbrev pub Unlike : Term → Term → Type 0
+Unlike q t = (φ : ℕ → Term) (d : ℕ) (e : Term) → t ≡ shift d 0 e → ¬ Sweeps q e φ
+
+rigid-kind : (φ : ℕ → Term) (d : ℕ) (q : Term) → rigid q ≡ true → kind (shift d 0 (sweep (fill φ q))) ≡ kind q
+rigid-kind φ d (app f a) r = ap (λ t. kind (shift d 0 t)) (rigid-parts φ f a r)
+rigid-kind φ d (lam b) r = absurd (subst T (sym r) tt)
+rigid-kind φ d (loc n) r = by-ltb (λ s. kind (cond s (loc n) (loc (n + d))) ≡ 2) n 0 (λ l. refl) (λ l. refl)
+rigid-kind φ d (con n) r = refl
+rigid-kind φ d (var n) r = absurd (subst T (sym r) tt)
+
+pub unlike-kind : (q t : Term) → rigid q ≡ true → ¬ (kind q ≡ kind t) → Unlike q t
+unlike-kind q t r n φ d e p s = n (sym (rigid-kind φ d q r) ∙ ap (λ x. kind (shift d 0 x)) s ∙ ap kind (sym p))
+
+pub unlike-head : (f a g b : Term) → rigid f ≡ true → Unlike f g → Unlike (app f a) (app g b)
+unlike-head f a g b r u φ d e p s =
+    let q : app g b ≡ app (shift d 0 (sweep (fill φ f))) (shift d 0 (sweep (fill φ a))) = p ∙ ap (shift d 0) (sym s ∙ rigid-parts φ f a r) in
+    u φ d (sweep (fill φ f)) (cc) refl
+
+pub unlike-constant : (q t : Term) → kind q ≡ 3 → ¬ (number q ≡ number t) → Unlike q t
+unlike-constant (app f a) t k n = absurd (omega (arith, k))
+unlike-constant (lam b) t k n = absurd (omega (arith, k))
+unlike-constant (loc m) t k n = absurd (omega (arith, k))
+unlike-constant (con m) t k n = λ φ d e p s. n (ap (λ x. number (shift d 0 x)) s ∙ ap number (sym p))
+unlike-constant (var m) t k n = absurd (omega (arith, k))
+
 -- cut 2, easy goals first: goals may be taken in any order
 pub lists-swap : (n : ℕ) (S : ℕ → Type 0) (Q R : Predicate) (ls : List Line) → Lists n S (λ φ. R φ × Q φ) ls → Lists n S (λ φ. Q φ × R φ) ls
 lists-swap n S Q R ls x = lists-same n S (λ φ. Q φ × R φ) (λ φ. R φ × Q φ) ls (λ φ v. (λ s. (s .1, s .0), λ s. (s .1, s .0))) x
@@ -45,6 +76,9 @@ lists-swap n S Q R ls x = lists-same n S (λ φ. Q φ × R φ) (λ φ. R φ × Q
 -- cut 3, locals: a target with a loose local that the pattern's part lacks
 pub no-local : (φ : ℕ → Term) → Values φ → (p t : Term) (j : ℕ) → uses j p ≡ false → uses j t ≡ true → ¬ Sweeps p t φ
 no-local φ v p t j c u s = subst T (sym u ∙ ap (uses j) (sym s) ∙ unused-sweep φ v j p c) tt
+
+pub constant-local : (j : ℕ) (t : Term) → uses j (constant t) ≡ uses j t
+constant-local j t = uses-above (suc j) j 1 0 t (omega arith) (omega arith)
 
 -- cut 4, the argument before the choices: each different argument once, and the bodies only when its goal is met
 abbrev pub Build : Term → Term → Term → Predicate

@@ -1,33 +1,34 @@
 -- Tests of a table and of a part: what each kind of first record gives. By the term's kind, and one law for each way through a test,
 -- whatever is asked. Assumes nothing.
-use mathlib.Core.Path.{_≡_, refl, sym, _∙_, subst}
-use mathlib.Core.Bool.{Bool, true, false, not}
+use mathlib.Core.Path.{_≡_, refl, sym, ap, ap₂, _∙_, subst}
+use mathlib.Core.Bool.{Bool, true, false, not, _&&_}
 use mathlib.Core.Logic.{_↔_}
 use mathlib.Core.List.{List}
-use Prim.Native.Nat.{ℕ, suc, _+_, _-_}
+use Prim.Native.Nat.{ℕ, suc, _+_, _-_, _*_}
 use native.Mathlib.Omega.{arith}
 use lib.Dec.{T, eqb}
-use lib.ListN.{getD, take, drop}
-use borrow.Author.Tests.{ltb-true, ltb-false, not-true, not-false}
-use Rattle.terms.specs.Term.{Term, app, lam, loc, con, var, uses, isInnermost, isEta, isAbstraction, Normal}
+use lib.ListN.{getD}
+use borrow.Author.Tests.{ltb-true, ltb-false, not-true, not-false, eq-eqb, ne-eqb}
+use Rattle.terms.specs.Term.{Term, app, lam, loc, con, var, size, uses, isInnermost, isEta, isAbstraction, Normal}
 use Rattle.terms.specs.Table.{encode}
-use Rattle.terms.proofs.Table.{kind}
-use Rattle.terms.proofs.Tests.{or-false}
+use Rattle.terms.proofs.Table.{kind, number}
+use Rattle.terms.proofs.Tests.{or-false, and-true}
 use Rattle.records.specs.declared.Ask.{Ask}
 use Rattle.records.specs.declared.Ask.the-variants.{Below, Other}
 use Rattle.records.specs.declared.Walk.{Walk}
 use Rattle.records.specs.declared.Walk.the-variants.{Upto, No}
-use Rattle.records.specs.Record.{numberAt}
-use Rattle.records.specs.Parts.{Part, Whole, Ends, Divided}
-use Rattle.records.specs.Tests.{Says, Tells, Head, asked, Asks, Walked}
-use Rattle.records.proofs.Parts.{at-start, application, abstraction, application-of, abstraction-of, argument-part, kind-at, number-at, ends-app, ends-lam, ends-leaf}
+use Rattle.records.specs.Record.{numberAt, innermostAt}
+use Rattle.records.specs.Parts.{Part, Whole, Ends}
+use Rattle.records.specs.Tests.{Says, EqualsAt, Head, asked, Asks, Walked}
+use Rattle.records.proofs.Parts.{at-start, size-some, application, abstraction, argument-part, kind-at, number-at, ends-app, ends-lam, ends-leaf}
 
 pub says : (A : Type 0) (b r : Bool) → Says b A → b ≡ r → Says r A
 says A b r x e = subst (λ (c : Bool). Says c A) e x
 
-pub says-same : (A B : Type 0) (r : Bool) → (A → B) → (B → A) → Says r A → Says r B
-says-same A B true f g x = f x
-says-same A B false f g x = λ y. x (g y)
+-- a Bool that is not false
+pub not-false-true : (b : Bool) → ¬ (b ≡ false) → true ≡ b
+not-false-true true n = refl
+not-false-true false n = absurd (n refl)
 
 -- what holds of a part, by its first record
 module _ (l : List ℕ) (at : ℕ) (G : Term → Type 0) where
@@ -45,20 +46,20 @@ module _ (l : List ℕ) (at : ℕ) (G : Term → Type 0) where
   part-other p q r c v (con n) x = c n
   part-other p q r c v (var n) x = v n
 
--- a walk: a head and an argument, a head that stops it, a body, a record with no parts
+-- a walk: a head and an argument, a head that stops it, a body, the same part with something else asked, a record with no parts
 module _ (l : List ℕ) (at : ℕ) (P : Term → Type 0) where
   pub walked-ends : (h : ℕ) (w : Walk) → w ≡ Upto h → Walked l at P w → Ends l at h
   unfolding Walked
   walked-ends h w e x = let y : Walked l at P (Upto h) = subst (Walked l at P) e x in y .0
 
-  pub walked-app : (h : ℕ) (w r : Walk) → getD l at 0 ≡ 0 → ((f a : Term) → P (app f a) ↔ (P f × P a)) → w ≡ Upto h → Walked l (at + 4) P w → Walked l h P r → Walked l at P r
+  pub walked-app : (Q R : Term → Type 0) (h : ℕ) (w r : Walk) → getD l at 0 ≡ 0 → ((f a : Term) → P (app f a) ↔ (Q f × R a)) → w ≡ Upto h → Walked l (at + 4) Q w → Walked l h R r → Walked l at P r
   unfolding Walked
-  walked-app h w r k i e x y = go r y
+  walked-app Q R h w r k i e x y = go r y
     where
-      z : Walked l (at + 4) P (Upto h)
-      z = subst (Walked l (at + 4) P) e x
+      z : Walked l (at + 4) Q (Upto h)
+      z = subst (Walked l (at + 4) Q) e x
 
-      go : (r : Walk) → Walked l h P r → Walked l at P r
+      go : (r : Walk) → Walked l h R r → Walked l at P r
       go (Upto m) y = (
         ends-app l at h m k (z .0) (y .0),
         λ t x.
@@ -69,10 +70,10 @@ module _ (l : List ℕ) (at : ℕ) (P : Term → Type 0) where
           let v = application l at t x k in
           y (v .a) (argument-part l at h t (z .0) v) (i (v .f) (v .a) .0 (subst P (v .is) q) .1)
 
-  pub walked-stop : (w : Walk) → getD l at 0 ≡ 0 → ((f a : Term) → P (app f a) ↔ (P f × P a)) → w ≡ No → Walked l (at + 4) P w → Walked l at P No
+  pub walked-stop : (Q R : Term → Type 0) (w : Walk) → getD l at 0 ≡ 0 → ((f a : Term) → P (app f a) ↔ (Q f × R a)) → w ≡ No → Walked l (at + 4) Q w → Walked l at P No
   unfolding Walked
-  walked-stop w k i e x =
-      let z : Walked l (at + 4) P No = subst (Walked l (at + 4) P) e x in
+  walked-stop Q R w k i e x =
+      let z : Walked l (at + 4) Q No = subst (Walked l (at + 4) Q) e x in
       λ t x q. let v = application l at t x k in z (v .f) (v .head) (i (v .f) (v .a) .0 (subst P (v .is) q) .0)
 
   pub walked-lam : (Q : Term → Type 0) (r : Walk) → getD l at 0 ≡ 1 → ((b : Term) → P (lam b) ↔ Q b) → Walked l (at + 4) Q r → Walked l at P r
@@ -80,6 +81,14 @@ module _ (l : List ℕ) (at : ℕ) (P : Term → Type 0) where
   walked-lam Q (Upto h) k i y =
       (ends-lam l at h k (y .0), λ t x. let v = abstraction l at t x k in subst P (sym (v .is)) (i (v .b) .1 (y .1 (v .b) (v .body))))
   walked-lam Q No k i y = λ t x q. let v = abstraction l at t x k in y (v .b) (v .body) (i (v .b) .0 (subst P (v .is) q))
+
+  pub walked-same : (Q : Term → Type 0) (w r : Walk) → ((t : Term) → Part l at t → P t ↔ Q t) → w ≡ r → Walked l at Q w → Walked l at P r
+  unfolding Walked
+  walked-same Q w r i e x = go r (subst (Walked l at Q) e x)
+    where
+      go : (r : Walk) → Walked l at Q r → Walked l at P r
+      go (Upto h) y = (y .0, λ t x. i t x .1 (y .1 t x))
+      go No y = λ t x q. y t x (i t x .0 q)
 
   pub walked-leaf : Whole l at → ¬ (getD l at 0 ≡ 0) → ¬ (getD l at 0 ≡ 1) → ((t : Term) → Part l at t → P t) → Walked l at P (Upto (at + 4))
   unfolding Walked
@@ -132,45 +141,73 @@ pub asks-var : (q : Ask) (n i : ℕ) → Asks q n (var i)
 asks-var Below n i = tt
 asks-var Other n i = refl
 
--- what holds of the term of a table, by its first record
-module _ (l : List ℕ) (G : Term → Type 0) where
-  pub by-app : (h : ℕ) → getD l 0 0 ≡ 0 → Divided l h → ((f a : Term) → take (h - 4) (drop 4 l) ≡ encode f → drop h l ≡ encode a → G (app f a)) → (t : Term) → l ≡ encode t → G t
-  by-app h z d k t e =
-      let v = application-of l t e z in
-      subst G (sym (v .is)) (k (v .f) (v .a) (d .head (v .f) (v .a) (v .bytes)) (d .argument (v .f) (v .a) (v .bytes)))
+-- a term that ends behind a record is the innermost local if it begins there and the record is that local
+leaf-last : (l : List ℕ) (at last : ℕ) (a : Term) → Part l at a → at ≡ last → isInnermost a ≡ (eqb (kind a) 2 && eqb (number a) 0) → isInnermost a ≡ (eqb at last && innermostAt l last)
+leaf-last l at last a x e i =
+    subst (λ (k : ℕ). isInnermost a ≡ (eqb at k && innermostAt l k)) e
+    (i ∙ ap₂ (λ (k n : ℕ). eqb k 2 && eqb n 0) (sym (kind-at l at a x)) (sym (number-at l at a x)) ∙ ap (_&& innermostAt l at) (sym (eq-eqb at at refl)))
 
-  pub by-lam : getD l 0 0 ≡ 1 → ((b : Term) → l ≡ encode (lam b) → G (lam b)) → (t : Term) → l ≡ encode t → G t
-  by-lam z k t e = let v = abstraction-of l t e z in subst G (sym (v .is)) (k (v .b) (v .bytes))
+innermost-last : (l : List ℕ) (at last : ℕ) (a : Term) → Part l at a → last + 4 ≡ at + 4 * size a → isInnermost a ≡ (eqb at last && innermostAt l last)
+innermost-last l at last (app f a) x e = ap (_&& innermostAt l last) (sym (ne-eqb at last (λ p. omega (arith, size-some f))))
+innermost-last l at last (lam b) x e = ap (_&& innermostAt l last) (sym (ne-eqb at last (λ p. omega (arith, size-some b))))
+innermost-last l at last (loc n) x e = leaf-last l at last (loc n) x (omega arith) refl
+innermost-last l at last (con n) x e = leaf-last l at last (con n) x (omega arith) refl
+innermost-last l at last (var n) x e = leaf-last l at last (var n) x (omega arith) refl
 
-  pub by-local : getD l 0 0 ≡ 2 → G (loc (numberAt l 0)) → (t : Term) → l ≡ encode t → G t
-  by-local z g t e = part-local l 0 G z g t (at-start l t e)
-
-  pub by-kind : ((t : Term) → getD l 0 0 ≡ kind t → G t) → (t : Term) → l ≡ encode t → G t
-  by-kind k t e = k t (kind-at l 0 t (at-start l t e))
-
--- the tests of one record
-pub innermost-other : (k : ℕ) → ¬ (k ≡ 2) → (t : Term) → k ≡ kind t → false ≡ isInnermost t
-innermost-other k n (app f a) e = refl
-innermost-other k n (lam b) e = refl
-innermost-other k n (loc i) e = absurd (n e)
-innermost-other k n (con i) e = refl
-innermost-other k n (var i) e = refl
-
-pub eta-other : (k : ℕ) → ¬ (k ≡ 0) → (t : Term) → k ≡ kind t → false ≡ isEta t
+-- the test for an abstraction that is itself a redex, by what it looks at in turn
+eta-other : (k : ℕ) → ¬ (k ≡ 0) → (t : Term) → k ≡ kind t → false ≡ isEta t
 eta-other k n (app f a) e = absurd (n e)
 eta-other k n (lam b) e = refl
 eta-other k n (loc i) e = refl
 eta-other k n (con i) e = refl
 eta-other k n (var i) e = refl
 
-pub head-leaf : (k : ℕ) → ¬ (k ≡ 0) → ¬ (k ≡ 1) → (t : Term) → k ≡ kind t → Head t
+module _ (l : List ℕ) (at end : ℕ) where
+  pub eta-no-application : ¬ (getD l at 0 ≡ 0) → EqualsAt l at end isEta false
+  eta-no-application n t x e = eta-other (getD l at 0) n t (kind-at l at t x)
+
+  module _ (k : getD l at 0 ≡ 0) where
+    by-last : (G : Bool → Type 0) → ((f : Term) → Part l (at + 4) f → G ((eqb (at + 4 + 4 * size f) (end - 4) && innermostAt l (end - 4)) && not (uses 0 f))) → (t : Term) → Part l at t → end ≡ at + 4 * size t → G (isEta t)
+    by-last G g t x e =
+        let v = application l at t x k in
+        let p = innermost-last l (at + 4 + 4 * size (v .f)) (end - 4) (v .a) (v .argument) (omega (arith, ap size (v .is))) in
+        subst G (sym (ap isEta (v .is) ∙ ap (_&& not (uses 0 (v .f))) p)) (g (v .f) (v .head))
+
+    pub eta-other-last : innermostAt l (end - 4) ≡ false → EqualsAt l at end isEta false
+    eta-other-last p =
+        by-last (λ (b : Bool). false ≡ b) λ f x.
+        go (eqb (at + 4 + 4 * size f) (end - 4)) (not (uses 0 f)) ∙ ap (λ (b : Bool). (eqb (at + 4 + 4 * size f) (end - 4) && b) && not (uses 0 f)) (sym p)
+      where
+        go : (x y : Bool) → false ≡ ((x && false) && y)
+        go true y = refl
+        go false y = refl
+
+    module _ (w : Walk) (y : Walked l (at + 4) (Asks Other 0) w) where
+      pub eta-used : w ≡ No → EqualsAt l at end isEta false
+      unfolding Walked
+      eta-used e =
+          let z : Walked l (at + 4) (Asks Other 0) No = subst (Walked l (at + 4) (Asks Other 0)) e y in
+          by-last (λ (b : Bool). false ≡ b) λ f x. go (eqb (at + 4 + 4 * size f) (end - 4) && innermostAt l (end - 4)) (uses 0 f) (not-false-true (uses 0 f) (z f x))
+        where
+          go : (x y : Bool) → true ≡ y → false ≡ (x && not y)
+          go true y e = ap not e
+          go false y e = refl
+
+      pub eta-ends : (h : ℕ) → innermostAt l (end - 4) ≡ true → w ≡ Upto h → EqualsAt l at end isEta (eqb h (end - 4))
+      unfolding Walked
+      eta-ends h p e =
+          let z : Walked l (at + 4) (Asks Other 0) (Upto h) = subst (Walked l (at + 4) (Asks Other 0)) e y in
+          by-last (λ (b : Bool). eqb h (end - 4) ≡ b) λ f x.
+          ap (λ (i : ℕ). eqb i (end - 4)) (z .0 .exact f x) ∙ sym (and-true (eqb (at + 4 + 4 * size f) (end - 4) && true) ∙ and-true (eqb (at + 4 + 4 * size f) (end - 4))) ∙ ap₂ (λ (b c : Bool). (eqb (at + 4 + 4 * size f) (end - 4) && b) && not c) (sym p) (sym (z .1 f x))
+
+-- what may be a head: no abstraction, an application whose head may be one and whose argument is normal, a record with no parts
+head-leaf : (k : ℕ) → ¬ (k ≡ 0) → ¬ (k ≡ 1) → (t : Term) → k ≡ kind t → Head t
 head-leaf k n m (app f a) e = absurd (n e)
 head-leaf k n m (lam b) e = absurd (m e)
 head-leaf k n m (loc i) e = (tt, tt)
 head-leaf k n m (con i) e = (tt, tt)
 head-leaf k n m (var i) e = (tt, tt)
 
--- what is no abstraction is normal where it may be a head
 no-abstraction : (k : ℕ) → ¬ (k ≡ 1) → (t : Term) → k ≡ kind t → T (not (isAbstraction t))
 no-abstraction k m (app f a) e = tt
 no-abstraction k m (lam b) e = absurd (m e)
@@ -178,27 +215,39 @@ no-abstraction k m (loc i) e = tt
 no-abstraction k m (con i) e = tt
 no-abstraction k m (var i) e = tt
 
-pub normal-head : (k : ℕ) (r : Bool) → ¬ (k ≡ 1) → (t : Term) → k ≡ kind t → Says r (Head t) → Says r (Normal t)
-normal-head k r m t e h = says-same (Head t) (Normal t) r (λ p. p .1) (λ p. (no-abstraction k m t e, p)) h
+pub head-two : (f a : Term) → Head (app f a) ↔ (Head f × Normal a)
+head-two f a = (λ x. ((x .1 .0, x .1 .1), x .1 .2), λ x. (tt, (x .0 .0, x .0 .1, x .1)))
 
-pub normal-of-head : (l : List ℕ) (r : Bool) → ¬ (getD l 0 0 ≡ 1) → Tells l Head r → Tells l Normal r
-normal-of-head l r m h t e = normal-head (getD l 0 0) r m t (kind-at l 0 t (at-start l t e)) (h t e)
+module _ (l : List ℕ) (at : ℕ) where
+  pub head-abstraction : getD l at 0 ≡ 1 → Walked l at Head No
+  head-abstraction k = walked-no l at Head λ t x q. let v = abstraction l at t x k in let p : Head (lam (v .b)) = subst Head (v .is) q in p .0
 
--- an application is normal, and may be a head, as its parts are
-pub head-app : (f a : Term) (r : Bool) → Head f → Says r (Normal a) → Says r (Head (app f a))
-head-app f a r h n = says-same (Normal a) (Head (app f a)) r (λ x. (tt, (h .0, h .1, x))) (λ x. x .1 .2) n
+  pub head-none : Whole l at → ¬ (getD l at 0 ≡ 0) → ¬ (getD l at 0 ≡ 1) → Walked l at Head (Upto (at + 4))
+  head-none w n m = walked-leaf l at Head w n m λ t x. head-leaf (getD l at 0) n m t (kind-at l at t x)
 
-pub head-app-no : (f a : Term) → ¬ Head f → ¬ Head (app f a)
-head-app-no f a h x = h (x .1 .0, x .1 .1)
+  pub normal-head : (r : Walk) → ¬ (getD l at 0 ≡ 1) → Walked l at Head r → Walked l at Normal r
+  normal-head r m x = walked-same l at Normal Head r r (λ t y. (λ p. (no-abstraction (getD l at 0) m t (kind-at l at t y), p), λ p. p .1)) refl x
 
 -- an abstraction is normal as its body is, unless it is itself a redex
-pub normal-lam : (b : Term) (r : Bool) → false ≡ isEta b → Says r (Normal b) → Says r (Normal (lam b))
-normal-lam b r e n = says-same (Normal b) (Normal (lam b)) r (λ x. (subst (λ (c : Bool). T (not c)) e tt, x)) (λ x. x .1) n
+module _ (l : List ℕ) (at : ℕ) (w : Walk) (k : getD l at 0 ≡ 1) (x : Walked l (at + 4) Normal w) where
+  pub normal-stop : w ≡ No → Walked l at Normal No
+  unfolding Walked
+  normal-stop e =
+      let z : Walked l (at + 4) Normal No = subst (Walked l (at + 4) Normal) e x in
+      λ t y q. let v = abstraction l at t y k in let p : Normal (lam (v .b)) = subst Normal (v .is) q in z (v .b) (v .body) (p .1)
 
-pub normal-lam-no : (b : Term) → true ≡ isEta b → ¬ Normal (lam b)
-normal-lam-no b e x = subst (λ (c : Bool). T (not c)) (sym e) (x .0)
+  module _ (end : ℕ) (r : Bool) (e : w ≡ Upto end) (g : EqualsAt l (at + 4) end isEta r) where
+    eta-is : (b : Term) → Part l (at + 4) b → r ≡ isEta b
+    eta-is b y = g b y (walked-ends l (at + 4) Normal end w e x .exact b y)
 
--- a Bool that is not false
-pub not-false-true : (b : Bool) → ¬ (b ≡ false) → true ≡ b
-not-false-true true n = refl
-not-false-true false n = absurd (n refl)
+    pub normal-redex : r ≡ true → Walked l at Normal No
+    normal-redex p =
+        walked-no l at Normal λ t y q.
+        let v = abstraction l at t y k in
+        let n : Normal (lam (v .b)) = subst Normal (v .is) q in
+        subst (λ (c : Bool). T (not c)) (sym (eta-is (v .b) (v .body)) ∙ p) (n .0)
+
+    pub normal-body : r ≡ false → Walked l at Normal (Upto end)
+    normal-body p =
+        walked-lam l at Normal (λ b. T (not (isEta b)) × Normal b) (Upto end) k (λ b. (λ n. n, λ n. n))
+        (walked-same l (at + 4) (λ b. T (not (isEta b)) × Normal b) Normal w (Upto end) (λ b y. (λ n. n .1, λ n. (subst (λ (c : Bool). T (not c)) (sym p ∙ eta-is b y) tt, n))) e x)

@@ -1,13 +1,14 @@
 -- One record of a table, as the code reads it.
---   kindOf b        the kind that a byte is
---   parts k         how many parts follow a record of kind k
---   numberAt l at   the number of the record that stands in l from byte `at` on
---   recordAt l at   that record, if its four bytes are one
-use mathlib.Core.Bool.{cond}
+--   kindOf b           the kind that a byte is
+--   parts k            how many parts follow a record of kind k
+--   numberAt l at      the number of the record that stands in l from byte `at` on
+--   recordAt l at      that record, if its four bytes are one
+--   innermostAt l at   that record is the innermost local
+use mathlib.Core.Bool.{Bool, cond, _&&_}
 use mathlib.Core.Option.{Option}
 use mathlib.Core.List.{List}
 use Prim.Native.Nat.{ℕ, zero, suc, _+_}
-use lib.Dec.{leb}
+use lib.Dec.{leb, eqb}
 use lib.ListN.{getD}
 use Rattle.terms.specs.Table.{recordOf}
 use Rattle.terms.specs.Layout.{wordAt}
@@ -30,3 +31,7 @@ numberAt l at = wordAt l (at + 2)
 
 abbrev pub recordAt : List ℕ → ℕ → Option (ℕ × ℕ)
 recordAt l at = recordOf (getD l at 0) (getD l (at + 1) 0) (getD l (at + 2) 0) (getD l (at + 2 + 1) 0)
+
+-- "local, number = abstractions between it and its binder (0 is innermost)"
+abbrev pub innermostAt : List ℕ → ℕ → Bool
+innermostAt l at = eqb (getD l at 0) 2 && eqb (numberAt l at) 0

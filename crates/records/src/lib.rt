@@ -14,13 +14,13 @@ ghost use Prim.Native.Nat.{_+_, _-_, _*_, _≤_, _<_};
 ghost use lib.ListN.{length, getD};
 ghost use lib.Seq.{sets};
 ghost use Rattle.terms.specs.Figures.{numbers, tableBytes};
-ghost use Rattle.terms.specs.Term.{Term, uses, isInnermost, isEta, Normal, Closed};
+ghost use Rattle.terms.specs.Term.{Term, uses, isEta, Normal, Closed};
 ghost use Rattle.terms.specs.Refusal.{BadLength, pattern, recipe, recipeRows};
 ghost use Rattle.terms.specs.Table.{encode, bytes, allowed, goodRecords};
 ghost use Rattle.terms.specs.Layout.{wordAt};
-ghost use Rattle.records.specs.Record.{kindOf, parts as partsOf, numberAt, recordAt};
+ghost use Rattle.records.specs.Record.{kindOf, parts as partsOf, numberAt, recordAt, innermostAt};
 ghost use Rattle.records.specs.Parts.{Whole, Ends, Reached, Ended, Tree, Divided, Lies};
-ghost use Rattle.records.specs.Tests.{Says, Tells, Equals, Head, asked, Asks, Walked};
+ghost use Rattle.records.specs.Tests.{Says, Tells, Equals, Within, EqualsAt, Head, asked, Asks, Walked};
 ghost use Rattle.records.specs.Checks.{patternRefusal, recipeRefusal, Answers, Pattern, NormalTable, Recipe, ValueTable, OneTerm, Good, Checked};
 
 // The bytes of one record.
@@ -263,7 +263,7 @@ impl Ask {
     }
 }
 
-// How a walk over a part ends: at the part's end, or where it finds a local of which what is asked doesn't hold.
+// How a walk over a part ends: at the part's end, or where it finds that what is asked of the part doesn't hold.
 pub enum Walk {
     Upto(usize),
     No,
@@ -318,65 +318,95 @@ pub fn uses_local(s: &[u8], n: usize) -> bool
     }
 }
 
-// Whether the term s is the innermost local.
-pub fn is_innermost(s: &[u8]) -> bool
-    requires { ⌜ Tree (now s) ⌝ }
-    ensures { λ r. ⌜ Equals (now (s .entry)) isInnermost r ⌝ }
+// Whether the record at byte `at` is the innermost local.
+fn innermost_at(s: &[u8], at: usize) -> bool
+    requires { ⌜ at + 4 ≤ length (now s) ⌝ }
+    ensures { λ r. ⌜ r ≡ innermostAt (now (s .entry)) at ⌝ }
 {
-    if s[0] == Kind::LOCAL.code {
-        return number_at(s, 0) == 0;
+    if s[at] == Kind::LOCAL.code {
+        return number_at(s, at) == 0;
     }
     false
 }
 
-// Whether the abstraction over s is a redex: s is an application to the innermost local, which its head doesn't use.
+// Whether the abstraction over the part from byte `at` to byte `end` is a redex: the part is an application to the innermost local, which
+// its head doesn't use. The local is then the last record, and the head ends there; most parts are ruled out by their last record alone.
+fn is_eta_at(s: &[u8], at: usize, end: usize) -> bool
+    requires { ⌜ Within (now s) at end ⌝ }
+    ensures { λ r. ⌜ EqualsAt (now (s .entry)) at end isEta r ⌝ }
+{
+    if s[at] != Kind::APPLICATION.code {
+        return false;
+    }
+    let last = end - RECORD;
+    if !innermost_at(s, last) {
+        return false;
+    }
+    let head = ask_at(s, at + RECORD, Ask::Other, 0);
+    match head {
+        Walk::Upto(h) => h == last,
+        Walk::No => false,
+    }
+}
+
+// Whether the abstraction over s is a redex.
 pub fn is_eta(s: &[u8]) -> bool
     requires { ⌜ Tree (now s) × (length (now s) ≤ tableBytes) ⌝ }
     ensures { λ r. ⌜ Equals (now (s .entry)) isEta r ⌝ }
 {
-    if s[0] != Kind::APPLICATION.code {
-        return false;
-    }
-    let h = head_end(s);
-    if is_innermost(&s[h..]) {
-        return !uses_local(&s[RECORD..h], 0);
-    }
-    false
+    is_eta_at(s, 0, s.len())
 }
 
-// Whether the term s is normal. The abstraction that is itself a redex is ruled out here, by its body; the application is ruled out by
-// `is_head`. An argument and a body may be any normal term.
+// Walks over the part at byte `at` if it is normal. The abstraction that is itself a redex is ruled out here, by its body, whose end is then
+// known; the application is ruled out by `head_at`. An argument and a body may be any normal term.
+fn normal_at(s: &[u8], at: usize) -> Walk
+    requires { ⌜ Whole (now s) at × (length (now s) ≤ at + tableBytes) ⌝ }
+    ensures { λ r. ⌜ Walked (now (s .entry)) at Normal r ⌝ }
+{
+    if s[at] == Kind::ABSTRACTION.code {
+        let below = at + RECORD;
+        let body = normal_at(s, below);
+        let Walk::Upto(end) = body else {
+            return Walk::No;
+        };
+        if is_eta_at(s, below, end) {
+            return Walk::No;
+        }
+        return Walk::Upto(end);
+    }
+    head_at(s, at)
+}
+
+// Walks over the part at byte `at` if it is normal and no abstraction, so that it may be a head. Where the head ends the argument is known
+// to begin.
+fn head_at(s: &[u8], at: usize) -> Walk
+    requires { ⌜ Whole (now s) at × (length (now s) ≤ at + tableBytes) ⌝ }
+    ensures { λ r. ⌜ Walked (now (s .entry)) at Head r ⌝ }
+{
+    let kind = s[at];
+    if kind == Kind::ABSTRACTION.code {
+        return Walk::No;
+    }
+    if kind == Kind::APPLICATION.code {
+        let head = head_at(s, at + RECORD);
+        let Walk::Upto(h) = head else {
+            return Walk::No;
+        };
+        return normal_at(s, h);
+    }
+    Walk::Upto(at + RECORD)
+}
+
+// Whether the term s is normal.
 pub fn is_normal(s: &[u8]) -> bool
     requires { ⌜ Tree (now s) × (length (now s) ≤ tableBytes) ⌝ }
     ensures { λ r. ⌜ Tells (now (s .entry)) Normal r ⌝ }
 {
-    if s[0] == Kind::ABSTRACTION.code {
-        let body = body_of(s);
-        if is_eta(body) {
-            return false;
-        }
-        return is_normal(body);
+    let walk = normal_at(s, 0);
+    match walk {
+        Walk::Upto(_) => true,
+        Walk::No => false,
     }
-    is_head(s)
-}
-
-// Whether the term s is normal and no abstraction, so that it may be a head. Where the head ends is found by one pass over it.
-pub fn is_head(s: &[u8]) -> bool
-    requires { ⌜ Tree (now s) × (length (now s) ≤ tableBytes) ⌝ }
-    ensures { λ r. ⌜ Tells (now (s .entry)) Head r ⌝ }
-{
-    let k = s[0];
-    if k == Kind::ABSTRACTION.code {
-        return false;
-    }
-    if k == Kind::APPLICATION.code {
-        let h = head_end(s);
-        if is_head(&s[RECORD..h]) {
-            return is_normal(&s[h..]);
-        }
-        return false;
-    }
-    true
 }
 
 // Document 01's figures. A contract below cites each by its name in `terms`, and holds only if the two agree.

@@ -27,7 +27,7 @@ use Rattle.abstractions.specs.Bodies.{chosenIn}
 use Rattle.assignments.specs.declared.Entry.{Entry}
 use Rattle.agenda.specs.declared.Agenda.{Agenda}
 use Rattle.agenda.specs.State.{Chain, GoalAt, State, Sat}
-use Rattle.agenda.specs.Branches.{Way, Ways, Choices, Copies, Chosen}
+use Rattle.agenda.specs.Branches.{Way, HasWays, Choices, Copies, Chosen}
 
 -- every goal of a list can be listed
 goal-listable : (P W : List ℕ) (top at : ℕ) (g : Goal) → GoalAt P W top at g → Listable variables (OccursIn P) g
@@ -57,7 +57,7 @@ module _ (k : ℕ) (P W : List ℕ) (s : Agenda) (a : List Entry) where
 
   -- the ways of an application
   pub ways-all :
-      (gs hs : List Goal) (l : Line) (n : ℕ) → State k P W s a gs hs l → Ways n hs → (φ : ℕ → Term) → Values φ
+      (gs hs : List Goal) (l : Line) (n : ℕ) → State k P W s a gs hs l → HasWays n hs → (φ : ℕ → Term) → Values φ
       → Sat gs hs l φ ↔ Under (λ i. Way i gs hs l) n φ
   ways-all gs [] l n x w φ v = absurd w
   ways-all gs (match (app f e) t ∷ hs) l n x w φ v =

@@ -15,15 +15,17 @@ use Rattle.terms.specs.Listing.{Line}
 use Rattle.matching.proofs.Decide.{by-dec}
 use Rattle.matching.proofs.Lists.{Under}
 use Rattle.matching.proofs.Goals.{Goal, All}
+use Rattle.records.specs.Parts.{Ends}
 use Rattle.assignments.specs.declared.Entry.{Entry}
 use Rattle.listing.specs.declared.Tally.{Tally}
 use Rattle.listing.specs.Outcome.{Holds, outcome, Finds, Found}
 use Rattle.listing.proofs.Stores.{found-tally}
 use Rattle.agenda.specs.declared.Agenda.{Agenda}
+use Rattle.agenda.specs.declared.Ways.{Ways}
 use Rattle.agenda.specs.State.{Easy, Hard, Chain, State, Sat, Bounds, Ready, relinking}
 use Rattle.agenda.specs.Moves.{Question, Move, Failed}
-use Rattle.agenda.specs.Branches.{Way, Ways, Choices, Copies, Chosen, Forwarded}
-use Rattle.agenda.specs.Applications.{Matches}
+use Rattle.agenda.specs.Branches.{Way, HasWays, Choices, Copies, Chosen, Forwarded}
+use Rattle.agenda.specs.Applications.{Matches, Counted}
 use Rattle.agenda.specs.Builds.{Builds}
 use Rattle.agenda.proofs.Frame.{Kept, state-kept}
 use Rattle.search.specs.Collected.{Tallied}
@@ -131,12 +133,28 @@ begins-kept k P W s a limit L X done W₁ L₁ X₁ r e n m o u w b =
     }
 
 -- which goal is the first is kept too
+byte-kept : (W : List ℕ) (s : Agenda) (W₁ : List ℕ) (i : ℕ) → i < s .top → take (s .top) W₁ ≡ take (s .top) W → getD W₁ i 0 ≡ getD W i 0
+byte-kept W s W₁ i h e = sym (getD-take (s .top) W₁ i 0 h) ∙ ap (λ (l : List ℕ). getD l i 0) e ∙ getD-take (s .top) W i 0 h
+
 kind-kept : (P W : List ℕ) (s : Agenda) (W₁ : List ℕ) → Bounds P W s → take (s .top) W₁ ≡ take (s .top) W → getD W₁ (s .hard + 1) 0 ≡ getD W (s .hard + 1) 0
-kind-kept P W s W₁ b e =
-    sym (getD-take (s .top) W₁ (s .hard + 1) 0 (omega (arith, b .hard-room))) ∙ ap (λ (l : List ℕ). getD l (s .hard + 1) 0) e ∙ getD-take (s .top) W (s .hard + 1) 0 (omega (arith, b .hard-room))
+kind-kept P W s W₁ b e = byte-kept W s W₁ (s .hard + 1) (omega (arith, b .hard-room)) e
 
 pub matches-kept : (P W : List ℕ) (s : Agenda) (a : List Entry) (W₁ : List ℕ) → take (s .top) W₁ ≡ take (s .top) W → Ready relinking P W₁ s a → Matches P W s a → Matches P W₁ s a
 matches-kept P W s a W₁ e r x = record { ready = r; some-hard = x .some-hard; kind = kind-kept P W s W₁ (x .ready .bounds) e ∙ x .kind }
+
+pub counted-kept :
+    (P W : List ℕ) (s : Agenda) (a : List Entry) (W₁ : List ℕ) (w : Ways) → take (s .top) W₁ ≡ take (s .top) W → length W₁ ≡ length W → Bounds P W s
+    → Counted P W s a w → Counted P W₁ s a w
+counted-kept P W s a W₁ w e n b c = record {
+  ways = λ gs hs l x. c .ways gs hs l (back gs hs l x);
+  argument = subst (λ (i : ℕ). Ends P (4 * i + 4) (w .argument)) (sym (byte-kept W s W₁ (s .hard) (omega (arith, b .hard-room)) e)) (c .argument);
+  rigid-argument = c .rigid-argument;
+  depths-are = λ gs hs l x. c .depths-are gs hs l (back gs hs l x);
+  lacking-head = λ q gs hs l x. c .lacking-head q gs hs l (back gs hs l x);
+}
+  where
+    back : (gs hs : List Goal) (l : Line) → State relinking P W₁ s a gs hs l → State relinking P W s a gs hs l
+    back gs hs l = state-kept relinking P W₁ W s a gs hs l (record { same = sym e; from = omega (arith, b .whole, b .top, n); to = omega (arith, b .whole, b .top) })
 
 pub builds-kept : (P W : List ℕ) (s : Agenda) (W₁ : List ℕ) → Bounds P W s → take (s .top) W₁ ≡ take (s .top) W → Builds W s → Builds W₁ s
 builds-kept P W s W₁ b e x = record { none-easy = x .none-easy; some-hard = x .some-hard; kind = λ q. x .kind (sym (kind-kept P W s W₁ b e) ∙ q) }
@@ -201,7 +219,7 @@ module _ (P W : List ℕ) (s : Agenda) (a : List Entry) (limit : ℕ) (L X : Lis
         from gs hs l φ (inl (j, u, w)) = (j, omega arith, w)
         from gs hs l φ (inr w) = (i, omega arith, w)
 
-    module _ (w : (gs hs : List Goal) (l : Line) → State relinking P W s a gs hs l → Ways n hs) where
+    module _ (w : (gs hs : List Goal) (l : Line) → State relinking P W s a gs hs l → HasWays n hs) where
       -- all ways were gone through
       pub going-end : n ≤ i → Searched relinking Sat P W s a limit L X done W₁ L₁ X₁ r
       going-end h = record {

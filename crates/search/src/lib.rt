@@ -12,15 +12,15 @@ use agenda::ITEM;
 use agenda::Item;
 use agenda::Plan;
 use agenda::Step;
+use agenda::Ways;
 use assignments::Entry;
 use listing::Tally;
 use records::VALUE_RECORDS;
 ghost use mathlib.Core.Path.{_≡_};
-ghost use Prim.Native.Nat.{_+_, _<_};
-ghost use Rattle.terms.specs.Figures.{valueRecords};
+ghost use Prim.Native.Nat.{_<_};
 ghost use Rattle.agenda.specs.State.{Sat, relinking};
 ghost use Rattle.agenda.specs.Branches.{Way, Choices, Chosen};
-ghost use Rattle.agenda.specs.Applications.{Matches};
+ghost use Rattle.agenda.specs.Applications.{Matches, Counted};
 ghost use Rattle.agenda.specs.Builds.{Builds};
 ghost use Rattle.search.specs.Collected.{Collects, Collected};
 ghost use Rattle.search.specs.Searched.{Begins, Searched};
@@ -66,15 +66,16 @@ fn attempt(
     s: Agenda,
     a: [Entry; 8],
     i: usize,
+    w: Ways,
     limit: usize,
     lines: &mut [u8],
     values: &mut [u8],
     done: Tally,
 ) -> Tally
-    requires { ⌜ Begins relinking (now p) (now work) s a limit (now lines) (now values) done × Matches (now p) (now work) s a × (i < valueRecords + 2) ⌝ }
+    requires { ⌜ Begins relinking (now p) (now work) s a limit (now lines) (now values) done × Matches (now p) (now work) s a × Counted (now p) (now work) s a w × (i < w .count) ⌝ }
     ensures { λ r. ⌜ Searched relinking (Way i) (now (p .entry)) (now (work .entry)) s a limit (now (lines .entry)) (now (values .entry)) done (now (work .exit)) (now (lines .exit)) (now (values .exit)) r ⌝ }
 {
-    let taken = agenda::alternatives::way(p, work, s, a, i);
+    let taken = agenda::alternatives::way(p, work, s, a, i, w);
     let Branch::Next(next) = taken else {
         return done;
     };
@@ -95,14 +96,14 @@ fn flexible(
     requires { ⌜ Begins relinking (now p) (now work) s a limit (now lines) (now values) done × Matches (now p) (now work) s a ⌝ }
     ensures { λ r. ⌜ Searched relinking Sat (now (p .entry)) (now (work .entry)) s a limit (now (lines .entry)) (now (values .entry)) done (now (work .exit)) (now (lines .exit)) (now (values .exit)) r ⌝ }
 {
-    let n = agenda::alternatives::ways(p, work, s, a);
+    let w = agenda::alternatives::ways(p, work, s, a);
     let mut found = done;
     let mut i = 0;
-    while i < n {
+    while i < w.count {
         if limit < found.lines {
             return found;
         }
-        found = attempt(p, work, s, a, i, limit, lines, values, found);
+        found = attempt(p, work, s, a, i, w, limit, lines, values, found);
         i += 1;
     }
     found

@@ -4,6 +4,7 @@
 --   count k t                             how often t uses local k
 --   Fits t                                each local of t has a number that a record holds
 --   Source g l at k room o                a term t stands in l from byte `at` on, and g k t can be written from byte o on, before byte `room`
+--   Single l at                           the part of l at byte `at` is one record: it is neither application nor abstraction
 --   Wrote g l at k out o after next end   g k t was written into out from byte o on, for the term t that stands in l from byte `at` on
 --   Substitution b at k e out o           what writing `replace e` needs, e given by its table
 --   Used l at k next n                    the term that stands in l from byte `at` on uses local k n times
@@ -13,7 +14,7 @@ use mathlib.Core.Bool.{Bool, true, false, cond}
 use mathlib.Core.List.{List}
 use Prim.Native.Nat.{ℕ, suc, _+_, _*_, _≤_, _<_}
 use lib.Dec.{eqb}
-use lib.ListN.{length}
+use lib.ListN.{length, getD}
 use lib.Seq.{sets}
 use Rattle.terms.specs.Figures.{numbers}
 use Rattle.terms.specs.Term.{Term, app, lam, loc, con, var, size, substitute}
@@ -46,6 +47,10 @@ pub record Source (g : ℕ → Term → Term) (l : List ℕ) (at k room o : ℕ)
   pub enough : o + 4 * size (g k tree) ≤ room
   pub least : at + 4 ≤ length l
   pub first : o + 4 ≤ room
+
+pub record Single (l : List ℕ) (at : ℕ) : Type 0 where
+  pub no-application : ¬ (getD l at 0 ≡ 0)
+  pub no-abstraction : ¬ (getD l at 0 ≡ 1)
 
 pub record Wrote (g : ℕ → Term → Term) (l : List ℕ) (at k : ℕ) (out : List ℕ) (o : ℕ) (after : List ℕ) (next end : ℕ) : Type 0 where
   pub ends : Ends l at next

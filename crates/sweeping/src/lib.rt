@@ -19,7 +19,7 @@ ghost use Rattle.terms.specs.Table.{encode};
 ghost use Rattle.terms.specs.Sweep.{headOf};
 ghost use Rattle.records.specs.Parts.{Whole};
 ghost use Rattle.assignments.specs.Entries.{Given};
-ghost use Rattle.sweeping.specs.Writers.{replace, Fits, Source, Wrote, Substitution, Used, Same};
+ghost use Rattle.sweeping.specs.Writers.{replace, Fits, Source, Single, Wrote, Substitution, Used, Same};
 ghost use Rattle.sweeping.specs.Swept.{Written, Applied, Applies, Abstracted, Abstracts, Assigned, Ready, Fillable, Sweeps};
 
 // The bytes of a swept form of 256 records, the longest that is written.
@@ -83,6 +83,27 @@ fn shifted(n: usize, d: usize, c: usize) -> usize
     n + d
 }
 
+// Writes the part of s at byte `at`, which is one record, shifted by d from local c on, into out from byte o on.
+pub fn shift_leaf_into(s: &[u8], at: usize, d: usize, c: usize, out: &mut [u8], o: usize) -> Place
+    requires { ⌜ Source (shift d) (now s) at c (length (now out)) o × Single (now s) at ⌝ }
+    ensures { λ r. ⌜ Wrote (shift d) (now (s .entry)) at c (now (out .entry)) o (now (out .exit)) (r .next) (r .end) ⌝ }
+{
+    let kind = s[at];
+    let n = records::number_at(s, at);
+    if kind == Kind::LOCAL.code {
+        records::put_record(out, o, Kind::LOCAL, shifted(n, d, c));
+        return Place {
+            next: at + RECORD,
+            end: o + RECORD,
+        };
+    }
+    records::put_record(out, o, Kind { code: kind }, n);
+    Place {
+        next: at + RECORD,
+        end: o + RECORD,
+    }
+}
+
 // Writes the part of s at byte `at`, shifted by d from local c on, into out from byte o on.
 pub fn shift_into(s: &[u8], at: usize, d: usize, c: usize, out: &mut [u8], o: usize) -> Place
     requires { ⌜ Source (shift d) (now s) at c (length (now out)) o ⌝ }
@@ -98,19 +119,7 @@ pub fn shift_into(s: &[u8], at: usize, d: usize, c: usize, out: &mut [u8], o: us
         records::put_record(out, o, Kind::ABSTRACTION, 0);
         return shift_into(s, at + RECORD, d, c + 1, out, o + RECORD);
     }
-    let n = records::number_at(s, at);
-    if kind == Kind::LOCAL.code {
-        records::put_record(out, o, Kind::LOCAL, shifted(n, d, c));
-        return Place {
-            next: at + RECORD,
-            end: o + RECORD,
-        };
-    }
-    records::put_record(out, o, Kind { code: kind }, n);
-    Place {
-        next: at + RECORD,
-        end: o + RECORD,
-    }
+    shift_leaf_into(s, at, d, c, out, o)
 }
 
 // The number of local n, which is not k, where a term was put for local k.

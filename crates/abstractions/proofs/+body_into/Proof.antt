@@ -13,9 +13,9 @@ use Rattle.abstractions.proofs.body_into.Reads as body-into
 use Rattle.abstractions.proofs.body_into.Kinds as body-into-kinds
 use Rattle.abstractions.proofs.+body_into.Lts-body_into as body-into-lts
 use Rattle.abstractions.proofs.choice_into.Reads as choice-into-reads
-use Rattle.abstractions.proofs.is_shifted.Reads as is-shifted-reads
+use Rattle.abstractions.proofs.copy_end.Reads as copy-end-reads
 use Rattle.records.proofs.put_record.Reads as put-record-reads
-use Rattle.sweeping.proofs.shift_into.Reads as shift-into-reads
+use Rattle.sweeping.proofs.shift_leaf_into.Reads as shift-leaf-into-reads
 use Rattle.abstractions.proofs.+body_into.{statement}
 use Rattle.abstractions.proofs.+body_into.Tie.{close}
 
@@ -29,373 +29,373 @@ abbrev body-into-below : ℕ → In 3 body-into-kinds.ps
 body-into-below t =
     and 3 body-into-kinds.ps (falls 3 body-into-kinds.ps _<_ μ-body-into t) body-into.Pre
 
-body-into-is-shifted-requires : (t : ℕ) → body-into-lts.Need-is-shifted-requires (
-  is-shifted-reads.Asked,
-  is-shifted-reads.Learnt,
+body-into-copy-end-requires : (t : ℕ) → body-into-lts.Need-copy-end-requires (
+  copy-end-reads.Asked,
+  copy-end-reads.Learnt,
   choice-into-reads.Asked,
   choice-into-reads.Learnt,
   put-record-reads.Asked,
   put-record-reads.Learnt,
   body-into-below t,
   body-into.Post,
-  shift-into-reads.Asked,
-  shift-into-reads.Learnt,
+  shift-leaf-into-reads.Asked,
+  shift-leaf-into-reads.Learnt,
 ) (body-into-at t) body-into.Post
-body-into-is-shifted-requires t c κs = choosing-compares _ _ _ _ _ _ _ _ (c .before .before .before .pre .1)
+body-into-copy-end-requires t c κs = choosing-compares _ _ _ _ _ _ _ _ (c .before .before .before .pre .1)
 
 body-into-enum-known-copy : (t : ℕ) → body-into-lts.Need-enum-known-copy (
-  is-shifted-reads.Asked,
-  is-shifted-reads.Learnt,
+  copy-end-reads.Asked,
+  copy-end-reads.Learnt,
   choice-into-reads.Asked,
   choice-into-reads.Learnt,
   put-record-reads.Asked,
   put-record-reads.Learnt,
   body-into-below t,
   body-into.Post,
-  shift-into-reads.Asked,
-  shift-into-reads.Learnt,
+  shift-leaf-into-reads.Asked,
+  shift-leaf-into-reads.Learnt,
 ) (body-into-at t) body-into.Post
 body-into-enum-known-copy t c = search needs
 
 body-into-choice-into-requires : (t : ℕ) → body-into-lts.Need-choice-into-requires (
-  is-shifted-reads.Asked,
-  is-shifted-reads.Learnt,
+  copy-end-reads.Asked,
+  copy-end-reads.Learnt,
   choice-into-reads.Asked,
   choice-into-reads.Learnt,
   put-record-reads.Asked,
   put-record-reads.Learnt,
   body-into-below t,
   body-into.Post,
-  shift-into-reads.Asked,
-  shift-into-reads.Learnt,
+  shift-leaf-into-reads.Asked,
+  shift-leaf-into-reads.Learnt,
 ) (body-into-at t) body-into.Post
 body-into-choice-into-requires t c κs = (c .before .before .before .before .before .before .before .before .pre .1 .source, choosing-choice _ _ _ _ _ _ _ _ (c .before .before .before .before .before .before .before .before .pre .1))
 
 body-into-add-t17 : (t : ℕ) → body-into-lts.Need-add-t17 (
-  is-shifted-reads.Asked,
-  is-shifted-reads.Learnt,
+  copy-end-reads.Asked,
+  copy-end-reads.Learnt,
   choice-into-reads.Asked,
   choice-into-reads.Learnt,
   put-record-reads.Asked,
   put-record-reads.Learnt,
   body-into-below t,
   body-into.Post,
-  shift-into-reads.Asked,
-  shift-into-reads.Learnt,
+  shift-leaf-into-reads.Asked,
+  shift-leaf-into-reads.Learnt,
 ) (body-into-at t) body-into.Post
 body-into-add-t17 t c = omega (arith, choosing-choice _ _ _ _ _ _ _ _ (c .before .before .before .before .before .before .before .before .before .before .before .pre .1))
 
 body-into-same-length : (t : ℕ) → body-into-lts.Need-same-length (
-  is-shifted-reads.Asked,
-  is-shifted-reads.Learnt,
+  copy-end-reads.Asked,
+  copy-end-reads.Learnt,
   choice-into-reads.Asked,
   choice-into-reads.Learnt,
   put-record-reads.Asked,
   put-record-reads.Learnt,
   body-into-below t,
   body-into.Post,
-  shift-into-reads.Asked,
-  shift-into-reads.Learnt,
+  shift-leaf-into-reads.Asked,
+  shift-leaf-into-reads.Learnt,
 ) (body-into-at t) body-into.Post
 body-into-same-length t c = c .before .before .choice-into .kept .1 .1 .1 .1 .1 .0
 
 body-into-returns : (t : ℕ) → body-into-lts.Need-returns (
-  is-shifted-reads.Asked,
-  is-shifted-reads.Learnt,
+  copy-end-reads.Asked,
+  copy-end-reads.Learnt,
   choice-into-reads.Asked,
   choice-into-reads.Learnt,
   put-record-reads.Asked,
   put-record-reads.Learnt,
   body-into-below t,
   body-into.Post,
-  shift-into-reads.Asked,
-  shift-into-reads.Learnt,
+  shift-leaf-into-reads.Asked,
+  shift-leaf-into-reads.Learnt,
 ) (body-into-at t) body-into.Post
-body-into-returns t c = body-copy _ _ _ _ _ _ _ _ _ _ _ _ (c .before .before .before .before .before .copy .given .1) (c .before .before .before .before .before .before .before .is-shifted .ensures) (choosing-whole _ _ _ _ _ _ _ _ (c .before .before .before .before .before .before .before .before .before .before .before .pre .1)) (c .before .before .choice-into .ensures)
+body-into-returns t c = body-copy _ _ _ _ _ _ _ _ _ _ _ _ (c .before .before .before .before .before .copy .given .1) (c .before .before .before .before .before .before .before .copy-end .ensures) (choosing-whole _ _ _ _ _ _ _ _ (c .before .before .before .before .before .before .before .before .before .before .before .pre .1)) (c .before .before .choice-into .ensures)
 
 body-into-enum-told : (t : ℕ) → body-into-lts.Need-enum-told (
-  is-shifted-reads.Asked,
-  is-shifted-reads.Learnt,
+  copy-end-reads.Asked,
+  copy-end-reads.Learnt,
   choice-into-reads.Asked,
   choice-into-reads.Learnt,
   put-record-reads.Asked,
   put-record-reads.Learnt,
   body-into-below t,
   body-into.Post,
-  shift-into-reads.Asked,
-  shift-into-reads.Learnt,
+  shift-leaf-into-reads.Asked,
+  shift-leaf-into-reads.Learnt,
 ) (body-into-at t) body-into.Post
 body-into-enum-told t c = search needs
 
 body-into-shared-slice-read-kind : (t : ℕ) → body-into-lts.Need-shared-slice-read-kind (
-  is-shifted-reads.Asked,
-  is-shifted-reads.Learnt,
+  copy-end-reads.Asked,
+  copy-end-reads.Learnt,
   choice-into-reads.Asked,
   choice-into-reads.Learnt,
   put-record-reads.Asked,
   put-record-reads.Learnt,
   body-into-below t,
   body-into.Post,
-  shift-into-reads.Asked,
-  shift-into-reads.Learnt,
+  shift-leaf-into-reads.Asked,
+  shift-leaf-into-reads.Learnt,
 ) (body-into-at t) body-into.Post
 body-into-shared-slice-read-kind t c = omega (arith, c .before .before .before .before .before .before .before .pre .1 .source .least)
 
 body-into-put-record-requires : (t : ℕ) → body-into-lts.Need-put-record-requires (
-  is-shifted-reads.Asked,
-  is-shifted-reads.Learnt,
+  copy-end-reads.Asked,
+  copy-end-reads.Learnt,
   choice-into-reads.Asked,
   choice-into-reads.Learnt,
   put-record-reads.Asked,
   put-record-reads.Learnt,
   body-into-below t,
   body-into.Post,
-  shift-into-reads.Asked,
-  shift-into-reads.Learnt,
+  shift-leaf-into-reads.Asked,
+  shift-leaf-into-reads.Learnt,
 ) (body-into-at t) body-into.Post
 body-into-put-record-requires t c κs = omega (arith, c .before .before .before .before .before .before .before .before .before .before .pre .1 .source .first)
 
 body-into-add-body-into : (t : ℕ) → body-into-lts.Need-add-body-into (
-  is-shifted-reads.Asked,
-  is-shifted-reads.Learnt,
+  copy-end-reads.Asked,
+  copy-end-reads.Learnt,
   choice-into-reads.Asked,
   choice-into-reads.Learnt,
   put-record-reads.Asked,
   put-record-reads.Learnt,
   body-into-below t,
   body-into.Post,
-  shift-into-reads.Asked,
-  shift-into-reads.Learnt,
+  shift-leaf-into-reads.Asked,
+  shift-leaf-into-reads.Learnt,
 ) (body-into-at t) body-into.Post
 body-into-add-body-into t c = search needs
 
 body-into-add-body-into-2 : (t : ℕ) → body-into-lts.Need-add-body-into-2 (
-  is-shifted-reads.Asked,
-  is-shifted-reads.Learnt,
+  copy-end-reads.Asked,
+  copy-end-reads.Learnt,
   choice-into-reads.Asked,
   choice-into-reads.Learnt,
   put-record-reads.Asked,
   put-record-reads.Learnt,
   body-into-below t,
   body-into.Post,
-  shift-into-reads.Asked,
-  shift-into-reads.Learnt,
+  shift-leaf-into-reads.Asked,
+  shift-leaf-into-reads.Learnt,
 ) (body-into-at t) body-into.Post
 body-into-add-body-into-2 t c = search needs
 
 body-into-body-into-requires : (t : ℕ) → body-into-lts.Need-body-into-requires (
-  is-shifted-reads.Asked,
-  is-shifted-reads.Learnt,
+  copy-end-reads.Asked,
+  copy-end-reads.Learnt,
   choice-into-reads.Asked,
   choice-into-reads.Learnt,
   put-record-reads.Asked,
   put-record-reads.Learnt,
   body-into-below t,
   body-into.Post,
-  shift-into-reads.Asked,
-  shift-into-reads.Learnt,
+  shift-leaf-into-reads.Asked,
+  shift-leaf-into-reads.Learnt,
 ) (body-into-at t) body-into.Post
 body-into-body-into-requires t c κs = (omega (arith, c .before .before .before .before .before .before .before .before .before .before .before .before .before .before .pre .1 .source .least), choosing-head _ _ _ _ _ _ _ _ (c .before .before .before .before .before .before .before .before .before .before .before .before .before .before .pre .1) _ (c .before .before .before .put-record .kept .0) (c .before .before .before .before .before .if1 .taken))
 
 body-into-body-into-requires-2 : (t : ℕ) → body-into-lts.Need-body-into-requires-2 (
-  is-shifted-reads.Asked,
-  is-shifted-reads.Learnt,
+  copy-end-reads.Asked,
+  copy-end-reads.Learnt,
   choice-into-reads.Asked,
   choice-into-reads.Learnt,
   put-record-reads.Asked,
   put-record-reads.Learnt,
   body-into-below t,
   body-into.Post,
-  shift-into-reads.Asked,
-  shift-into-reads.Learnt,
+  shift-leaf-into-reads.Asked,
+  shift-leaf-into-reads.Learnt,
 ) (body-into-at t) body-into.Post
 body-into-body-into-requires-2 t c κs = let w = c .before .before .before .body-into .ensures in
     (omega (arith, w .ends .more, w .ends .within), choosing-argument _ _ _ _ _ _ _ _ (c .before .before .before .before .before .before .before .before .before .before .before .before .before .before .before .before .before .before .pre .1) _ (c .before .before .before .body-into .kept .1 .1 .1 .1 .1 .1 .0 ∙ c .before .before .before .before .before .before .before .put-record .kept .0) _ _ _ _ _ _ (c .before .before .before .before .before .before .before .before .before .if1 .taken) w)
 
 body-into-same-length-2 : (t : ℕ) → body-into-lts.Need-same-length-2 (
-  is-shifted-reads.Asked,
-  is-shifted-reads.Learnt,
+  copy-end-reads.Asked,
+  copy-end-reads.Learnt,
   choice-into-reads.Asked,
   choice-into-reads.Learnt,
   put-record-reads.Asked,
   put-record-reads.Learnt,
   body-into-below t,
   body-into.Post,
-  shift-into-reads.Asked,
-  shift-into-reads.Learnt,
+  shift-leaf-into-reads.Asked,
+  shift-leaf-into-reads.Learnt,
 ) (body-into-at t) body-into.Post
 body-into-same-length-2 t c = c .before .before .body-into2 .kept .1 .1 .1 .1 .1 .1 .0 ∙ c .before .before .before .before .before .before .body-into .kept .1 .1 .1 .1 .1 .1 .0 ∙ c .before .before .before .before .before .before .before .before .before .before .put-record .kept .0
 
 body-into-returns-2 : (t : ℕ) → body-into-lts.Need-returns-2 (
-  is-shifted-reads.Asked,
-  is-shifted-reads.Learnt,
+  copy-end-reads.Asked,
+  copy-end-reads.Learnt,
   choice-into-reads.Asked,
   choice-into-reads.Learnt,
   put-record-reads.Asked,
   put-record-reads.Learnt,
   body-into-below t,
   body-into.Post,
-  shift-into-reads.Asked,
-  shift-into-reads.Learnt,
+  shift-leaf-into-reads.Asked,
+  shift-leaf-into-reads.Learnt,
 ) (body-into-at t) body-into.Post
-body-into-returns-2 t c = body-application _ _ _ _ _ _ _ _ (no-copy _ _ _ _ _ (c .before .before .before .before .before .before .before .before .before .before .before .before .before .before .before .enum-told .given .1) (c .before .before .before .before .before .before .before .before .before .before .before .before .before .before .before .before .before .is-shifted .ensures)) _ _ _ _ _ _ _ _ _ (c .before .before .before .before .before .before .before .before .before .before .before .before .if1 .taken) (c .before .before .before .before .before .before .before .before .before .before .put-record .ensures) (c .before .before .before .before .before .before .body-into .ensures) (c .before .before .body-into2 .ensures)
+body-into-returns-2 t c = body-application _ _ _ _ _ _ _ _ (no-copy _ _ _ _ _ (c .before .before .before .before .before .before .before .before .before .before .before .before .before .before .before .enum-told .given .1) (c .before .before .before .before .before .before .before .before .before .before .before .before .before .before .before .before .before .copy-end .ensures)) _ _ _ _ _ _ _ _ _ (c .before .before .before .before .before .before .before .before .before .before .before .before .if1 .taken) (c .before .before .before .before .before .before .before .before .before .before .put-record .ensures) (c .before .before .before .before .before .before .body-into .ensures) (c .before .before .body-into2 .ensures)
 
 body-into-put-record-requires-2 : (t : ℕ) → body-into-lts.Need-put-record-requires-2 (
-  is-shifted-reads.Asked,
-  is-shifted-reads.Learnt,
+  copy-end-reads.Asked,
+  copy-end-reads.Learnt,
   choice-into-reads.Asked,
   choice-into-reads.Learnt,
   put-record-reads.Asked,
   put-record-reads.Learnt,
   body-into-below t,
   body-into.Post,
-  shift-into-reads.Asked,
-  shift-into-reads.Learnt,
+  shift-leaf-into-reads.Asked,
+  shift-leaf-into-reads.Learnt,
 ) (body-into-at t) body-into.Post
 body-into-put-record-requires-2 t c κs = omega (arith, c .before .before .before .before .before .before .before .before .before .before .before .before .pre .1 .source .first)
 
 body-into-add-body-into-3 : (t : ℕ) → body-into-lts.Need-add-body-into-3 (
-  is-shifted-reads.Asked,
-  is-shifted-reads.Learnt,
+  copy-end-reads.Asked,
+  copy-end-reads.Learnt,
   choice-into-reads.Asked,
   choice-into-reads.Learnt,
   put-record-reads.Asked,
   put-record-reads.Learnt,
   body-into-below t,
   body-into.Post,
-  shift-into-reads.Asked,
-  shift-into-reads.Learnt,
+  shift-leaf-into-reads.Asked,
+  shift-leaf-into-reads.Learnt,
 ) (body-into-at t) body-into.Post
 body-into-add-body-into-3 t c = search needs
 
 body-into-add-body-into-4 : (t : ℕ) → body-into-lts.Need-add-body-into-4 (
-  is-shifted-reads.Asked,
-  is-shifted-reads.Learnt,
+  copy-end-reads.Asked,
+  copy-end-reads.Learnt,
   choice-into-reads.Asked,
   choice-into-reads.Learnt,
   put-record-reads.Asked,
   put-record-reads.Learnt,
   body-into-below t,
   body-into.Post,
-  shift-into-reads.Asked,
-  shift-into-reads.Learnt,
+  shift-leaf-into-reads.Asked,
+  shift-leaf-into-reads.Learnt,
 ) (body-into-at t) body-into.Post
 body-into-add-body-into-4 t c = omega (arith, c .before .before .before .before .before .before .before .before .before .before .before .before .before .before .before .pre .1 .source .shallow)
 
 body-into-add-body-into-5 : (t : ℕ) → body-into-lts.Need-add-body-into-5 (
-  is-shifted-reads.Asked,
-  is-shifted-reads.Learnt,
+  copy-end-reads.Asked,
+  copy-end-reads.Learnt,
   choice-into-reads.Asked,
   choice-into-reads.Learnt,
   put-record-reads.Asked,
   put-record-reads.Learnt,
   body-into-below t,
   body-into.Post,
-  shift-into-reads.Asked,
-  shift-into-reads.Learnt,
+  shift-leaf-into-reads.Asked,
+  shift-leaf-into-reads.Learnt,
 ) (body-into-at t) body-into.Post
 body-into-add-body-into-5 t c = search needs
 
 body-into-body-into-requires-3 : (t : ℕ) → body-into-lts.Need-body-into-requires-3 (
-  is-shifted-reads.Asked,
-  is-shifted-reads.Learnt,
+  copy-end-reads.Asked,
+  copy-end-reads.Learnt,
   choice-into-reads.Asked,
   choice-into-reads.Learnt,
   put-record-reads.Asked,
   put-record-reads.Learnt,
   body-into-below t,
   body-into.Post,
-  shift-into-reads.Asked,
-  shift-into-reads.Learnt,
+  shift-leaf-into-reads.Asked,
+  shift-leaf-into-reads.Learnt,
 ) (body-into-at t) body-into.Post
 body-into-body-into-requires-3 t c κs = (omega (arith, c .before .before .before .before .before .before .before .before .before .before .before .before .before .before .before .before .pre .1 .source .least), choosing-body _ _ _ _ _ _ _ _ (c .before .before .before .before .before .before .before .before .before .before .before .before .before .before .before .before .pre .1) _ (c .before .before .before .put-record2 .kept .0) (c .before .before .before .before .before .if2 .taken))
 
 body-into-same-length-3 : (t : ℕ) → body-into-lts.Need-same-length-3 (
-  is-shifted-reads.Asked,
-  is-shifted-reads.Learnt,
+  copy-end-reads.Asked,
+  copy-end-reads.Learnt,
   choice-into-reads.Asked,
   choice-into-reads.Learnt,
   put-record-reads.Asked,
   put-record-reads.Learnt,
   body-into-below t,
   body-into.Post,
-  shift-into-reads.Asked,
-  shift-into-reads.Learnt,
+  shift-leaf-into-reads.Asked,
+  shift-leaf-into-reads.Learnt,
 ) (body-into-at t) body-into.Post
 body-into-same-length-3 t c = c .before .before .body-into3 .kept .1 .1 .1 .1 .1 .1 .0 ∙ c .before .before .before .before .before .before .put-record2 .kept .0
 
 body-into-returns-3 : (t : ℕ) → body-into-lts.Need-returns-3 (
-  is-shifted-reads.Asked,
-  is-shifted-reads.Learnt,
+  copy-end-reads.Asked,
+  copy-end-reads.Learnt,
   choice-into-reads.Asked,
   choice-into-reads.Learnt,
   put-record-reads.Asked,
   put-record-reads.Learnt,
   body-into-below t,
   body-into.Post,
-  shift-into-reads.Asked,
-  shift-into-reads.Learnt,
+  shift-leaf-into-reads.Asked,
+  shift-leaf-into-reads.Learnt,
 ) (body-into-at t) body-into.Post
-body-into-returns-3 t c = body-abstraction _ _ _ _ _ _ _ _ (no-copy _ _ _ _ _ (c .before .before .before .before .before .before .before .before .before .before .before .before .before .enum-told .given .1) (c .before .before .before .before .before .before .before .before .before .before .before .before .before .before .before .is-shifted .ensures)) _ _ _ _ _ (c .before .before .before .before .before .before .before .before .if2 .taken) (c .before .before .before .before .before .before .put-record2 .ensures) (c .before .before .body-into3 .ensures)
+body-into-returns-3 t c = body-abstraction _ _ _ _ _ _ _ _ (no-copy _ _ _ _ _ (c .before .before .before .before .before .before .before .before .before .before .before .before .before .enum-told .given .1) (c .before .before .before .before .before .before .before .before .before .before .before .before .before .before .before .copy-end .ensures)) _ _ _ _ _ (c .before .before .before .before .before .before .before .before .if2 .taken) (c .before .before .before .before .before .before .put-record2 .ensures) (c .before .before .body-into3 .ensures)
 
-body-into-shift-into-requires : (t : ℕ) → body-into-lts.Need-shift-into-requires (
-  is-shifted-reads.Asked,
-  is-shifted-reads.Learnt,
+body-into-shift-leaf-into-requires : (t : ℕ) → body-into-lts.Need-shift-leaf-into-requires (
+  copy-end-reads.Asked,
+  copy-end-reads.Learnt,
   choice-into-reads.Asked,
   choice-into-reads.Learnt,
   put-record-reads.Asked,
   put-record-reads.Learnt,
   body-into-below t,
   body-into.Post,
-  shift-into-reads.Asked,
-  shift-into-reads.Learnt,
+  shift-leaf-into-reads.Asked,
+  shift-leaf-into-reads.Learnt,
 ) (body-into-at t) body-into.Post
-body-into-shift-into-requires t c κs = c .before .before .before .before .before .before .before .before .before .before .before .before .pre .1 .source
+body-into-shift-leaf-into-requires t c κs = (c .before .before .before .before .before .before .before .before .before .before .before .before .pre .1 .source, record { no-application = c .before .before .before .if1 .left; no-abstraction = c .before .if2 .left })
 
 body-into-same-length-4 : (t : ℕ) → body-into-lts.Need-same-length-4 (
-  is-shifted-reads.Asked,
-  is-shifted-reads.Learnt,
+  copy-end-reads.Asked,
+  copy-end-reads.Learnt,
   choice-into-reads.Asked,
   choice-into-reads.Learnt,
   put-record-reads.Asked,
   put-record-reads.Learnt,
   body-into-below t,
   body-into.Post,
-  shift-into-reads.Asked,
-  shift-into-reads.Learnt,
+  shift-leaf-into-reads.Asked,
+  shift-leaf-into-reads.Learnt,
 ) (body-into-at t) body-into.Post
-body-into-same-length-4 t c = c .before .before .shift-into .kept .1 .1 .1 .1 .0
+body-into-same-length-4 t c = c .before .before .shift-leaf-into .kept .1 .1 .1 .1 .0
 
 body-into-returns-4 : (t : ℕ) → body-into-lts.Need-returns-4 (
-  is-shifted-reads.Asked,
-  is-shifted-reads.Learnt,
+  copy-end-reads.Asked,
+  copy-end-reads.Learnt,
   choice-into-reads.Asked,
   choice-into-reads.Learnt,
   put-record-reads.Asked,
   put-record-reads.Learnt,
   body-into-below t,
   body-into.Post,
-  shift-into-reads.Asked,
-  shift-into-reads.Learnt,
+  shift-leaf-into-reads.Asked,
+  shift-leaf-into-reads.Learnt,
 ) (body-into-at t) body-into.Post
-body-into-returns-4 t c = body-other _ _ _ _ _ _ _ _ (no-copy _ _ _ _ _ (c .before .before .before .before .before .before .before .before .before .enum-told .given .1) (c .before .before .before .before .before .before .before .before .before .before .before .is-shifted .ensures)) _ _ _ (choosing-whole _ _ _ _ _ _ _ _ (c .before .before .before .before .before .before .before .before .before .before .before .before .before .before .before .pre .1)) (c .before .before .before .before .before .before .if1 .left) (c .before .before .before .before .if2 .left) (c .before .before .shift-into .ensures)
+body-into-returns-4 t c = body-other _ _ _ _ _ _ _ _ (no-copy _ _ _ _ _ (c .before .before .before .before .before .before .before .before .before .enum-told .given .1) (c .before .before .before .before .before .before .before .before .before .before .before .copy-end .ensures)) _ _ _ (choosing-whole _ _ _ _ _ _ _ _ (c .before .before .before .before .before .before .before .before .before .before .before .before .before .before .before .pre .1)) (c .before .before .before .before .before .before .if1 .left) (c .before .before .before .before .if2 .left) (c .before .before .shift-leaf-into .ensures)
 
 pub +body-into-spec : {M : Type 1} → statement M
 +body-into-spec = close μ-body-into λ t. body-into-lts.spec (
-  is-shifted-reads.Asked,
-  is-shifted-reads.Learnt,
+  copy-end-reads.Asked,
+  copy-end-reads.Learnt,
   choice-into-reads.Asked,
   choice-into-reads.Learnt,
   put-record-reads.Asked,
   put-record-reads.Learnt,
   body-into-below t,
   body-into.Post,
-  shift-into-reads.Asked,
-  shift-into-reads.Learnt,
+  shift-leaf-into-reads.Asked,
+  shift-leaf-into-reads.Learnt,
 )
     (body-into-at t)
     body-into.Post
-    (body-into-is-shifted-requires t)
+    (body-into-copy-end-requires t)
     (body-into-enum-known-copy t)
     (body-into-choice-into-requires t)
     (body-into-add-t17 t)
@@ -417,6 +417,6 @@ pub +body-into-spec : {M : Type 1} → statement M
     (body-into-body-into-requires-3 t)
     (body-into-same-length-3 t)
     (body-into-returns-3 t)
-    (body-into-shift-into-requires t)
+    (body-into-shift-leaf-into-requires t)
     (body-into-same-length-4 t)
     (body-into-returns-4 t)

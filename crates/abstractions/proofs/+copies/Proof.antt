@@ -11,7 +11,7 @@ use borrow.Fn.PlainCycle.{Measures, is, falls, and}
 use Rattle.abstractions.proofs.copies.Reads as copies
 use Rattle.abstractions.proofs.copies.Kinds as copies-kinds
 use Rattle.abstractions.proofs.+copies.Lts-copies as copies-lts
-use Rattle.abstractions.proofs.is_shifted.Reads as is-shifted-reads
+use Rattle.abstractions.proofs.copy_end.Reads as copy-end-reads
 use Rattle.abstractions.proofs.+copies.{statement}
 use Rattle.abstractions.proofs.+copies.Tie.{close}
 
@@ -24,144 +24,144 @@ copies-at t = and 1 copies-kinds.ps (is 1 copies-kinds.ps μ-copies t) copies.Pr
 abbrev copies-below : ℕ → In 1 copies-kinds.ps
 copies-below t = and 1 copies-kinds.ps (falls 1 copies-kinds.ps _<_ μ-copies t) copies.Pre
 
-copies-is-shifted-requires : (t : ℕ) → copies-lts.Need-is-shifted-requires (
-  is-shifted-reads.Asked,
-  is-shifted-reads.Learnt,
+copies-copy-end-requires : (t : ℕ) → copies-lts.Need-copy-end-requires (
+  copy-end-reads.Asked,
+  copy-end-reads.Learnt,
   copies-below t,
   copies.Post,
 ) (copies-at t) copies.Post
-copies-is-shifted-requires t c κs = counting-compares _ _ _ _ (c .before .pre .1)
+copies-copy-end-requires t c κs = counting-compares _ _ _ _ (c .before .pre .1)
 
 copies-enum-known-walk : (t : ℕ) → copies-lts.Need-enum-known-walk (
-  is-shifted-reads.Asked,
-  is-shifted-reads.Learnt,
+  copy-end-reads.Asked,
+  copy-end-reads.Learnt,
   copies-below t,
   copies.Post,
 ) (copies-at t) copies.Post
 copies-enum-known-walk t c = search needs
 
 copies-returns : (t : ℕ) → copies-lts.Need-returns (
-  is-shifted-reads.Asked,
-  is-shifted-reads.Learnt,
+  copy-end-reads.Asked,
+  copy-end-reads.Learnt,
   copies-below t,
   copies.Post,
 ) (copies-at t) copies.Post
-copies-returns t c = counts-copy _ _ _ _ _ _ (c .before .walk .given .1) (c .before .before .before .is-shifted .ensures)
+copies-returns t c = counts-copy _ _ _ _ _ _ (c .before .walk .given .1) (c .before .before .before .copy-end .ensures)
 
 copies-enum-told : (t : ℕ) → copies-lts.Need-enum-told (
-  is-shifted-reads.Asked,
-  is-shifted-reads.Learnt,
+  copy-end-reads.Asked,
+  copy-end-reads.Learnt,
   copies-below t,
   copies.Post,
 ) (copies-at t) copies.Post
 copies-enum-told t c = search needs
 
 copies-shared-slice-read-kind : (t : ℕ) → copies-lts.Need-shared-slice-read-kind (
-  is-shifted-reads.Asked,
-  is-shifted-reads.Learnt,
+  copy-end-reads.Asked,
+  copy-end-reads.Learnt,
   copies-below t,
   copies.Post,
 ) (copies-at t) copies.Post
 copies-shared-slice-read-kind t c = search needs
 
 copies-add-copies : (t : ℕ) → copies-lts.Need-add-copies (
-  is-shifted-reads.Asked,
-  is-shifted-reads.Learnt,
+  copy-end-reads.Asked,
+  copy-end-reads.Learnt,
   copies-below t,
   copies.Post,
 ) (copies-at t) copies.Post
 copies-add-copies t c = search needs
 
 copies-copies-requires : (t : ℕ) → copies-lts.Need-copies-requires (
-  is-shifted-reads.Asked,
-  is-shifted-reads.Learnt,
+  copy-end-reads.Asked,
+  copy-end-reads.Learnt,
   copies-below t,
   copies.Post,
 ) (copies-at t) copies.Post
 copies-copies-requires t c κs = (omega arith, counting-head _ _ _ _ (c .before .before .before .before .before .before .before .pre .1) (c .if1 .taken))
 
 copies-copies-requires-2 : (t : ℕ) → copies-lts.Need-copies-requires-2 (
-  is-shifted-reads.Asked,
-  is-shifted-reads.Learnt,
+  copy-end-reads.Asked,
+  copy-end-reads.Learnt,
   copies-below t,
   copies.Post,
 ) (copies-at t) copies.Post
 copies-copies-requires-2 t c κs = let w = c .copies .ensures in (omega (arith, w .ends .more, w .ends .within), counting-argument _ _ _ _ (c .before .before .before .before .before .before .before .before .pre .1) _ _ (c .before .if1 .taken) w)
 
 copies-add-t14 : (t : ℕ) → copies-lts.Need-add-t14 (
-  is-shifted-reads.Asked,
-  is-shifted-reads.Learnt,
+  copy-end-reads.Asked,
+  copy-end-reads.Learnt,
   copies-below t,
   copies.Post,
 ) (copies-at t) copies.Post
 copies-add-t14 t c = search needs
 
 copies-returns-2 : (t : ℕ) → copies-lts.Need-returns-2 (
-  is-shifted-reads.Asked,
-  is-shifted-reads.Learnt,
+  copy-end-reads.Asked,
+  copy-end-reads.Learnt,
   copies-below t,
   copies.Post,
 ) (copies-at t) copies.Post
-copies-returns-2 t c = counts-application _ _ _ _ _ _ _ _ (no-copy _ _ _ _ _ (c .before .before .before .before .before .before .before .enum-told .given .1) (c .before .before .before .before .before .before .before .before .before .is-shifted .ensures)) (c .before .before .before .before .if1 .taken) (c .before .before .before .copies .ensures) (c .before .before .copies2 .ensures)
+copies-returns-2 t c = counts-application _ _ _ _ _ _ _ _ (no-copy _ _ _ _ _ (c .before .before .before .before .before .before .before .enum-told .given .1) (c .before .before .before .before .before .before .before .before .before .copy-end .ensures)) (c .before .before .before .before .if1 .taken) (c .before .before .before .copies .ensures) (c .before .before .copies2 .ensures)
 
 copies-add-copies-2 : (t : ℕ) → copies-lts.Need-add-copies-2 (
-  is-shifted-reads.Asked,
-  is-shifted-reads.Learnt,
+  copy-end-reads.Asked,
+  copy-end-reads.Learnt,
   copies-below t,
   copies.Post,
 ) (copies-at t) copies.Post
 copies-add-copies-2 t c = search needs
 
 copies-add-copies-3 : (t : ℕ) → copies-lts.Need-add-copies-3 (
-  is-shifted-reads.Asked,
-  is-shifted-reads.Learnt,
+  copy-end-reads.Asked,
+  copy-end-reads.Learnt,
   copies-below t,
   copies.Post,
 ) (copies-at t) copies.Post
 copies-add-copies-3 t c = search needs
 
 copies-copies-requires-3 : (t : ℕ) → copies-lts.Need-copies-requires-3 (
-  is-shifted-reads.Asked,
-  is-shifted-reads.Learnt,
+  copy-end-reads.Asked,
+  copy-end-reads.Learnt,
   copies-below t,
   copies.Post,
 ) (copies-at t) copies.Post
 copies-copies-requires-3 t c κs = (omega arith, counting-body _ _ _ _ (c .before .before .before .before .before .before .before .before .before .pre .1) (c .if2 .taken))
 
 copies-returns-3 : (t : ℕ) → copies-lts.Need-returns-3 (
-  is-shifted-reads.Asked,
-  is-shifted-reads.Learnt,
+  copy-end-reads.Asked,
+  copy-end-reads.Learnt,
   copies-below t,
   copies.Post,
 ) (copies-at t) copies.Post
-copies-returns-3 t c = counts-abstraction _ _ _ _ _ _ (no-copy _ _ _ _ _ (c .before .before .before .before .before .before .enum-told .given .1) (c .before .before .before .before .before .before .before .before .is-shifted .ensures)) (c .before .if2 .taken) (c .copies3 .ensures)
+copies-returns-3 t c = counts-abstraction _ _ _ _ _ _ (no-copy _ _ _ _ _ (c .before .before .before .before .before .before .enum-told .given .1) (c .before .before .before .before .before .before .before .before .copy-end .ensures)) (c .before .if2 .taken) (c .copies3 .ensures)
 
 copies-add-t17 : (t : ℕ) → copies-lts.Need-add-t17 (
-  is-shifted-reads.Asked,
-  is-shifted-reads.Learnt,
+  copy-end-reads.Asked,
+  copy-end-reads.Learnt,
   copies-below t,
   copies.Post,
 ) (copies-at t) copies.Post
 copies-add-t17 t c = search needs
 
 copies-returns-4 : (t : ℕ) → copies-lts.Need-returns-4 (
-  is-shifted-reads.Asked,
-  is-shifted-reads.Learnt,
+  copy-end-reads.Asked,
+  copy-end-reads.Learnt,
   copies-below t,
   copies.Post,
 ) (copies-at t) copies.Post
-copies-returns-4 t c = counts-leaf _ _ _ _ (no-copy _ _ _ _ _ (c .before .before .before .before .before .enum-told .given .1) (c .before .before .before .before .before .before .before .is-shifted .ensures)) (c .before .before .before .before .before .before .before .before .before .pre .1 .target) (c .before .before .if1 .left) (c .if2 .left)
+copies-returns-4 t c = counts-leaf _ _ _ _ (no-copy _ _ _ _ _ (c .before .before .before .before .before .enum-told .given .1) (c .before .before .before .before .before .before .before .copy-end .ensures)) (c .before .before .before .before .before .before .before .before .before .pre .1 .target) (c .before .before .if1 .left) (c .if2 .left)
 
 pub +copies-spec : {M : Type 1} → statement M
 +copies-spec = close μ-copies λ t. copies-lts.spec (
-  is-shifted-reads.Asked,
-  is-shifted-reads.Learnt,
+  copy-end-reads.Asked,
+  copy-end-reads.Learnt,
   copies-below t,
   copies.Post,
 )
     (copies-at t)
     copies.Post
-    (copies-is-shifted-requires t)
+    (copies-copy-end-requires t)
     (copies-enum-known-walk t)
     (copies-returns t)
     (copies-enum-told t)

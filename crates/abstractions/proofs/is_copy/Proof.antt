@@ -4,8 +4,8 @@ use borrow.Author.Needs.{needs}
 use Rattle.abstractions.proofs.is_copy.Statement.{statement}
 use Rattle.abstractions.proofs.is_copy.Tie as tie
 
-is-shifted-requires : tie.Need-is-shifted-requires
-is-shifted-requires c κs = search needs
+copy-end-requires : tie.Need-copy-end-requires
+copy-end-requires c κs = search needs
 
 enum-told : tie.Need-enum-told
 enum-told c = search needs
@@ -14,10 +14,10 @@ enum-told-2 : tie.Need-enum-told-2
 enum-told-2 c = search needs
 
 returns : tie.Need-returns
-returns c = copy-yes _ _ _ _ _ _ (c .enum-told .given .1) (c .before .before .is-shifted .ensures)
+returns c = copy-yes _ _ _ _ _ _ (c .enum-told .given .1) (c .before .before .copy-end .ensures)
 
 returns-2 : tie.Need-returns-2
-returns-2 c = copy-no _ _ _ _ _ (c .enum-told2 .given .1) (c .before .before .is-shifted .ensures)
+returns-2 c = copy-no _ _ _ _ _ (c .enum-told2 .given .1) (c .before .before .copy-end .ensures)
 
 pub is-copy-spec : {M : Type 1} → statement M
-is-copy-spec = tie.close (tie.spec is-shifted-requires enum-told enum-told-2 returns returns-2)
+is-copy-spec = tie.close (tie.spec copy-end-requires enum-told enum-told-2 returns returns-2)

@@ -86,7 +86,7 @@ ask-at-returns : (t : ℕ) → ask-at-lts.Need-returns (
   holds-reads.Asked,
   holds-reads.Learnt,
 ) (ask-at-at t) ask-at.Post
-ask-at-returns t c = walked-stop _ _ _ _ (c .before .before .before .if1 .taken) (asks-two (c .before .before .before .before .before .before .before .args .ask) (c .before .before .before .before .before .before .before .args .n)) (c .enum-told .given .1) (c .before .before .ask-at .ensures)
+ask-at-returns t c = walked-stop _ _ _ _ _ _ (c .before .before .before .if1 .taken) (asks-two (c .before .before .before .before .before .before .before .args .ask) (c .before .before .before .before .before .before .before .args .n)) (c .enum-told .given .1) (c .before .before .ask-at .ensures)
 
 ask-at-ask-at-requires-2 : (t : ℕ) → ask-at-lts.Need-ask-at-requires-2 (
   ask-at-below t,
@@ -107,7 +107,7 @@ ask-at-returns-2 : (t : ℕ) → ask-at-lts.Need-returns-2 (
   holds-reads.Asked,
   holds-reads.Learnt,
 ) (ask-at-at t) ask-at.Post
-ask-at-returns-2 t c = walked-app _ _ _ _ _ _ (c .before .before .before .before .before .if1 .taken) (asks-two (c .before .before .before .before .before .before .before .before .before .args .ask) (c .before .before .before .before .before .before .before .before .before .args .n)) (c .before .before .head .given .1) (c .before .before .before .before .ask-at .ensures) (c .ask-at2 .ensures)
+ask-at-returns-2 t c = walked-app _ _ _ _ _ _ _ _ (c .before .before .before .before .before .if1 .taken) (asks-two (c .before .before .before .before .before .before .before .before .before .args .ask) (c .before .before .before .before .before .before .before .before .before .args .n)) (c .before .before .head .given .1) (c .before .before .before .before .ask-at .ensures) (c .ask-at2 .ensures)
 
 ask-at-add-ask-at-2 : (t : ℕ) → ask-at-lts.Need-add-ask-at-2 (
   ask-at-below t,

@@ -7,7 +7,7 @@ use native.Mathlib.Omega.{arith}
 use lib.ListN.{length-set}
 use Rattle.agenda.specs.Moves.{progress}
 use Rattle.search.proofs.Taken.{stepped-failed, stepped-left, stepped-assign, branched-failed, branched-next, planned-failed, planned-next, planned-bodies}
-use Rattle.search.proofs.Searching.{begins-move, searched-move, searched-failed, finds, searched-found, Going, going-start, begins-going, going-next, going-end, going-stop, searched-last, searched-stop, choosing-next, searched-both, begins-forwarded, searched-forwarded, begins-kept, matches-kept, builds-kept, planned-begins, planned-searched}
+use Rattle.search.proofs.Searching.{begins-move, searched-move, searched-failed, finds, searched-found, Going, going-start, begins-going, going-next, going-end, going-stop, searched-last, searched-stop, choosing-next, searched-both, begins-forwarded, searched-forwarded, begins-kept, matches-kept, counted-kept, builds-kept, planned-begins, planned-searched}
 use borrow.Author.Needs.{needs}
 use Prim.Native.Nat.{ℕ, _<_}
 use borrow.Fn.Kinds.{In}
@@ -280,7 +280,7 @@ attempt-way-requires : (t : ℕ) → attempt-lts.Need-way-requires (
   search-below t,
   search′.Post,
 ) (attempt-at t) attempt.Post
-attempt-way-requires t c κs = (c .before .before .before .before .before .pre .1 .1, c .before .before .before .before .before .pre .1 .2)
+attempt-way-requires t c κs = (c .before .before .before .before .before .pre .1 .1, c .before .before .before .before .before .pre .1 .2, c .before .before .before .before .before .pre .1 .3)
 
 attempt-enum-known-taken : (t : ℕ) → attempt-lts.Need-enum-known-taken (
   way-reads.Asked,
@@ -747,10 +747,10 @@ build-returns-3 : (t : ℕ) → build-lts.Need-returns-3 (
 build-returns-3 t c = let m = planned-bodies _ _ _ _ _ _ (c .before .before .before .before .before .before .before .before .before .before .before .before .before .before .before .plan .ensures) _ (c .before .before .before .before .before .before .before .before .before .before .before .planned2 .given .1) in planned-searched _ _ _ _ _ _ _ _ _ _ _ _ _ _ _ (m .0) (m .2) (c .before .before .before .before .before .before .bodies .ensures)
 
 abbrev flexible-Inv-loop : flexible-lts.InvT-loop
-flexible-Inv-loop p work₀ s a limit lines₀ values₀ n found₀ i₀ work lines values found i = Going p work₀ s a limit lines₀ values₀ found₀ n i work lines values found
+flexible-Inv-loop p work₀ s a limit lines₀ values₀ w found₀ i₀ work lines values found i = Going p work₀ s a limit lines₀ values₀ found₀ (w .count) i work lines values found
 
 abbrev flexible-μ-loop : flexible-lts.MeasureT-loop
-flexible-μ-loop p work₀ s a limit lines₀ values₀ n found₀ i₀ work lines values found i = n - i
+flexible-μ-loop p work₀ s a limit lines₀ values₀ w found₀ i₀ work lines values found i = w .count - i
 
 flexible-ways-requires : (t : ℕ) → flexible-lts.Need-ways-requires (
   ways-reads.Asked,
@@ -798,7 +798,7 @@ flexible-returns : (t : ℕ) → flexible-lts.Need-returns (
   attempt-below t,
   attempt.Post,
 ) (flexible-at t) flexible.Post flexible-Inv-loop flexible-μ-loop
-flexible-returns t c = going-stop _ _ _ _ _ _ _ _ _ (c .before .before .before .before .before .before .before .before .before .before .pre .1 .0) _ _ _ _ _ (c .before .before .before .loop .inv) (c .before .before .before .before .ways .ensures .ways) (c .if1 .taken)
+flexible-returns t c = going-stop _ _ _ _ _ _ _ _ _ (c .before .before .before .before .before .before .before .before .before .before .before .pre .1 .0) _ _ _ _ _ (c .before .before .before .before .loop .inv) (c .before .before .before .before .before .ways .ensures .ways) (c .if2 .taken)
 
 flexible-attempt-requires : (t : ℕ) → flexible-lts.Need-attempt-requires (
   ways-reads.Asked,
@@ -806,7 +806,7 @@ flexible-attempt-requires : (t : ℕ) → flexible-lts.Need-attempt-requires (
   attempt-below t,
   attempt.Post,
 ) (flexible-at t) flexible.Post flexible-Inv-loop flexible-μ-loop
-flexible-attempt-requires t c κs = let g = c .before .before .before .before .before .before .loop .inv in let b = begins-going _ _ _ _ _ _ _ _ _ (c .before .before .before .before .before .before .before .before .before .before .before .before .before .pre .1 .0) _ _ _ _ _ g (c .before .before .before .if1 .left) in (omega arith, (b, matches-kept _ _ _ _ _ (g .kept) (b .ready) (c .before .before .before .before .before .before .before .before .before .before .before .before .before .pre .1 .1), omega (arith, c .before .before .before .before .before .before .before .ways .ensures .few)))
+flexible-attempt-requires t c κs = let x = c .before .before .before .before .before .before .before .before .before .before .before .before .before .before .pre .1 in let g = c .before .before .before .before .before .before .before .loop .inv in let b = begins-going _ _ _ _ _ _ _ _ _ (x .0) _ _ _ _ _ g (c .before .before .before .if2 .left) in (omega arith, (b, matches-kept _ _ _ _ _ (g .kept) (b .ready) (x .1), counted-kept _ _ _ _ _ _ (g .kept) (g .area) (x .0 .ready .bounds) (c .before .before .before .before .before .before .before .before .ways .ensures), c .before .before .before .before .before .if1 .taken))
 
 flexible-add-i : (t : ℕ) → flexible-lts.Need-add-i (
   ways-reads.Asked,
@@ -830,7 +830,7 @@ flexible-loop-again : (t : ℕ) → flexible-lts.Need-loop-again (
   attempt-below t,
   attempt.Post,
 ) (flexible-at t) flexible.Post flexible-Inv-loop flexible-μ-loop
-flexible-loop-again t c = going-next _ _ _ _ _ _ _ _ _ (c .before .before .before .before .before .before .before .before .before .before .before .before .before .before .before .before .before .before .before .before .pre .1 .0) _ _ _ _ _ (c .before .before .before .before .before .before .before .before .before .before .before .before .before .loop .inv) _ _ _ _ (c .before .before .before .before .before .before .before .before .before .before .if1 .left) (c .before .before .before .before .before .before .before .before .before .before .before .before .loop-test .taken) (omega arith) (omega arith) (omega arith) (c .before .before .before .before .before .before .attempt .ensures)
+flexible-loop-again t c = going-next _ _ _ _ _ _ _ _ _ (c .before .before .before .before .before .before .before .before .before .before .before .before .before .before .before .before .before .before .before .before .before .pre .1 .0) _ _ _ _ _ (c .before .before .before .before .before .before .before .before .before .before .before .before .before .before .loop .inv) _ _ _ _ (c .before .before .before .before .before .before .before .before .before .before .if2 .left) (c .before .before .before .before .before .before .before .before .before .before .before .before .if1 .taken) (omega arith) (omega arith) (omega arith) (c .before .before .before .before .before .before .attempt .ensures)
 
 flexible-same-length-4 : (t : ℕ) → flexible-lts.Need-same-length-4 (
   ways-reads.Asked,
@@ -862,7 +862,7 @@ flexible-returns-2 : (t : ℕ) → flexible-lts.Need-returns-2 (
   attempt-below t,
   attempt.Post,
 ) (flexible-at t) flexible.Post flexible-Inv-loop flexible-μ-loop
-flexible-returns-2 t c = going-end _ _ _ _ _ _ _ _ _ (c .before .before .before .before .before .before .before .before .pre .1 .0) _ _ _ _ _ (c .before .loop .inv) (c .before .before .ways .ensures .ways) (c .loop-test .left)
+flexible-returns-2 t c = going-end _ _ _ _ _ _ _ _ _ (c .before .before .before .before .before .before .before .before .before .pre .1 .0) _ _ _ _ _ (c .before .before .loop .inv) (c .before .before .before .ways .ensures .ways) (c .if1 .left)
 
 postponed-bring-forward-requires : (t : ℕ) → postponed-lts.Need-bring-forward-requires (
   bring-forward-reads.Asked,

@@ -3,7 +3,7 @@ use mathlib.Core.Path.{_∙_}
 use Prim.Native.Nat.{_-_}
 use lib.ListN.{length}
 use native.Mathlib.Omega.{arith}
-use Rattle.sweeping.proofs.Writers.{shifts, source-whole, source-head, source-body, source-argument, source-local, source-in, wrote-application, wrote-abstraction, wrote-local, wrote-other}
+use Rattle.sweeping.proofs.Writers.{shifts, source-head, source-body, source-argument, source-in, wrote-application, wrote-abstraction}
 use borrow.Author.Needs.{needs}
 use Prim.Native.Nat.{ℕ, _<_}
 use borrow.Fn.Kinds.{In}
@@ -11,9 +11,8 @@ use borrow.Fn.PlainCycle.{Measures, is, falls, and}
 use Rattle.sweeping.proofs.shift_into.Reads as shift-into
 use Rattle.sweeping.proofs.shift_into.Kinds as shift-into-kinds
 use Rattle.sweeping.proofs.+shift_into.Lts-shift_into as shift-into-lts
-use Rattle.records.proofs.number_at.Reads as number-at-reads
 use Rattle.records.proofs.put_record.Reads as put-record-reads
-use Rattle.sweeping.proofs.shifted.Reads as shifted-reads
+use Rattle.sweeping.proofs.shift_leaf_into.Reads as shift-leaf-into-reads
 use Rattle.sweeping.proofs.+shift_into.{statement}
 use Rattle.sweeping.proofs.+shift_into.Tie.{close}
 
@@ -33,10 +32,8 @@ shift-into-shared-slice-read-kind : (t : ℕ) → shift-into-lts.Need-shared-sli
   put-record-reads.Learnt,
   shift-into-below t,
   shift-into.Post,
-  number-at-reads.Asked,
-  number-at-reads.Learnt,
-  shifted-reads.Asked,
-  shifted-reads.Learnt,
+  shift-leaf-into-reads.Asked,
+  shift-leaf-into-reads.Learnt,
 ) (shift-into-at t) shift-into.Post
 shift-into-shared-slice-read-kind t c = search needs
 
@@ -45,10 +42,8 @@ shift-into-put-record-requires : (t : ℕ) → shift-into-lts.Need-put-record-re
   put-record-reads.Learnt,
   shift-into-below t,
   shift-into.Post,
-  number-at-reads.Asked,
-  number-at-reads.Learnt,
-  shifted-reads.Asked,
-  shifted-reads.Learnt,
+  shift-leaf-into-reads.Asked,
+  shift-leaf-into-reads.Learnt,
 ) (shift-into-at t) shift-into.Post
 shift-into-put-record-requires t c κs = search needs
 
@@ -57,10 +52,8 @@ shift-into-add-shift-into : (t : ℕ) → shift-into-lts.Need-add-shift-into (
   put-record-reads.Learnt,
   shift-into-below t,
   shift-into.Post,
-  number-at-reads.Asked,
-  number-at-reads.Learnt,
-  shifted-reads.Asked,
-  shifted-reads.Learnt,
+  shift-leaf-into-reads.Asked,
+  shift-leaf-into-reads.Learnt,
 ) (shift-into-at t) shift-into.Post
 shift-into-add-shift-into t c = search needs
 
@@ -69,10 +62,8 @@ shift-into-add-shift-into-2 : (t : ℕ) → shift-into-lts.Need-add-shift-into-2
   put-record-reads.Learnt,
   shift-into-below t,
   shift-into.Post,
-  number-at-reads.Asked,
-  number-at-reads.Learnt,
-  shifted-reads.Asked,
-  shifted-reads.Learnt,
+  shift-leaf-into-reads.Asked,
+  shift-leaf-into-reads.Learnt,
 ) (shift-into-at t) shift-into.Post
 shift-into-add-shift-into-2 t c = search needs
 
@@ -81,10 +72,8 @@ shift-into-shift-into-requires : (t : ℕ) → shift-into-lts.Need-shift-into-re
   put-record-reads.Learnt,
   shift-into-below t,
   shift-into.Post,
-  number-at-reads.Asked,
-  number-at-reads.Learnt,
-  shifted-reads.Asked,
-  shifted-reads.Learnt,
+  shift-leaf-into-reads.Asked,
+  shift-leaf-into-reads.Learnt,
 ) (shift-into-at t) shift-into.Post
 shift-into-shift-into-requires t c κs = (omega arith, source-in _ _ _ _ _ _ _ (c .before .before .before .put-record .kept .0) (source-head _ (shifts _) _ _ _ _ _ (c .before .before .before .before .before .before .before .before .before .before .pre .1) (c .before .before .before .before .before .if1 .taken)))
 
@@ -93,10 +82,8 @@ shift-into-shift-into-requires-2 : (t : ℕ) → shift-into-lts.Need-shift-into-
   put-record-reads.Learnt,
   shift-into-below t,
   shift-into.Post,
-  number-at-reads.Asked,
-  number-at-reads.Learnt,
-  shifted-reads.Asked,
-  shifted-reads.Learnt,
+  shift-leaf-into-reads.Asked,
+  shift-leaf-into-reads.Learnt,
 ) (shift-into-at t) shift-into.Post
 shift-into-shift-into-requires-2 t c κs = let w = c .before .before .before .shift-into .ensures in
     (omega (arith, w .ends .more, w .ends .within), source-in _ _ _ _ _ _ _ (c .before .before .before .shift-into .kept .1 .1 .1 .1 .0 ∙ c .before .before .before .before .before .before .before .put-record .kept .0) (source-argument _ (shifts _) _ _ _ _ _ (c .before .before .before .before .before .before .before .before .before .before .before .before .before .before .pre .1) _ _ _ _ (c .before .before .before .before .before .before .before .before .before .if1 .taken) w))
@@ -106,10 +93,8 @@ shift-into-same-length : (t : ℕ) → shift-into-lts.Need-same-length (
   put-record-reads.Learnt,
   shift-into-below t,
   shift-into.Post,
-  number-at-reads.Asked,
-  number-at-reads.Learnt,
-  shifted-reads.Asked,
-  shifted-reads.Learnt,
+  shift-leaf-into-reads.Asked,
+  shift-leaf-into-reads.Learnt,
 ) (shift-into-at t) shift-into.Post
 shift-into-same-length t c = c .before .before .shift-into2 .kept .1 .1 .1 .1 .0 ∙ c .before .before .before .before .before .before .shift-into .kept .1 .1 .1 .1 .0 ∙ c .before .before .before .before .before .before .before .before .before .before .put-record .kept .0
 
@@ -118,10 +103,8 @@ shift-into-returns : (t : ℕ) → shift-into-lts.Need-returns (
   put-record-reads.Learnt,
   shift-into-below t,
   shift-into.Post,
-  number-at-reads.Asked,
-  number-at-reads.Learnt,
-  shifted-reads.Asked,
-  shifted-reads.Learnt,
+  shift-leaf-into-reads.Asked,
+  shift-leaf-into-reads.Learnt,
 ) (shift-into-at t) shift-into.Post
 shift-into-returns t c = wrote-application _ (shifts _) _ _ _ _ _ _ _ _ _ _ _ _ (c .before .before .before .before .before .before .before .before .before .before .before .before .if1 .taken) (c .before .before .before .before .before .before .before .before .before .before .put-record .ensures) (c .before .before .before .before .before .before .shift-into .ensures) (c .before .before .shift-into2 .ensures)
 
@@ -130,10 +113,8 @@ shift-into-put-record-requires-2 : (t : ℕ) → shift-into-lts.Need-put-record-
   put-record-reads.Learnt,
   shift-into-below t,
   shift-into.Post,
-  number-at-reads.Asked,
-  number-at-reads.Learnt,
-  shifted-reads.Asked,
-  shifted-reads.Learnt,
+  shift-leaf-into-reads.Asked,
+  shift-leaf-into-reads.Learnt,
 ) (shift-into-at t) shift-into.Post
 shift-into-put-record-requires-2 t c κs = search needs
 
@@ -142,10 +123,8 @@ shift-into-add-shift-into-3 : (t : ℕ) → shift-into-lts.Need-add-shift-into-3
   put-record-reads.Learnt,
   shift-into-below t,
   shift-into.Post,
-  number-at-reads.Asked,
-  number-at-reads.Learnt,
-  shifted-reads.Asked,
-  shifted-reads.Learnt,
+  shift-leaf-into-reads.Asked,
+  shift-leaf-into-reads.Learnt,
 ) (shift-into-at t) shift-into.Post
 shift-into-add-shift-into-3 t c = search needs
 
@@ -154,10 +133,8 @@ shift-into-add-shift-into-4 : (t : ℕ) → shift-into-lts.Need-add-shift-into-4
   put-record-reads.Learnt,
   shift-into-below t,
   shift-into.Post,
-  number-at-reads.Asked,
-  number-at-reads.Learnt,
-  shifted-reads.Asked,
-  shifted-reads.Learnt,
+  shift-leaf-into-reads.Asked,
+  shift-leaf-into-reads.Learnt,
 ) (shift-into-at t) shift-into.Post
 shift-into-add-shift-into-4 t c = search needs
 
@@ -166,10 +143,8 @@ shift-into-add-shift-into-5 : (t : ℕ) → shift-into-lts.Need-add-shift-into-5
   put-record-reads.Learnt,
   shift-into-below t,
   shift-into.Post,
-  number-at-reads.Asked,
-  number-at-reads.Learnt,
-  shifted-reads.Asked,
-  shifted-reads.Learnt,
+  shift-leaf-into-reads.Asked,
+  shift-leaf-into-reads.Learnt,
 ) (shift-into-at t) shift-into.Post
 shift-into-add-shift-into-5 t c = search needs
 
@@ -178,10 +153,8 @@ shift-into-shift-into-requires-3 : (t : ℕ) → shift-into-lts.Need-shift-into-
   put-record-reads.Learnt,
   shift-into-below t,
   shift-into.Post,
-  number-at-reads.Asked,
-  number-at-reads.Learnt,
-  shifted-reads.Asked,
-  shifted-reads.Learnt,
+  shift-leaf-into-reads.Asked,
+  shift-leaf-into-reads.Learnt,
 ) (shift-into-at t) shift-into.Post
 shift-into-shift-into-requires-3 t c κs = (omega arith, source-in _ _ _ _ _ _ _ (c .before .before .before .put-record2 .kept .0) (source-body _ (shifts _) _ _ _ _ _ (c .before .before .before .before .before .before .before .before .before .before .before .before .pre .1) (c .before .before .before .before .before .if2 .taken)))
 
@@ -190,10 +163,8 @@ shift-into-same-length-2 : (t : ℕ) → shift-into-lts.Need-same-length-2 (
   put-record-reads.Learnt,
   shift-into-below t,
   shift-into.Post,
-  number-at-reads.Asked,
-  number-at-reads.Learnt,
-  shifted-reads.Asked,
-  shifted-reads.Learnt,
+  shift-leaf-into-reads.Asked,
+  shift-leaf-into-reads.Learnt,
 ) (shift-into-at t) shift-into.Post
 shift-into-same-length-2 t c = c .before .before .shift-into3 .kept .1 .1 .1 .1 .0 ∙ c .before .before .before .before .before .before .put-record2 .kept .0
 
@@ -202,156 +173,40 @@ shift-into-returns-2 : (t : ℕ) → shift-into-lts.Need-returns-2 (
   put-record-reads.Learnt,
   shift-into-below t,
   shift-into.Post,
-  number-at-reads.Asked,
-  number-at-reads.Learnt,
-  shifted-reads.Asked,
-  shifted-reads.Learnt,
+  shift-leaf-into-reads.Asked,
+  shift-leaf-into-reads.Learnt,
 ) (shift-into-at t) shift-into.Post
 shift-into-returns-2 t c = wrote-abstraction _ (shifts _) _ _ _ _ _ _ _ _ _ (c .before .before .before .before .before .before .before .before .if2 .taken) (c .before .before .before .before .before .before .put-record2 .ensures) (c .before .before .shift-into3 .ensures)
 
-shift-into-number-at-requires : (t : ℕ) → shift-into-lts.Need-number-at-requires (
+shift-into-shift-leaf-into-requires : (t : ℕ) → shift-into-lts.Need-shift-leaf-into-requires (
   put-record-reads.Asked,
   put-record-reads.Learnt,
   shift-into-below t,
   shift-into.Post,
-  number-at-reads.Asked,
-  number-at-reads.Learnt,
-  shifted-reads.Asked,
-  shifted-reads.Learnt,
+  shift-leaf-into-reads.Asked,
+  shift-leaf-into-reads.Learnt,
 ) (shift-into-at t) shift-into.Post
-shift-into-number-at-requires t c κs = search needs
-
-shift-into-shifted-requires : (t : ℕ) → shift-into-lts.Need-shifted-requires (
-  put-record-reads.Asked,
-  put-record-reads.Learnt,
-  shift-into-below t,
-  shift-into.Post,
-  number-at-reads.Asked,
-  number-at-reads.Learnt,
-  shifted-reads.Asked,
-  shifted-reads.Learnt,
-) (shift-into-at t) shift-into.Post
-shift-into-shifted-requires t c κs = source-local _ (shifts _) _ _ _ _ _ (c .before .before .before .before .before .before .before .before .before .before .before .pre .1) _ (c .before .if3 .taken) (c .before .before .before .number-at .ensures .0)
-
-shift-into-put-record-requires-3 : (t : ℕ) → shift-into-lts.Need-put-record-requires-3 (
-  put-record-reads.Asked,
-  put-record-reads.Learnt,
-  shift-into-below t,
-  shift-into.Post,
-  number-at-reads.Asked,
-  number-at-reads.Learnt,
-  shifted-reads.Asked,
-  shifted-reads.Learnt,
-) (shift-into-at t) shift-into.Post
-shift-into-put-record-requires-3 t c κs = (omega arith, c .shifted .ensures .1)
-
-shift-into-add-t37 : (t : ℕ) → shift-into-lts.Need-add-t37 (
-  put-record-reads.Asked,
-  put-record-reads.Learnt,
-  shift-into-below t,
-  shift-into.Post,
-  number-at-reads.Asked,
-  number-at-reads.Learnt,
-  shifted-reads.Asked,
-  shifted-reads.Learnt,
-) (shift-into-at t) shift-into.Post
-shift-into-add-t37 t c = search needs
-
-shift-into-add-t38 : (t : ℕ) → shift-into-lts.Need-add-t38 (
-  put-record-reads.Asked,
-  put-record-reads.Learnt,
-  shift-into-below t,
-  shift-into.Post,
-  number-at-reads.Asked,
-  number-at-reads.Learnt,
-  shifted-reads.Asked,
-  shifted-reads.Learnt,
-) (shift-into-at t) shift-into.Post
-shift-into-add-t38 t c = search needs
+shift-into-shift-leaf-into-requires t c κs = (c .before .before .before .before .before .before .before .before .pre .1, record { no-application = c .before .before .before .if1 .left; no-abstraction = c .before .if2 .left })
 
 shift-into-same-length-3 : (t : ℕ) → shift-into-lts.Need-same-length-3 (
   put-record-reads.Asked,
   put-record-reads.Learnt,
   shift-into-below t,
   shift-into.Post,
-  number-at-reads.Asked,
-  number-at-reads.Learnt,
-  shifted-reads.Asked,
-  shifted-reads.Learnt,
+  shift-leaf-into-reads.Asked,
+  shift-leaf-into-reads.Learnt,
 ) (shift-into-at t) shift-into.Post
-shift-into-same-length-3 t c = c .before .before .put-record3 .kept .0
+shift-into-same-length-3 t c = c .before .before .shift-leaf-into .kept .1 .1 .1 .1 .0
 
 shift-into-returns-3 : (t : ℕ) → shift-into-lts.Need-returns-3 (
   put-record-reads.Asked,
   put-record-reads.Learnt,
   shift-into-below t,
   shift-into.Post,
-  number-at-reads.Asked,
-  number-at-reads.Learnt,
-  shifted-reads.Asked,
-  shifted-reads.Learnt,
+  shift-leaf-into-reads.Asked,
+  shift-leaf-into-reads.Learnt,
 ) (shift-into-at t) shift-into.Post
-shift-into-returns-3 t c = wrote-local _ (shifts _) _ _ _ _ _ _ _ _ _ (source-whole _ (shifts _) _ _ _ _ _ (c .before .before .before .before .before .before .before .before .before .before .before .before .before .before .before .pre .1)) (c .before .before .before .before .before .if3 .taken) (c .before .before .before .before .before .before .before .number-at .ensures .0) (c .before .before .before .shifted .ensures .0) (c .before .before .put-record3 .ensures) (omega arith)
-
-shift-into-put-record-requires-4 : (t : ℕ) → shift-into-lts.Need-put-record-requires-4 (
-  put-record-reads.Asked,
-  put-record-reads.Learnt,
-  shift-into-below t,
-  shift-into.Post,
-  number-at-reads.Asked,
-  number-at-reads.Learnt,
-  shifted-reads.Asked,
-  shifted-reads.Learnt,
-) (shift-into-at t) shift-into.Post
-shift-into-put-record-requires-4 t c κs = (omega arith, c .before .before .before .number-at .ensures .1)
-
-shift-into-add-t42 : (t : ℕ) → shift-into-lts.Need-add-t42 (
-  put-record-reads.Asked,
-  put-record-reads.Learnt,
-  shift-into-below t,
-  shift-into.Post,
-  number-at-reads.Asked,
-  number-at-reads.Learnt,
-  shifted-reads.Asked,
-  shifted-reads.Learnt,
-) (shift-into-at t) shift-into.Post
-shift-into-add-t42 t c = search needs
-
-shift-into-add-t43 : (t : ℕ) → shift-into-lts.Need-add-t43 (
-  put-record-reads.Asked,
-  put-record-reads.Learnt,
-  shift-into-below t,
-  shift-into.Post,
-  number-at-reads.Asked,
-  number-at-reads.Learnt,
-  shifted-reads.Asked,
-  shifted-reads.Learnt,
-) (shift-into-at t) shift-into.Post
-shift-into-add-t43 t c = search needs
-
-shift-into-same-length-4 : (t : ℕ) → shift-into-lts.Need-same-length-4 (
-  put-record-reads.Asked,
-  put-record-reads.Learnt,
-  shift-into-below t,
-  shift-into.Post,
-  number-at-reads.Asked,
-  number-at-reads.Learnt,
-  shifted-reads.Asked,
-  shifted-reads.Learnt,
-) (shift-into-at t) shift-into.Post
-shift-into-same-length-4 t c = c .before .before .put-record4 .kept .0
-
-shift-into-returns-4 : (t : ℕ) → shift-into-lts.Need-returns-4 (
-  put-record-reads.Asked,
-  put-record-reads.Learnt,
-  shift-into-below t,
-  shift-into.Post,
-  number-at-reads.Asked,
-  number-at-reads.Learnt,
-  shifted-reads.Asked,
-  shifted-reads.Learnt,
-) (shift-into-at t) shift-into.Post
-shift-into-returns-4 t c = wrote-other _ (shifts _) _ _ _ _ _ _ _ (source-whole _ (shifts _) _ _ _ _ _ (c .before .before .before .before .before .before .before .before .before .before .before .before .before .before .pre .1)) (record { no-application = c .before .before .before .before .before .before .before .before .before .if1 .left; no-abstraction = c .before .before .before .before .before .before .before .if2 .left; no-local = c .before .before .before .before .if3 .left }) (c .before .before .before .before .before .before .number-at .ensures .0) (c .before .before .put-record4 .ensures)
+shift-into-returns-3 t c = c .before .before .shift-leaf-into .ensures
 
 pub +shift-into-spec : {M : Type 1} → statement M
 +shift-into-spec = close μ-shift-into λ t. shift-into-lts.spec (
@@ -359,10 +214,8 @@ pub +shift-into-spec : {M : Type 1} → statement M
   put-record-reads.Learnt,
   shift-into-below t,
   shift-into.Post,
-  number-at-reads.Asked,
-  number-at-reads.Learnt,
-  shifted-reads.Asked,
-  shifted-reads.Learnt,
+  shift-leaf-into-reads.Asked,
+  shift-leaf-into-reads.Learnt,
 )
     (shift-into-at t)
     shift-into.Post
@@ -381,15 +234,6 @@ pub +shift-into-spec : {M : Type 1} → statement M
     (shift-into-shift-into-requires-3 t)
     (shift-into-same-length-2 t)
     (shift-into-returns-2 t)
-    (shift-into-number-at-requires t)
-    (shift-into-shifted-requires t)
-    (shift-into-put-record-requires-3 t)
-    (shift-into-add-t37 t)
-    (shift-into-add-t38 t)
+    (shift-into-shift-leaf-into-requires t)
     (shift-into-same-length-3 t)
     (shift-into-returns-3 t)
-    (shift-into-put-record-requires-4 t)
-    (shift-into-add-t42 t)
-    (shift-into-add-t43 t)
-    (shift-into-same-length-4 t)
-    (shift-into-returns-4 t)

@@ -1,10 +1,13 @@
--- `agenda::alternatives::constant_head` meets its contract. The abstraction over the target, moved in below its binder, is the head's target.
--- Assumes nothing.
+-- `agenda::alternatives::constant_head` meets its contract. The abstraction over the target, moved in below its binder, is the head's target;
+-- it has the target's locals. Assumes nothing.
 use native.Mathlib.Omega.{arith}
-use Rattle.agenda.proofs.Applications.{raises, raised, raised-within, constant-pushes, constant-pushed}
+use Rattle.agenda.proofs.Applications.{constant-lacking, raises, raised, raised-within, constant-pushes, constant-pushed}
 use borrow.Author.Needs.{needs}
 use Rattle.agenda.proofs.alternatives.constant_head.Statement.{statement}
 use Rattle.agenda.proofs.alternatives.constant_head.Tie as tie
+
+returns : tie.Need-returns
+returns c = constant-lacking _ _ _ _ _ (c .before .before .before .pre .0) (c .before .before .before .pre .1) (c .if1 .taken)
 
 item-at-requires : tie.Need-item-at-requires
 item-at-requires c κs = search needs
@@ -13,7 +16,7 @@ slice-aggregate-shift-into : tie.Need-slice-aggregate-shift-into
 slice-aggregate-shift-into c = search needs
 
 shift-into-requires : tie.Need-shift-into-requires
-shift-into-requires c κs = raises _ _ _ _ (c .before .before .before .before .before .before .pre) _ (c .before .before .item-at .ensures .0) _ (omega arith)
+shift-into-requires c κs = raises _ _ _ _ (c .before .before .before .before .before .before .before .pre .0) _ (c .before .before .item-at .ensures .0) _ (omega arith)
 
 add-match-item : tie.Need-add-match-item
 add-match-item c = search needs
@@ -28,21 +31,22 @@ part-push-abstraction-start : tie.Need-part-push-abstraction-start
 part-push-abstraction-start c = search needs
 
 part-push-abstraction-end : tie.Need-part-push-abstraction-end
-part-push-abstraction-end c = omega (arith, raised-within _ _ _ _ (c .before .before .before .before .before .before .before .before .before .before .before .before .pre) _ (c .before .before .before .before .before .before .before .before .item-at .ensures .0) _ _ _ _ (omega arith) (c .before .before .before .before .before .shift-into .ensures))
+part-push-abstraction-end c = omega (arith, raised-within _ _ _ _ (c .before .before .before .before .before .before .before .before .before .before .before .before .before .pre .0) _ (c .before .before .before .before .before .before .before .before .item-at .ensures .0) _ _ _ _ (omega arith) (c .before .before .before .before .before .shift-into .ensures))
 
 push-abstraction-requires : tie.Need-push-abstraction-requires
-push-abstraction-requires c κs = constant-pushes _ _ _ _ (c .before .before .before .before .before .before .before .before .before .before .before .before .before .pre) _ (c .before .before .before .before .before .before .before .before .before .item-at .ensures .0) _ (raised _ _ _ _ (c .before .before .before .before .before .before .before .before .before .before .before .before .before .pre) _ (c .before .before .before .before .before .before .before .before .before .item-at .ensures .0) _ _ _ _ (omega arith) (c .before .before .before .before .before .before .shift-into .ensures)) _ (c .before .before .before .match-item .ensures)
+push-abstraction-requires c κs = constant-pushes _ _ _ _ (c .before .before .before .before .before .before .before .before .before .before .before .before .before .before .pre .0) _ (c .before .before .before .before .before .before .before .before .before .item-at .ensures .0) _ (raised _ _ _ _ (c .before .before .before .before .before .before .before .before .before .before .before .before .before .before .pre .0) _ (c .before .before .before .before .before .before .before .before .before .item-at .ensures .0) _ _ _ _ (omega arith) (c .before .before .before .before .before .before .shift-into .ensures)) _ (c .before .before .before .match-item .ensures)
 
 same-length : tie.Need-same-length
 same-length c = search needs
 
-returns : tie.Need-returns
-returns c = constant-pushed _ _ _ _ (c .before .before .before .before .before .before .before .before .before .before .before .before .before .before .before .before .pre) _ (c .before .before .before .before .before .before .before .before .before .before .before .before .item-at .ensures .0) _ (raised _ _ _ _ (c .before .before .before .before .before .before .before .before .before .before .before .before .before .before .before .before .pre) _ (c .before .before .before .before .before .before .before .before .before .before .before .before .item-at .ensures .0) _ _ _ _ (omega arith) (c .before .before .before .before .before .before .before .before .before .shift-into .ensures)) _ (c .before .before .before .before .before .before .match-item .ensures) _ _ (c .before .before .push-abstraction .ensures)
+returns-2 : tie.Need-returns-2
+returns-2 c = constant-pushed _ _ _ _ (c .before .before .before .before .before .before .before .before .before .before .before .before .before .before .before .before .before .pre .0) _ (c .before .before .before .before .before .before .before .before .before .before .before .before .item-at .ensures .0) _ (raised _ _ _ _ (c .before .before .before .before .before .before .before .before .before .before .before .before .before .before .before .before .before .pre .0) _ (c .before .before .before .before .before .before .before .before .before .before .before .before .item-at .ensures .0) _ _ _ _ (omega arith) (c .before .before .before .before .before .before .before .before .before .shift-into .ensures)) _ (c .before .before .before .before .before .before .match-item .ensures) _ _ (c .before .before .push-abstraction .ensures)
 
 pub constant-head-spec : {M : Type 1} → statement M
 constant-head-spec =
     tie.close
     (tie.spec
+    returns
     item-at-requires
     slice-aggregate-shift-into
     shift-into-requires
@@ -53,4 +57,4 @@ constant-head-spec =
     part-push-abstraction-end
     push-abstraction-requires
     same-length
-    returns)
+    returns-2)

@@ -1,8 +1,7 @@
 -- `agenda::alternatives::place_argument` meets its contract. A part that can be moved out of the binders above it is written at the top; no other
 -- one is an argument. Assumes nothing.
 use native.Mathlib.Omega.{arith}
-use Rattle.records.proofs.Parts.{whole}
-use Rattle.agenda.proofs.Arguments.{beyond, lowers, stuck, moved-more, moved-end, copied-room, placed}
+use Rattle.agenda.proofs.Arguments.{lowers, stuck, moved-more, moved-end, copied-room, placed}
 use borrow.Author.Needs.{needs}
 use Rattle.agenda.proofs.alternatives.place_argument.Statement.{statement}
 use Rattle.agenda.proofs.alternatives.place_argument.Tie as tie
@@ -13,23 +12,11 @@ mul-part c = search needs
 add-part : tie.Need-add-part
 add-part c = search needs
 
-end-at-requires : tie.Need-end-at-requires
-end-at-requires c κs = whole _ _ _ (c .before .before .pre .part)
-
-same-length : tie.Need-same-length
-same-length c = search needs
-
-returns : tie.Need-returns
-returns c = beyond _ _ _ _ _ (c .before .end-at .ensures) (c .if1 .taken)
-
-depth-at-requires : tie.Need-depth-at-requires
-depth-at-requires c κs = (whole _ _ _ (c .before .before .before .before .before .pre .part), omega (arith, c .before .before .before .before .before .pre .most), omega (arith, c .before .before .before .before .before .pre .number))
-
 slice-aggregate-lower-into : tie.Need-slice-aggregate-lower-into
 slice-aggregate-lower-into c = search needs
 
 lower-into-requires : tie.Need-lower-into-requires
-lower-into-requires c κs = lowers _ _ _ _ (c .before .before .before .before .before .before .before .before .pre) _ (c .before .before .before .before .before .end-at .ensures) (c .before .before .before .before .if1 .left) _ (c .before .before .depth-at .ensures) _ (omega arith)
+lower-into-requires c κs = lowers _ _ _ _ (c .before .before .before .pre .0) _ (c .before .before .before .pre .1) _ (omega arith)
 
 enum-known-moved : tie.Need-enum-known-moved
 enum-known-moved c = search needs
@@ -37,14 +24,14 @@ enum-known-moved c = search needs
 enum-told : tie.Need-enum-told
 enum-told c = search needs
 
-same-length-2 : tie.Need-same-length-2
-same-length-2 c = search needs
+same-length : tie.Need-same-length
+same-length c = search needs
 
-returns-2 : tie.Need-returns-2
-returns-2 c = stuck _ _ _ _ (c .before .before .before .before .before .before .before .before .before .before .before .before .pre) _ (c .before .before .before .before .before .before .before .before .before .end-at .ensures) (c .before .before .before .before .before .before .before .before .if1 .left) _ (c .before .before .before .before .before .before .depth-at .ensures) _ _ _ (c .before .before .before .lower-into .ensures) (c .enum-told .given .1)
+returns : tie.Need-returns
+returns c = stuck _ _ _ _ (c .before .before .before .before .before .before .before .pre .0) _ (c .before .before .before .before .before .before .before .pre .1) _ _ _ (c .before .before .before .lower-into .ensures) (c .enum-told .given .1)
 
 sub-n : tie.Need-sub-n
-sub-n c = omega (arith, moved-more _ _ _ _ (c .before .before .before .before .before .before .before .before .before .before .before .before .before .pre) _ (c .before .before .before .before .before .before .before .before .before .before .end-at .ensures) (c .before .before .before .before .before .before .before .before .before .if1 .left) _ (c .before .before .before .before .before .before .before .depth-at .ensures) _ _ _ (c .before .before .before .before .lower-into .ensures) _ (c .before .moved .given .1))
+sub-n c = omega (arith, moved-more _ _ _ _ (c .before .before .before .before .before .before .before .before .pre .0) _ (c .before .before .before .before .before .before .before .before .pre .1) _ _ _ (c .before .before .before .before .lower-into .ensures) _ (c .before .moved .given .1))
 
 sub-copy-into : tie.Need-sub-copy-into
 sub-copy-into c = search needs
@@ -53,19 +40,19 @@ part-copy-into-start : tie.Need-part-copy-into-start
 part-copy-into-start c = search needs
 
 part-copy-into-end : tie.Need-part-copy-into-end
-part-copy-into-end c = omega (arith, moved-end _ _ _ _ (c .before .before .before .before .before .before .before .before .before .before .before .before .before .before .pre) _ (c .before .before .before .before .before .before .before .before .before .before .before .end-at .ensures) (c .before .before .before .before .before .before .before .before .before .before .if1 .left) _ (c .before .before .before .before .before .before .before .before .depth-at .ensures) _ _ _ (c .before .before .before .before .before .lower-into .ensures) _ (c .before .before .moved .given .1))
+part-copy-into-end c = omega (arith, moved-end _ _ _ _ (c .before .before .before .before .before .before .before .before .before .pre .0) _ (c .before .before .before .before .before .before .before .before .before .pre .1) _ _ _ (c .before .before .before .before .before .lower-into .ensures) _ (c .before .before .moved .given .1))
 
 copy-into-requires : tie.Need-copy-into-requires
-copy-into-requires c κs = copied-room _ _ _ _ (c .before .before .before .before .before .before .before .before .before .before .before .before .before .before .before .before .pre) _ (c .before .before .before .before .before .before .before .before .before .before .before .before .before .end-at .ensures) (c .before .before .before .before .before .before .before .before .before .before .before .before .if1 .left) _ (c .before .before .before .before .before .before .before .before .before .before .depth-at .ensures) _ _ _ (c .before .before .before .before .before .before .before .lower-into .ensures) _ (c .before .before .before .before .moved .given .1) (omega arith)
+copy-into-requires c κs = copied-room _ _ _ _ (c .before .before .before .before .before .before .before .before .before .before .before .pre .0) _ (c .before .before .before .before .before .before .before .before .before .before .before .pre .1) _ _ _ (c .before .before .before .before .before .before .before .lower-into .ensures) _ (c .before .before .before .before .moved .given .1) (omega arith)
 
 add-t11 : tie.Need-add-t11
-add-t11 c = omega (arith, moved-end _ _ _ _ (c .before .before .before .before .before .before .before .before .before .before .before .before .before .before .before .before .before .before .before .pre) _ (c .before .before .before .before .before .before .before .before .before .before .before .before .before .before .before .before .end-at .ensures) (c .before .before .before .before .before .before .before .before .before .before .before .before .before .before .before .if1 .left) _ (c .before .before .before .before .before .before .before .before .before .before .before .before .before .depth-at .ensures) _ _ _ (c .before .before .before .before .before .before .before .before .before .before .lower-into .ensures) _ (c .before .before .before .before .before .before .before .moved .given .1), c .before .before .before .before .before .before .before .before .before .before .before .before .before .before .before .before .before .before .before .pre .room, c .before .before .before .before .before .before .before .before .before .before .before .before .before .before .before .before .before .before .before .pre .most)
+add-t11 c = omega (arith, moved-end _ _ _ _ (c .before .before .before .before .before .before .before .before .before .before .before .before .before .before .pre .0) _ (c .before .before .before .before .before .before .before .before .before .before .before .before .before .before .pre .1) _ _ _ (c .before .before .before .before .before .before .before .before .before .before .lower-into .ensures) _ (c .before .before .before .before .before .before .before .moved .given .1), c .before .before .before .before .before .before .before .before .before .before .before .before .before .before .pre .0 .room, c .before .before .before .before .before .before .before .before .before .before .before .before .before .before .pre .0 .most)
 
-same-length-3 : tie.Need-same-length-3
-same-length-3 c = search needs
+same-length-2 : tie.Need-same-length-2
+same-length-2 c = search needs
 
-returns-3 : tie.Need-returns-3
-returns-3 c = placed _ _ _ _ (c .before .before .before .before .before .before .before .before .before .before .before .before .before .before .before .before .before .before .before .pre) _ (c .before .before .before .before .before .before .before .before .before .before .before .before .before .before .before .before .end-at .ensures) (c .before .before .before .before .before .before .before .before .before .before .before .before .before .before .before .if1 .left) _ (c .before .before .before .before .before .before .before .before .before .before .before .before .before .depth-at .ensures) _ _ _ (c .before .before .before .before .before .before .before .before .before .before .lower-into .ensures) _ (c .before .before .before .before .before .before .before .moved .given .1) (omega arith) _ (c .before .before .copy-into .ensures)
+returns-2 : tie.Need-returns-2
+returns-2 c = placed _ _ _ _ (c .before .before .before .before .before .before .before .before .before .before .before .before .before .before .pre .0) _ (c .before .before .before .before .before .before .before .before .before .before .before .before .before .before .pre .1) _ _ _ (c .before .before .before .before .before .before .before .before .before .before .lower-into .ensures) _ (c .before .before .before .before .before .before .before .moved .given .1) (omega arith) _ (c .before .before .copy-into .ensures)
 
 pub place-argument-spec : {M : Type 1} → statement M
 place-argument-spec =
@@ -73,21 +60,17 @@ place-argument-spec =
     (tie.spec
     mul-part
     add-part
-    end-at-requires
-    same-length
-    returns
-    depth-at-requires
     slice-aggregate-lower-into
     lower-into-requires
     enum-known-moved
     enum-told
-    same-length-2
-    returns-2
+    same-length
+    returns
     sub-n
     sub-copy-into
     part-copy-into-start
     part-copy-into-end
     copy-into-requires
     add-t11
-    same-length-3
-    returns-3)
+    same-length-2
+    returns-2)

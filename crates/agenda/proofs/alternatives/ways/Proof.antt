@@ -1,5 +1,6 @@
--- `agenda::alternatives::ways` meets its contract. The end of the target tells how many records it has. Assumes nothing.
-use Rattle.agenda.proofs.Applications.{numbers, counted}
+-- `agenda::alternatives::ways` meets its contract. The end of the target tells how many records it has, and the end of the head where the
+-- argument begins. Assumes nothing.
+use Rattle.agenda.proofs.Applications.{numbers, argument-whole, locals, counted, depths-room}
 use borrow.Author.Needs.{needs}
 use Rattle.agenda.proofs.alternatives.ways.Statement.{statement}
 use Rattle.agenda.proofs.alternatives.ways.Tie as tie
@@ -7,17 +8,48 @@ use Rattle.agenda.proofs.alternatives.ways.Tie as tie
 item-at-requires : tie.Need-item-at-requires
 item-at-requires c κs = search needs
 
+add-head : tie.Need-add-head
+add-head c = search needs
+
 end-at-requires : tie.Need-end-at-requires
-end-at-requires c κs = numbers _ _ _ _ (c .before .before .before .pre) _ (c .item-at .ensures .0) .target
+end-at-requires c κs = numbers _ _ _ _ (c .before .before .before .before .pre) _ (c .before .item-at .ensures .0) .target
 
-sub-result : tie.Need-sub-result
-sub-result c = search needs
+end-at-requires-2 : tie.Need-end-at-requires-2
+end-at-requires-2 c κs = numbers _ _ _ _ (c .before .before .before .before .before .pre) _ (c .before .before .item-at .ensures .0) .head
 
-add-result : tie.Need-add-result
-add-result c = search needs
+is-rigid-requires : tie.Need-is-rigid-requires
+is-rigid-requires c κs = argument-whole _ _ _ _ (c .before .before .before .before .before .before .pre) _ (c .before .before .before .item-at .ensures .0) _ (c .end-at2 .ensures)
+
+lacks-local-requires : tie.Need-lacks-local-requires
+lacks-local-requires c κs = locals _ _ _ _ (c .before .before .before .before .before .before .before .pre) _ (c .before .before .before .before .item-at .ensures .0)
+
+slice-aggregate-depths-into : tie.Need-slice-aggregate-depths-into
+slice-aggregate-depths-into c = search needs
+
+depths-into-requires : tie.Need-depths-into-requires
+depths-into-requires c κs = depths-room _ _ _ _ (c .before .before .before .before .before .before .before .before .before .pre) _ (c .before .before .before .before .before .before .item-at .ensures .0)
+
+sub-t13 : tie.Need-sub-t13
+sub-t13 c = search needs
+
+add-t17 : tie.Need-add-t17
+add-t17 c = search needs
 
 returns : tie.Need-returns
-returns c = counted _ _ _ _ (c .before .before .before .before .pre) _ (c .before .item-at .ensures .0) _ (c .end-at .ensures)
+returns c = counted _ _ _ _ (c .before .before .before .before .before .before .before .before .before .before .before .pre) _ (c .before .before .before .before .before .before .before .before .item-at .ensures .0) _ _ _ _ _ _ (c .before .before .before .before .before .before .end-at .ensures) (c .before .before .before .before .before .end-at2 .ensures) (c .before .before .before .before .is-rigid .ensures) (c .before .before .before .lacks-local .ensures) (c .before .depths-into .ensures)
 
 pub ways-spec : {M : Type 1} → statement M
-ways-spec = tie.close (tie.spec item-at-requires end-at-requires sub-result add-result returns)
+ways-spec =
+    tie.close
+    (tie.spec
+    item-at-requires
+    add-head
+    end-at-requires
+    end-at-requires-2
+    is-rigid-requires
+    lacks-local-requires
+    slice-aggregate-depths-into
+    depths-into-requires
+    sub-t13
+    add-t17
+    returns)

@@ -1,0 +1,111 @@
+-- The number of an answer fits 64 bits, so that it is handed on as it is: a count of lines or records is bounded by the largest table, and a
+-- refusal's number is one of fourteen. Assumes nothing.
+use mathlib.Core.Path.{_≡_, ap, _∙_, subst}
+use mathlib.Core.List.{List, [], _∷_, _++_}
+use mathlib.Core.Logic.{inl}
+use Prim.Native.Nat.{ℕ, zero, suc, max, _≤_, _<_}
+use native.Mathlib.Nat.{le-max-left}
+use native.Mathlib.Decide.{decLt}
+use native.Mathlib.Omega.{arith}
+use lib.Dec.{lit<}
+use lib.IntN.{ℤ, pos, negℤ, _-ℤ_, +ℤ-idl}
+use lib.ListN.{length}
+use mir.Syntax.{w64}
+use mir.Val.{SFits, toZ, ofZ}
+use mir.ValLaws.{toZ-pos, toZ-ofZ}
+use Rattle.terms.specs.Figures.{sweptRecords, tableBytes}
+use Rattle.terms.specs.Term.{Term, app, lam, loc, con, var, size}
+use Rattle.terms.specs.Sweep.{sweep, largest}
+use Rattle.terms.specs.Refusal.{Row, Passed, swept, output, unmatched}
+use Rattle.matcher.specs.declared.Refusal.{Refusal}
+use Rattle.matcher.specs.declared.ListAnswer.{ListAnswer}
+use Rattle.matcher.specs.declared.SweepAnswer.{SweepAnswer}
+use Rattle.matcher.specs.declared.RewriteAnswer.{RewriteAnswer}
+use Rattle.matcher.specs.Operations.{number, lentForList, lentForSweep, lentForRewrite, Written, WrittenLines, Listed, Swept, Rewritten}
+use Rattle.exports.specs.Answers.{refusalCode}
+
+-- a line table has at most 2,048 lines
+pub listed-few : (p r l s w : List ℕ) (a : ListAnswer) (m q : List ℕ) → Listed p r l s w a m q → (n : ℕ) → a ≡ ListAnswer.Lines n → n ≤ tableBytes
+unfolding Listed
+listed-few p r l s w a m q x n e = few (subst (λ (b : ListAnswer). Listed p r l s w b m q) e x)
+  where
+    few : Passed (lentForList p r l s w) × WrittenLines p r l s n m q → n ≤ tableBytes
+    few (h, f) = go (decLt tableBytes (length l))
+      where
+        go : Dec (tableBytes < length l) → n ≤ tableBytes
+        go (yes d) = absurd (h .0 (inl d))
+        go (no d) = let g = f .room .0 in omega (arith, f .count)
+
+-- a swept form that is written is short
+sweep-largest : (t : Term) → size (sweep t) ≤ largest t
+sweep-largest (app f a) = le-max-left (size (sweep (app f a))) (max (largest f) (largest a))
+sweep-largest (lam b) = le-max-left (size (sweep (lam b))) (largest b)
+sweep-largest (loc n) = omega arith
+sweep-largest (con n) = omega arith
+sweep-largest (var n) = omega arith
+
+passed-first : (rows more : List Row) → Passed (rows ++ more) → Passed rows
+passed-first [] more h = tt
+passed-first (r ∷ rows) more h = (h .0, passed-first rows more (h .1))
+
+passed-later : (rows more : List Row) → Passed (rows ++ more) → Passed more
+passed-later [] more h = h
+passed-later (r ∷ rows) more h = passed-later rows more (h .1)
+
+written-few : (p l s o : List ℕ) (n : ℕ) (after : List ℕ) → Passed (swept p l s) → Written p l s o n after → n ≤ tableBytes
+written-few p l s o n after h w = go (decLt sweptRecords (largest (w .term)))
+  where
+    go : Dec (sweptRecords < largest (w .term)) → n ≤ tableBytes
+    go (yes d) = absurd (h .0 (w .term, w .filled, d))
+    go (no d) = omega (arith, w .records, sweep-largest (w .term))
+
+pub swept-few : (p l s o w : List ℕ) (a : SweepAnswer) (after : List ℕ) → Swept p l s o w a after → (n : ℕ) → a ≡ SweepAnswer.Records n → n ≤ tableBytes
+unfolding Swept
+swept-few p l s o w a after x n e =
+    let y = subst (λ (b : SweepAnswer). Swept p l s o w b after) e x in
+    written-few p l s o n after (passed-first (swept p l s) (output p l s o) (passed-later (lentForSweep p l s o w) (swept p l s ++ output p l s o) (y .0))) (y .1)
+
+pub rewritten-few : (p q r l s o w : List ℕ) (a : RewriteAnswer) (after : List ℕ) → Rewritten p q r l s o w a after → (n : ℕ) → a ≡ RewriteAnswer.Records n → n ≤ tableBytes
+unfolding Rewritten
+rewritten-few p q r l s o w a after x n e =
+    let y = subst (λ (b : RewriteAnswer). Rewritten p q r l s o w b after) e x in
+    let z = passed-later (lentForRewrite p q r l s o w) (swept p l s ++ (unmatched p l s r ++ (swept q l s ++ output q l s o))) (y .0) in
+    let u = passed-later (unmatched p l s r) (swept q l s ++ output q l s o) (passed-later (swept p l s) (unmatched p l s r ++ (swept q l s ++ output q l s o)) z) in
+    written-few q l s o n after (passed-first (swept q l s) (output q l s o) u) (y .1)
+
+-- the numbers of answers fit
+pub fits-records : (n : ℕ) → n ≤ tableBytes → SFits w64 (pos n)
+fits-records n h = record { sfits = omega arith }
+
+fits-minus : (n : ℕ) → n ≤ tableBytes → SFits w64 (negℤ (pos n))
+fits-minus zero h = record { sfits = lit< tt }
+fits-minus (suc n) h = record { sfits = omega arith }
+
+pub number-few : (c : Refusal) → number c ≤ tableBytes
+number-few Refusal.PatternLength = omega arith
+number-few Refusal.PatternRecord = omega arith
+number-few Refusal.PatternTerm = omega arith
+number-few Refusal.RecipeLength = omega arith
+number-few Refusal.RecipeRecord = omega arith
+number-few Refusal.RecipeTerm = omega arith
+number-few Refusal.RecipeRedex = omega arith
+number-few Refusal.Tables = omega arith
+number-few Refusal.LineRoom = omega arith
+number-few Refusal.ValueRoom = omega arith
+number-few Refusal.Assignment = omega arith
+number-few Refusal.SweptForm = omega arith
+number-few Refusal.Output = omega arith
+number-few Refusal.NoMatch = omega arith
+
+pub fits-refusal : (c : Refusal) → SFits w64 (refusalCode c)
+fits-refusal c = fits-minus (number c) (number-few c)
+
+-- 0 minus a refusal's number, as 64 bits hold it
+pub minus-number : (c : Refusal) (n : ℕ) → n ≡ number c → pos 0 -ℤ toZ w64 n ≡ refusalCode c
+minus-number c n e =
+    ap (λ (m : ℕ). pos 0 -ℤ toZ w64 m) e
+    ∙ ap (λ (z : ℤ). pos 0 -ℤ z) (toZ-pos w64 (number c) (fits-records (number c) (number-few c) .sfits)) ∙ +ℤ-idl (refusalCode c)
+
+-- a number that was handed on is still itself
+pub handed-on : (z k : ℤ) → z ≡ k → SFits w64 k → toZ w64 (ofZ w64 z) ≡ k
+handed-on z k e f = ap (λ (y : ℤ). toZ w64 (ofZ w64 y)) e ∙ toZ-ofZ w64 k f

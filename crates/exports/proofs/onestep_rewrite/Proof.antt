@@ -1,0 +1,56 @@
+-- `exports::onestep_rewrite` meets its contract: the number is that of rewrite's answer. Assumes nothing.
+use mathlib.Core.Path.{refl, sym, ap, _∙_}
+use Rattle.exports.specs.Answers.{rewriteCode}
+use Rattle.exports.proofs.Answers.{fits-refusal, handed-on, fits-records, rewritten-few}
+use borrow.Author.Needs.{needs}
+use Rattle.exports.proofs.onestep_rewrite.Statement.{statement}
+use Rattle.exports.proofs.onestep_rewrite.Tie as tie
+
+rewrite-requires : tie.Need-rewrite-requires
+rewrite-requires c κs = search needs
+
+enum-known-answer : tie.Need-enum-known-answer
+enum-known-answer c = search needs
+
+cast-result : tie.Need-cast-result
+cast-result c = fits-records _ (rewritten-few _ _ _ _ _ _ _ _ _ (c .before .before .before .before .before .before .before .rewrite .ensures .0) _ (c .before .answer .given .1))
+
+enum-known-answer-2 : tie.Need-enum-known-answer-2
+enum-known-answer-2 c = search needs
+
+refusal-code-requires : tie.Need-refusal-code-requires
+refusal-code-requires c κs = search needs
+
+same-length : tie.Need-same-length
+same-length c = search needs
+
+same-length-2 : tie.Need-same-length-2
+same-length-2 c = search needs
+
+returns : tie.Need-returns
+returns c = ((c .before .before .before .before .before .before .before .rewrite .result, c .before .before .before .before .before .before .before .rewrite .ensures .0, handed-on _ _ refl (fits-records _ (rewritten-few _ _ _ _ _ _ _ _ _ (c .before .before .before .before .before .before .before .rewrite .ensures .0) _ (c .before .answer .given .1))) ∙ sym (ap rewriteCode (c .before .answer .given .1))), c .before .before .before .before .before .before .before .rewrite .ensures .1)
+
+same-length-3 : tie.Need-same-length-3
+same-length-3 c = search needs
+
+same-length-4 : tie.Need-same-length-4
+same-length-4 c = search needs
+
+returns-2 : tie.Need-returns-2
+returns-2 c = ((c .before .before .before .before .before .before .before .before .rewrite .result, c .before .before .before .before .before .before .before .before .rewrite .ensures .0, handed-on _ _ (c .refusal-code .ensures) (fits-refusal (c .before .before .answer2 .given .0 .0)) ∙ sym (ap rewriteCode (c .before .before .answer2 .given .1))), c .before .before .before .before .before .before .before .before .rewrite .ensures .1)
+
+pub onestep-rewrite-spec : {M : Type 1} → statement M
+onestep-rewrite-spec =
+    tie.close
+    (tie.spec
+    rewrite-requires
+    enum-known-answer
+    cast-result
+    enum-known-answer-2
+    refusal-code-requires
+    same-length
+    same-length-2
+    returns
+    same-length-3
+    same-length-4
+    returns-2)

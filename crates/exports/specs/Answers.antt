@@ -1,0 +1,46 @@
+-- The operations' answers as one number: lines, records, or 1 and 0 for yes and no, or minus the refusal number.
+--   refusalCode c     minus document 01's number of the refusal c
+--   listCode a, checkCode a, sweepCode a, rewriteCode a   the number of an answer
+--   ListedAs, CheckedAs, SweptAs, RewrittenAs   some answer that the operation may give has this number
+use mathlib.Core.Path.{_≡_}
+use mathlib.Core.List.{List}
+use Prim.Native.Nat.{ℕ}
+use lib.IntN.{ℤ, pos, negℤ}
+use Rattle.matcher.specs.declared.Refusal.{Refusal}
+use Rattle.matcher.specs.declared.ListAnswer.{ListAnswer}
+use Rattle.matcher.specs.declared.CheckAnswer.{CheckAnswer}
+use Rattle.matcher.specs.declared.SweepAnswer.{SweepAnswer}
+use Rattle.matcher.specs.declared.RewriteAnswer.{RewriteAnswer}
+use Rattle.matcher.specs.Operations.{number, Listed, Checked, Swept, Rewritten}
+
+abbrev pub refusalCode : Refusal → ℤ
+refusalCode c = negℤ (pos (number c))
+
+abbrev pub listCode : ListAnswer → ℤ
+listCode (ListAnswer.Lines n) = pos n
+listCode (ListAnswer.Refused c) = refusalCode c
+
+abbrev pub checkCode : CheckAnswer → ℤ
+checkCode CheckAnswer.Yes = pos 1
+checkCode CheckAnswer.No = pos 0
+checkCode (CheckAnswer.Refused c) = refusalCode c
+
+abbrev pub sweepCode : SweepAnswer → ℤ
+sweepCode (SweepAnswer.Records n) = pos n
+sweepCode (SweepAnswer.Refused c) = refusalCode c
+
+abbrev pub rewriteCode : RewriteAnswer → ℤ
+rewriteCode (RewriteAnswer.Records n) = pos n
+rewriteCode (RewriteAnswer.Refused c) = refusalCode c
+
+abbrev pub ListedAs : List ℕ → List ℕ → List ℕ → List ℕ → List ℕ → ℤ → List ℕ → List ℕ → Type 0
+ListedAs p r l s w k lines-after values-after = (a : ListAnswer) × Listed p r l s w a lines-after values-after × (k ≡ listCode a)
+
+abbrev pub CheckedAs : List ℕ → List ℕ → List ℕ → List ℕ → List ℕ → ℤ → Type 0
+CheckedAs p r l s w k = (a : CheckAnswer) × Checked p r l s w a × (k ≡ checkCode a)
+
+abbrev pub SweptAs : List ℕ → List ℕ → List ℕ → List ℕ → List ℕ → ℤ → List ℕ → Type 0
+SweptAs p l s o w k after = (a : SweepAnswer) × Swept p l s o w a after × (k ≡ sweepCode a)
+
+abbrev pub RewrittenAs : List ℕ → List ℕ → List ℕ → List ℕ → List ℕ → List ℕ → List ℕ → ℤ → List ℕ → Type 0
+RewrittenAs p q r l s o w k after = (a : RewriteAnswer) × Rewritten p q r l s o w a after × (k ≡ rewriteCode a)
