@@ -28,15 +28,16 @@ pub const EIGHT: usize = 6;
 pub const GROUND: usize = 7;
 
 // How a part is made.
-enum Way {
-    Abstraction,
-    Application,
-    BetaRedex,
-    EtaRedex,
-}
+const ABSTRACTION: usize = 0;
+
+const APPLICATION: usize = 1;
+
+const BETA_REDEX: usize = 2;
+
+const ETA_REDEX: usize = 3;
 
 // The way of a part of four or more records.
-fn way_of(shape: usize, size: usize, seed: &mut u64) -> Way {
+fn way_of(shape: usize, size: usize, seed: &mut u64) -> usize {
     let d = draw(seed, 6);
     match shape {
         BETA => redex_or(d, 3, 0),
@@ -49,28 +50,28 @@ fn way_of(shape: usize, size: usize, seed: &mut u64) -> Way {
 }
 
 // All leaves are variables and there are to be eight of them, so there are few abstractions.
-fn eight_way(size: usize) -> Way {
+fn eight_way(size: usize) -> usize {
     if size % 2 == 0 {
-        return Way::Abstraction;
+        return ABSTRACTION;
     }
-    Way::Application
+    APPLICATION
 }
 
-fn redex_or(d: usize, beta: usize, eta: usize) -> Way {
+fn redex_or(d: usize, beta: usize, eta: usize) -> usize {
     if d < beta {
-        return Way::BetaRedex;
+        return BETA_REDEX;
     }
     if d < eta {
-        return Way::EtaRedex;
+        return ETA_REDEX;
     }
     abstraction_or(d, 5)
 }
 
-fn abstraction_or(d: usize, least: usize) -> Way {
+fn abstraction_or(d: usize, least: usize) -> usize {
     if d < least {
-        return Way::Application;
+        return APPLICATION;
     }
-    Way::Abstraction
+    ABSTRACTION
 }
 
 // A local of a set, from `start` on if there is one.
@@ -180,6 +181,63 @@ fn put_small(
     put_leaf(out, argument, shape, locals, seed, next)
 }
 
+fn put_two(out: &mut [u8], at: usize, first: u8, second: u8) -> usize
+    requires { ⌜ at ≤ length (now out) ⌝ }
+    ensures { λ r. ⌜ r ≤ length (now (out .exit)) ⌝ }
+{
+    let next = put_record(out, at, first, 0);
+    put_record(out, next, second, 0)
+}
+
+// Puts the records before the first part.
+fn put_front(out: &mut [u8], at: usize, way: usize) -> usize
+    requires { ⌜ at ≤ length (now out) ⌝ }
+    ensures { λ r. ⌜ r ≤ length (now (out .exit)) ⌝ }
+{
+    match way {
+        ABSTRACTION => put_record(out, at, Kind::ABSTRACTION.code, 0),
+        APPLICATION => put_record(out, at, Kind::APPLICATION.code, 0),
+        BETA_REDEX => put_two(out, at, Kind::APPLICATION.code, Kind::ABSTRACTION.code),
+        _ => put_two(out, at, Kind::ABSTRACTION.code, Kind::APPLICATION.code),
+    }
+}
+
+// The locals that the first part may use.
+fn first_locals(way: usize, locals: u64) -> u64 {
+    match way {
+        APPLICATION => locals,
+        ETA_REDEX => past(locals),
+        _ => under(locals),
+    }
+}
+
+// How many records the first part has.
+fn first_size(way: usize, size: usize, seed: &mut u64) -> usize {
+    if size < 4 {
+        return 0;
+    }
+    match way {
+        ABSTRACTION => size - 1,
+        APPLICATION => 1 + draw(seed, size - 2),
+        BETA_REDEX => 1 + draw(seed, size - 3),
+        _ => size - 3,
+    }
+}
+
+// How many are left for an argument.
+fn rest_size(way: usize, size: usize, first: usize) -> usize {
+    if size <= first {
+        return 0;
+    }
+    if size - first < 2 {
+        return 0;
+    }
+    if way == BETA_REDEX {
+        return size - first - 2;
+    }
+    size - first - 1
+}
+
 // Puts a part of just `size` records, whose loose locals are in the set.
 pub fn put_part(
     out: &mut [u8],
@@ -196,29 +254,30 @@ pub fn put_part(
     if size < 4 {
         return put_small(out, at, shape, size, locals, seed, next);
     }
-    match way_of(shape, size, seed) {
-        Way::Abstraction => {
-            let body = put_record(out, at, Kind::ABSTRACTION.code, 0);
-            put_part(out, body, shape, size - 1, under(locals), seed, next)
-        }
-        Way::Application => {
-            let m = 1 + draw(seed, size - 2);
-            let head = put_record(out, at, Kind::APPLICATION.code, 0);
-            let argument = put_part(out, head, shape, m, locals, seed, next);
-            put_part(out, argument, shape, size - 1 - m, locals, seed, next)
-        }
-        Way::BetaRedex => {
-            let m = 1 + draw(seed, size - 3);
-            let head = put_record(out, at, Kind::APPLICATION.code, 0);
-            let body = put_record(out, head, Kind::ABSTRACTION.code, 0);
-            let argument = put_part(out, body, shape, m, under(locals), seed, next);
-            put_part(out, argument, shape, size - 2 - m, locals, seed, next)
-        }
-        Way::EtaRedex => {
-            let body = put_record(out, at, Kind::ABSTRACTION.code, 0);
-            let head = put_record(out, body, Kind::APPLICATION.code, 0);
-            let argument = put_part(out, head, shape, size - 3, past(locals), seed, next);
-            put_record(out, argument, Kind::LOCAL.code, 0)
-        }
+    let way = way_of(shape, size, seed);
+    let first = first_size(way, size, seed);
+    let rest = rest_size(way, size, first);
+    if size <= first {
+        return at;
     }
+    if size <= rest {
+        return at;
+    }
+    let front = put_front(out, at, way);
+    let end = put_part(
+        out,
+        front,
+        shape,
+        first,
+        first_locals(way, locals),
+        seed,
+        next,
+    );
+    if way == ABSTRACTION {
+        return end;
+    }
+    if way == ETA_REDEX {
+        return put_record(out, end, Kind::LOCAL.code, 0);
+    }
+    put_part(out, end, shape, rest, locals, seed, next)
 }

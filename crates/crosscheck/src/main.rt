@@ -4,15 +4,18 @@
 // pattern and recipe it lists, and then tries every assignment of the pattern's variables to the first of these terms, or to a few that
 // are drawn: check and the swept form must say the same, a match must agree with exactly one line, and what is no match with none. Every
 // line must rise above the one before, have its values where document 01 puts them, and match however its open variables are filled; the
-// bytes behind stay and the work area is zero. Nothing here uses the search. It prints what it compared and how many of each outcome. It promises that it is
-// safe and that it ends; `matcher` promises the rest. It rests on `matcher`, and on `notation` to read the cases.
+// bytes behind stay and the work area is zero. The enumeration doesn't use the search. The program prints what it compared and how many of
+// each outcome. It promises that it is safe and that it ends; `matcher` promises the rest. It rests on `matcher`, and on `notation` to read
+// the cases.
 //
 // A case is one line of fields, each ended by `;` or the line:
 //     NAME; list; PATTERN; RECIPE; COUNT; REFUSAL
 //     NAME; random; SHAPE; SEED; CASES
-// COUNT is the number of lines, found by other means, and REFUSAL the number of the refusal, if there is to be one. SHAPE is the number of what the patterns are to have many of: 0 nothing
-// special, 1 applied abstractions, 2 abstractions over `M #0`, 3 both, 4 repeated variables, 5 locals, 6 all eight variables. Any other
-// line is a heading, and printed as it is.
+//     NAME; total; NUMBER
+// COUNT is the number of lines, found by other means, and REFUSAL the number of the refusal, if there is to be one. SHAPE is the number of
+// what the patterns are to have many of: 0 nothing special, 1 applied abstractions, 2 abstractions over `M #0`, 3 both, 4 repeated
+// variables, 5 locals, 6 all eight variables. NUMBER is that of a total in `outcome`, over all cases so far. Any other line is a heading,
+// and printed as it is.
 
 mod agreement;
 mod generate;
@@ -311,18 +314,6 @@ fn run_random(
 
 fn say_group(totals: &[u64; SIZE]) {
     say_total(totals, outcome::CASES, b": cases ");
-    say_total(totals, outcome::WITH_BETA, b" (with beta redexes ");
-    say_total(totals, outcome::WITH_ETA, b", eta redexes ");
-    say_total(totals, outcome::WITH_REPEATED, b", a repeated variable ");
-    say_total(
-        totals,
-        outcome::WITH_APPLIED,
-        b", a variable applied to a local ",
-    );
-    say_total(totals, outcome::WITH_EIGHT, b", all eight variables ");
-    say_total(totals, outcome::WITH_NONE, b", no variable ");
-    say_total(totals, outcome::REFUSED + 7, b"), refused for the recipe ");
-    say_total(totals, outcome::NO_LINE, b", with no line ");
     say_total(totals, outcome::LINES, b"; lines ");
     say_compared(totals);
 }
@@ -349,6 +340,13 @@ fn run_group(
     add_all(all, &totals);
 }
 
+// Prints the total of all cases so far that a number stands for.
+fn say_line(case: &[u8], all: &[u64; SIZE]) {
+    say(field(case, 0));
+    say_total(all, bytes_in(field(case, 2), 0), b": ");
+    say(b"\n");
+}
+
 fn run(
     case: &[u8],
     entries: &[u8],
@@ -361,6 +359,7 @@ fn run(
     match letter {
         b'l' => run_example(case, entries, lines, values, work, all),
         b'r' => run_group(case, entries, lines, values, work, all),
+        b't' => say_line(case, all),
         _ => say_heading(case),
     }
 }
@@ -379,85 +378,6 @@ fn run_all(
         run(&cases[at..end], entries, lines, values, work, all);
         at = end + 1;
     }
-}
-
-fn say_disagreements(all: &[u64; SIZE]) {
-    say_total(
-        all,
-        outcome::CHECK_AND_SWEEP,
-        b"disagreements\n  check and the swept form: ",
-    );
-    say_total(
-        all,
-        outcome::IN_NO_LINE,
-        b"\n  a match that agrees with no line: ",
-    );
-    say_total(
-        all,
-        outcome::IN_TWO_LINES,
-        b"\n  a match that agrees with two lines: ",
-    );
-    say_total(
-        all,
-        outcome::NO_MATCH_IN_LINE,
-        b"\n  no match, and agrees with a line: ",
-    );
-    say_total(
-        all,
-        outcome::FILLING,
-        b"\n  a filling of a line that is no match: ",
-    );
-    say_total(
-        all,
-        outcome::ORDER,
-        b"\n  a line that is not above the one before: ",
-    );
-    say_total(
-        all,
-        outcome::LAYOUT,
-        b"\n  lines and values that are not laid out as document 01 says: ",
-    );
-    say_total(
-        all,
-        outcome::BEHIND,
-        b"\n  bytes behind the lines or the values that changed: ",
-    );
-    say_total(all, outcome::AREA, b"\n  a work area that is not zero: ");
-    say_total(
-        all,
-        outcome::REFUSAL,
-        b"\n  a refusal of a normal recipe, or none of another: ",
-    );
-    say_total(
-        all,
-        outcome::NUMBER,
-        b"\n  a count that is not the one expected: ",
-    );
-    say(b"\n");
-}
-
-fn say_refusal(all: &[u64; SIZE], number: usize) {
-    say(b" ");
-    say_number(number as u64);
-    say_total(all, outcome::REFUSED + number % 16, b": ");
-}
-
-fn say_refusals(all: &[u64; SIZE]) {
-    let mut number = 1;
-    while number < 15 {
-        say_refusal(all, number);
-        number += 1;
-    }
-}
-
-fn say_all(all: &[u64; SIZE]) {
-    say(b"all");
-    say_group(all);
-    say(b"refused");
-    say_refusals(all);
-    say_total(all, outcome::TOO_LONG, b"\ntoo long to sweep: ");
-    say(b"\n");
-    say_disagreements(all);
 }
 
 // Fills the part of the value table that list is not lent, and gives the bytes of the entries.
@@ -484,5 +404,4 @@ fn main() {
         &mut work,
         &mut all,
     );
-    say_all(&all);
 }

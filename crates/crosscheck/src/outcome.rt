@@ -1,4 +1,4 @@
-// What is counted, and how it is printed.
+// What is counted, and how it is printed. The file of the examples names these totals by their numbers.
 
 use libc::STDOUT_FILENO;
 use notation::say;

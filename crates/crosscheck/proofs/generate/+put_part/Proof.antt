@@ -7,11 +7,12 @@ use borrow.Fn.PlainCycle.{Measures, is, falls, and}
 use Rattle.crosscheck.proofs.generate.put_part.Reads as put-part
 use Rattle.crosscheck.proofs.generate.put_part.Kinds as put-part-kinds
 use Rattle.crosscheck.proofs.generate.+put_part.Lts-put_part as put-part-lts
+use Rattle.crosscheck.proofs.generate.first_locals.Reads as first-locals-reads
+use Rattle.crosscheck.proofs.generate.first_size.Reads as first-size-reads
+use Rattle.crosscheck.proofs.generate.put_front.Reads as put-front-reads
 use Rattle.crosscheck.proofs.generate.put_small.Reads as put-small-reads
+use Rattle.crosscheck.proofs.generate.rest_size.Reads as rest-size-reads
 use Rattle.crosscheck.proofs.generate.way_of.Reads as way-of-reads
-use Rattle.crosscheck.proofs.random.draw.Reads as draw-reads
-use Rattle.crosscheck.proofs.scan.past.Reads as past-reads
-use Rattle.crosscheck.proofs.scan.under.Reads as under-reads
 use Rattle.notation.proofs.put_record.Reads as put-record-reads
 use Rattle.crosscheck.proofs.generate.+put_part.{statement}
 use Rattle.crosscheck.proofs.generate.+put_part.Tie.{close}
@@ -31,16 +32,18 @@ put-part-put-small-requires : (t : ℕ) → put-part-lts.Need-put-small-requires
   put-small-reads.Learnt,
   way-of-reads.Asked,
   way-of-reads.Learnt,
-  put-record-reads.Asked,
-  put-record-reads.Learnt,
-  under-reads.Asked,
-  under-reads.Learnt,
+  first-size-reads.Asked,
+  first-size-reads.Learnt,
+  rest-size-reads.Asked,
+  rest-size-reads.Learnt,
+  put-front-reads.Asked,
+  put-front-reads.Learnt,
+  first-locals-reads.Asked,
+  first-locals-reads.Learnt,
   put-part-below t,
   put-part.Post,
-  draw-reads.Asked,
-  draw-reads.Learnt,
-  past-reads.Asked,
-  past-reads.Learnt,
+  put-record-reads.Asked,
+  put-record-reads.Learnt,
 ) (put-part-at t) put-part.Post
 put-part-put-small-requires t c κs = search needs
 
@@ -49,16 +52,18 @@ put-part-same-length : (t : ℕ) → put-part-lts.Need-same-length (
   put-small-reads.Learnt,
   way-of-reads.Asked,
   way-of-reads.Learnt,
-  put-record-reads.Asked,
-  put-record-reads.Learnt,
-  under-reads.Asked,
-  under-reads.Learnt,
+  first-size-reads.Asked,
+  first-size-reads.Learnt,
+  rest-size-reads.Asked,
+  rest-size-reads.Learnt,
+  put-front-reads.Asked,
+  put-front-reads.Learnt,
+  first-locals-reads.Asked,
+  first-locals-reads.Learnt,
   put-part-below t,
   put-part.Post,
-  draw-reads.Asked,
-  draw-reads.Learnt,
-  past-reads.Asked,
-  past-reads.Learnt,
+  put-record-reads.Asked,
+  put-record-reads.Learnt,
 ) (put-part-at t) put-part.Post
 put-part-same-length t c = search needs
 
@@ -67,16 +72,18 @@ put-part-returns : (t : ℕ) → put-part-lts.Need-returns (
   put-small-reads.Learnt,
   way-of-reads.Asked,
   way-of-reads.Learnt,
-  put-record-reads.Asked,
-  put-record-reads.Learnt,
-  under-reads.Asked,
-  under-reads.Learnt,
+  first-size-reads.Asked,
+  first-size-reads.Learnt,
+  rest-size-reads.Asked,
+  rest-size-reads.Learnt,
+  put-front-reads.Asked,
+  put-front-reads.Learnt,
+  first-locals-reads.Asked,
+  first-locals-reads.Learnt,
   put-part-below t,
   put-part.Post,
-  draw-reads.Asked,
-  draw-reads.Learnt,
-  past-reads.Asked,
-  past-reads.Learnt,
+  put-record-reads.Asked,
+  put-record-reads.Learnt,
 ) (put-part-at t) put-part.Post
 put-part-returns t c = search needs
 
@@ -85,738 +92,320 @@ put-part-way-of-requires : (t : ℕ) → put-part-lts.Need-way-of-requires (
   put-small-reads.Learnt,
   way-of-reads.Asked,
   way-of-reads.Learnt,
-  put-record-reads.Asked,
-  put-record-reads.Learnt,
-  under-reads.Asked,
-  under-reads.Learnt,
+  first-size-reads.Asked,
+  first-size-reads.Learnt,
+  rest-size-reads.Asked,
+  rest-size-reads.Learnt,
+  put-front-reads.Asked,
+  put-front-reads.Learnt,
+  first-locals-reads.Asked,
+  first-locals-reads.Learnt,
   put-part-below t,
   put-part.Post,
-  draw-reads.Asked,
-  draw-reads.Learnt,
-  past-reads.Asked,
-  past-reads.Learnt,
+  put-record-reads.Asked,
+  put-record-reads.Learnt,
 ) (put-part-at t) put-part.Post
 put-part-way-of-requires t c κs = search needs
 
-put-part-enum-told : (t : ℕ) → put-part-lts.Need-enum-told (
+put-part-first-size-requires : (t : ℕ) → put-part-lts.Need-first-size-requires (
   put-small-reads.Asked,
   put-small-reads.Learnt,
   way-of-reads.Asked,
   way-of-reads.Learnt,
-  put-record-reads.Asked,
-  put-record-reads.Learnt,
-  under-reads.Asked,
-  under-reads.Learnt,
+  first-size-reads.Asked,
+  first-size-reads.Learnt,
+  rest-size-reads.Asked,
+  rest-size-reads.Learnt,
+  put-front-reads.Asked,
+  put-front-reads.Learnt,
+  first-locals-reads.Asked,
+  first-locals-reads.Learnt,
   put-part-below t,
   put-part.Post,
-  draw-reads.Asked,
-  draw-reads.Learnt,
-  past-reads.Asked,
-  past-reads.Learnt,
+  put-record-reads.Asked,
+  put-record-reads.Learnt,
 ) (put-part-at t) put-part.Post
-put-part-enum-told t c = search needs
+put-part-first-size-requires t c κs = search needs
 
-put-part-put-record-requires : (t : ℕ) → put-part-lts.Need-put-record-requires (
+put-part-rest-size-requires : (t : ℕ) → put-part-lts.Need-rest-size-requires (
   put-small-reads.Asked,
   put-small-reads.Learnt,
   way-of-reads.Asked,
   way-of-reads.Learnt,
-  put-record-reads.Asked,
-  put-record-reads.Learnt,
-  under-reads.Asked,
-  under-reads.Learnt,
+  first-size-reads.Asked,
+  first-size-reads.Learnt,
+  rest-size-reads.Asked,
+  rest-size-reads.Learnt,
+  put-front-reads.Asked,
+  put-front-reads.Learnt,
+  first-locals-reads.Asked,
+  first-locals-reads.Learnt,
   put-part-below t,
   put-part.Post,
-  draw-reads.Asked,
-  draw-reads.Learnt,
-  past-reads.Asked,
-  past-reads.Learnt,
-) (put-part-at t) put-part.Post
-put-part-put-record-requires t c κs = search needs
-
-put-part-sub-put-part : (t : ℕ) → put-part-lts.Need-sub-put-part (
-  put-small-reads.Asked,
-  put-small-reads.Learnt,
-  way-of-reads.Asked,
-  way-of-reads.Learnt,
   put-record-reads.Asked,
   put-record-reads.Learnt,
-  under-reads.Asked,
-  under-reads.Learnt,
-  put-part-below t,
-  put-part.Post,
-  draw-reads.Asked,
-  draw-reads.Learnt,
-  past-reads.Asked,
-  past-reads.Learnt,
 ) (put-part-at t) put-part.Post
-put-part-sub-put-part t c = search needs
-
-put-part-under-requires : (t : ℕ) → put-part-lts.Need-under-requires (
-  put-small-reads.Asked,
-  put-small-reads.Learnt,
-  way-of-reads.Asked,
-  way-of-reads.Learnt,
-  put-record-reads.Asked,
-  put-record-reads.Learnt,
-  under-reads.Asked,
-  under-reads.Learnt,
-  put-part-below t,
-  put-part.Post,
-  draw-reads.Asked,
-  draw-reads.Learnt,
-  past-reads.Asked,
-  past-reads.Learnt,
-) (put-part-at t) put-part.Post
-put-part-under-requires t c κs = search needs
-
-put-part-put-part-requires : (t : ℕ) → put-part-lts.Need-put-part-requires (
-  put-small-reads.Asked,
-  put-small-reads.Learnt,
-  way-of-reads.Asked,
-  way-of-reads.Learnt,
-  put-record-reads.Asked,
-  put-record-reads.Learnt,
-  under-reads.Asked,
-  under-reads.Learnt,
-  put-part-below t,
-  put-part.Post,
-  draw-reads.Asked,
-  draw-reads.Learnt,
-  past-reads.Asked,
-  past-reads.Learnt,
-) (put-part-at t) put-part.Post
-put-part-put-part-requires t c κs = search needs
-
-put-part-enum-told-2 : (t : ℕ) → put-part-lts.Need-enum-told-2 (
-  put-small-reads.Asked,
-  put-small-reads.Learnt,
-  way-of-reads.Asked,
-  way-of-reads.Learnt,
-  put-record-reads.Asked,
-  put-record-reads.Learnt,
-  under-reads.Asked,
-  under-reads.Learnt,
-  put-part-below t,
-  put-part.Post,
-  draw-reads.Asked,
-  draw-reads.Learnt,
-  past-reads.Asked,
-  past-reads.Learnt,
-) (put-part-at t) put-part.Post
-put-part-enum-told-2 t c = search needs
-
-put-part-sub-draw : (t : ℕ) → put-part-lts.Need-sub-draw (
-  put-small-reads.Asked,
-  put-small-reads.Learnt,
-  way-of-reads.Asked,
-  way-of-reads.Learnt,
-  put-record-reads.Asked,
-  put-record-reads.Learnt,
-  under-reads.Asked,
-  under-reads.Learnt,
-  put-part-below t,
-  put-part.Post,
-  draw-reads.Asked,
-  draw-reads.Learnt,
-  past-reads.Asked,
-  past-reads.Learnt,
-) (put-part-at t) put-part.Post
-put-part-sub-draw t c = search needs
-
-put-part-draw-requires : (t : ℕ) → put-part-lts.Need-draw-requires (
-  put-small-reads.Asked,
-  put-small-reads.Learnt,
-  way-of-reads.Asked,
-  way-of-reads.Learnt,
-  put-record-reads.Asked,
-  put-record-reads.Learnt,
-  under-reads.Asked,
-  under-reads.Learnt,
-  put-part-below t,
-  put-part.Post,
-  draw-reads.Asked,
-  draw-reads.Learnt,
-  past-reads.Asked,
-  past-reads.Learnt,
-) (put-part-at t) put-part.Post
-put-part-draw-requires t c κs = search needs
-
-put-part-add-m : (t : ℕ) → put-part-lts.Need-add-m (
-  put-small-reads.Asked,
-  put-small-reads.Learnt,
-  way-of-reads.Asked,
-  way-of-reads.Learnt,
-  put-record-reads.Asked,
-  put-record-reads.Learnt,
-  under-reads.Asked,
-  under-reads.Learnt,
-  put-part-below t,
-  put-part.Post,
-  draw-reads.Asked,
-  draw-reads.Learnt,
-  past-reads.Asked,
-  past-reads.Learnt,
-) (put-part-at t) put-part.Post
-put-part-add-m t c = search needs
-
-put-part-put-record-requires-2 : (t : ℕ) → put-part-lts.Need-put-record-requires-2 (
-  put-small-reads.Asked,
-  put-small-reads.Learnt,
-  way-of-reads.Asked,
-  way-of-reads.Learnt,
-  put-record-reads.Asked,
-  put-record-reads.Learnt,
-  under-reads.Asked,
-  under-reads.Learnt,
-  put-part-below t,
-  put-part.Post,
-  draw-reads.Asked,
-  draw-reads.Learnt,
-  past-reads.Asked,
-  past-reads.Learnt,
-) (put-part-at t) put-part.Post
-put-part-put-record-requires-2 t c κs = search needs
-
-put-part-put-part-requires-2 : (t : ℕ) → put-part-lts.Need-put-part-requires-2 (
-  put-small-reads.Asked,
-  put-small-reads.Learnt,
-  way-of-reads.Asked,
-  way-of-reads.Learnt,
-  put-record-reads.Asked,
-  put-record-reads.Learnt,
-  under-reads.Asked,
-  under-reads.Learnt,
-  put-part-below t,
-  put-part.Post,
-  draw-reads.Asked,
-  draw-reads.Learnt,
-  past-reads.Asked,
-  past-reads.Learnt,
-) (put-part-at t) put-part.Post
-put-part-put-part-requires-2 t c κs = search needs
-
-put-part-sub-put-part-2 : (t : ℕ) → put-part-lts.Need-sub-put-part-2 (
-  put-small-reads.Asked,
-  put-small-reads.Learnt,
-  way-of-reads.Asked,
-  way-of-reads.Learnt,
-  put-record-reads.Asked,
-  put-record-reads.Learnt,
-  under-reads.Asked,
-  under-reads.Learnt,
-  put-part-below t,
-  put-part.Post,
-  draw-reads.Asked,
-  draw-reads.Learnt,
-  past-reads.Asked,
-  past-reads.Learnt,
-) (put-part-at t) put-part.Post
-put-part-sub-put-part-2 t c = search needs
-
-put-part-sub-put-part-3 : (t : ℕ) → put-part-lts.Need-sub-put-part-3 (
-  put-small-reads.Asked,
-  put-small-reads.Learnt,
-  way-of-reads.Asked,
-  way-of-reads.Learnt,
-  put-record-reads.Asked,
-  put-record-reads.Learnt,
-  under-reads.Asked,
-  under-reads.Learnt,
-  put-part-below t,
-  put-part.Post,
-  draw-reads.Asked,
-  draw-reads.Learnt,
-  past-reads.Asked,
-  past-reads.Learnt,
-) (put-part-at t) put-part.Post
-put-part-sub-put-part-3 t c = search needs
-
-put-part-put-part-requires-3 : (t : ℕ) → put-part-lts.Need-put-part-requires-3 (
-  put-small-reads.Asked,
-  put-small-reads.Learnt,
-  way-of-reads.Asked,
-  way-of-reads.Learnt,
-  put-record-reads.Asked,
-  put-record-reads.Learnt,
-  under-reads.Asked,
-  under-reads.Learnt,
-  put-part-below t,
-  put-part.Post,
-  draw-reads.Asked,
-  draw-reads.Learnt,
-  past-reads.Asked,
-  past-reads.Learnt,
-) (put-part-at t) put-part.Post
-put-part-put-part-requires-3 t c κs = search needs
-
-put-part-enum-told-3 : (t : ℕ) → put-part-lts.Need-enum-told-3 (
-  put-small-reads.Asked,
-  put-small-reads.Learnt,
-  way-of-reads.Asked,
-  way-of-reads.Learnt,
-  put-record-reads.Asked,
-  put-record-reads.Learnt,
-  under-reads.Asked,
-  under-reads.Learnt,
-  put-part-below t,
-  put-part.Post,
-  draw-reads.Asked,
-  draw-reads.Learnt,
-  past-reads.Asked,
-  past-reads.Learnt,
-) (put-part-at t) put-part.Post
-put-part-enum-told-3 t c = search needs
-
-put-part-sub-draw-2 : (t : ℕ) → put-part-lts.Need-sub-draw-2 (
-  put-small-reads.Asked,
-  put-small-reads.Learnt,
-  way-of-reads.Asked,
-  way-of-reads.Learnt,
-  put-record-reads.Asked,
-  put-record-reads.Learnt,
-  under-reads.Asked,
-  under-reads.Learnt,
-  put-part-below t,
-  put-part.Post,
-  draw-reads.Asked,
-  draw-reads.Learnt,
-  past-reads.Asked,
-  past-reads.Learnt,
-) (put-part-at t) put-part.Post
-put-part-sub-draw-2 t c = search needs
-
-put-part-draw-requires-2 : (t : ℕ) → put-part-lts.Need-draw-requires-2 (
-  put-small-reads.Asked,
-  put-small-reads.Learnt,
-  way-of-reads.Asked,
-  way-of-reads.Learnt,
-  put-record-reads.Asked,
-  put-record-reads.Learnt,
-  under-reads.Asked,
-  under-reads.Learnt,
-  put-part-below t,
-  put-part.Post,
-  draw-reads.Asked,
-  draw-reads.Learnt,
-  past-reads.Asked,
-  past-reads.Learnt,
-) (put-part-at t) put-part.Post
-put-part-draw-requires-2 t c κs = search needs
-
-put-part-add-m-2 : (t : ℕ) → put-part-lts.Need-add-m-2 (
-  put-small-reads.Asked,
-  put-small-reads.Learnt,
-  way-of-reads.Asked,
-  way-of-reads.Learnt,
-  put-record-reads.Asked,
-  put-record-reads.Learnt,
-  under-reads.Asked,
-  under-reads.Learnt,
-  put-part-below t,
-  put-part.Post,
-  draw-reads.Asked,
-  draw-reads.Learnt,
-  past-reads.Asked,
-  past-reads.Learnt,
-) (put-part-at t) put-part.Post
-put-part-add-m-2 t c = search needs
-
-put-part-put-record-requires-3 : (t : ℕ) → put-part-lts.Need-put-record-requires-3 (
-  put-small-reads.Asked,
-  put-small-reads.Learnt,
-  way-of-reads.Asked,
-  way-of-reads.Learnt,
-  put-record-reads.Asked,
-  put-record-reads.Learnt,
-  under-reads.Asked,
-  under-reads.Learnt,
-  put-part-below t,
-  put-part.Post,
-  draw-reads.Asked,
-  draw-reads.Learnt,
-  past-reads.Asked,
-  past-reads.Learnt,
-) (put-part-at t) put-part.Post
-put-part-put-record-requires-3 t c κs = search needs
-
-put-part-put-record-requires-4 : (t : ℕ) → put-part-lts.Need-put-record-requires-4 (
-  put-small-reads.Asked,
-  put-small-reads.Learnt,
-  way-of-reads.Asked,
-  way-of-reads.Learnt,
-  put-record-reads.Asked,
-  put-record-reads.Learnt,
-  under-reads.Asked,
-  under-reads.Learnt,
-  put-part-below t,
-  put-part.Post,
-  draw-reads.Asked,
-  draw-reads.Learnt,
-  past-reads.Asked,
-  past-reads.Learnt,
-) (put-part-at t) put-part.Post
-put-part-put-record-requires-4 t c κs = search needs
-
-put-part-under-requires-2 : (t : ℕ) → put-part-lts.Need-under-requires-2 (
-  put-small-reads.Asked,
-  put-small-reads.Learnt,
-  way-of-reads.Asked,
-  way-of-reads.Learnt,
-  put-record-reads.Asked,
-  put-record-reads.Learnt,
-  under-reads.Asked,
-  under-reads.Learnt,
-  put-part-below t,
-  put-part.Post,
-  draw-reads.Asked,
-  draw-reads.Learnt,
-  past-reads.Asked,
-  past-reads.Learnt,
-) (put-part-at t) put-part.Post
-put-part-under-requires-2 t c κs = search needs
-
-put-part-put-part-requires-4 : (t : ℕ) → put-part-lts.Need-put-part-requires-4 (
-  put-small-reads.Asked,
-  put-small-reads.Learnt,
-  way-of-reads.Asked,
-  way-of-reads.Learnt,
-  put-record-reads.Asked,
-  put-record-reads.Learnt,
-  under-reads.Asked,
-  under-reads.Learnt,
-  put-part-below t,
-  put-part.Post,
-  draw-reads.Asked,
-  draw-reads.Learnt,
-  past-reads.Asked,
-  past-reads.Learnt,
-) (put-part-at t) put-part.Post
-put-part-put-part-requires-4 t c κs = search needs
-
-put-part-sub-put-part-4 : (t : ℕ) → put-part-lts.Need-sub-put-part-4 (
-  put-small-reads.Asked,
-  put-small-reads.Learnt,
-  way-of-reads.Asked,
-  way-of-reads.Learnt,
-  put-record-reads.Asked,
-  put-record-reads.Learnt,
-  under-reads.Asked,
-  under-reads.Learnt,
-  put-part-below t,
-  put-part.Post,
-  draw-reads.Asked,
-  draw-reads.Learnt,
-  past-reads.Asked,
-  past-reads.Learnt,
-) (put-part-at t) put-part.Post
-put-part-sub-put-part-4 t c = search needs
-
-put-part-sub-put-part-5 : (t : ℕ) → put-part-lts.Need-sub-put-part-5 (
-  put-small-reads.Asked,
-  put-small-reads.Learnt,
-  way-of-reads.Asked,
-  way-of-reads.Learnt,
-  put-record-reads.Asked,
-  put-record-reads.Learnt,
-  under-reads.Asked,
-  under-reads.Learnt,
-  put-part-below t,
-  put-part.Post,
-  draw-reads.Asked,
-  draw-reads.Learnt,
-  past-reads.Asked,
-  past-reads.Learnt,
-) (put-part-at t) put-part.Post
-put-part-sub-put-part-5 t c = search needs
-
-put-part-put-part-requires-5 : (t : ℕ) → put-part-lts.Need-put-part-requires-5 (
-  put-small-reads.Asked,
-  put-small-reads.Learnt,
-  way-of-reads.Asked,
-  way-of-reads.Learnt,
-  put-record-reads.Asked,
-  put-record-reads.Learnt,
-  under-reads.Asked,
-  under-reads.Learnt,
-  put-part-below t,
-  put-part.Post,
-  draw-reads.Asked,
-  draw-reads.Learnt,
-  past-reads.Asked,
-  past-reads.Learnt,
-) (put-part-at t) put-part.Post
-put-part-put-part-requires-5 t c κs = search needs
-
-put-part-enum-told-4 : (t : ℕ) → put-part-lts.Need-enum-told-4 (
-  put-small-reads.Asked,
-  put-small-reads.Learnt,
-  way-of-reads.Asked,
-  way-of-reads.Learnt,
-  put-record-reads.Asked,
-  put-record-reads.Learnt,
-  under-reads.Asked,
-  under-reads.Learnt,
-  put-part-below t,
-  put-part.Post,
-  draw-reads.Asked,
-  draw-reads.Learnt,
-  past-reads.Asked,
-  past-reads.Learnt,
-) (put-part-at t) put-part.Post
-put-part-enum-told-4 t c = search needs
-
-put-part-put-record-requires-5 : (t : ℕ) → put-part-lts.Need-put-record-requires-5 (
-  put-small-reads.Asked,
-  put-small-reads.Learnt,
-  way-of-reads.Asked,
-  way-of-reads.Learnt,
-  put-record-reads.Asked,
-  put-record-reads.Learnt,
-  under-reads.Asked,
-  under-reads.Learnt,
-  put-part-below t,
-  put-part.Post,
-  draw-reads.Asked,
-  draw-reads.Learnt,
-  past-reads.Asked,
-  past-reads.Learnt,
-) (put-part-at t) put-part.Post
-put-part-put-record-requires-5 t c κs = search needs
-
-put-part-put-record-requires-6 : (t : ℕ) → put-part-lts.Need-put-record-requires-6 (
-  put-small-reads.Asked,
-  put-small-reads.Learnt,
-  way-of-reads.Asked,
-  way-of-reads.Learnt,
-  put-record-reads.Asked,
-  put-record-reads.Learnt,
-  under-reads.Asked,
-  under-reads.Learnt,
-  put-part-below t,
-  put-part.Post,
-  draw-reads.Asked,
-  draw-reads.Learnt,
-  past-reads.Asked,
-  past-reads.Learnt,
-) (put-part-at t) put-part.Post
-put-part-put-record-requires-6 t c κs = search needs
-
-put-part-sub-put-part-6 : (t : ℕ) → put-part-lts.Need-sub-put-part-6 (
-  put-small-reads.Asked,
-  put-small-reads.Learnt,
-  way-of-reads.Asked,
-  way-of-reads.Learnt,
-  put-record-reads.Asked,
-  put-record-reads.Learnt,
-  under-reads.Asked,
-  under-reads.Learnt,
-  put-part-below t,
-  put-part.Post,
-  draw-reads.Asked,
-  draw-reads.Learnt,
-  past-reads.Asked,
-  past-reads.Learnt,
-) (put-part-at t) put-part.Post
-put-part-sub-put-part-6 t c = search needs
-
-put-part-past-requires : (t : ℕ) → put-part-lts.Need-past-requires (
-  put-small-reads.Asked,
-  put-small-reads.Learnt,
-  way-of-reads.Asked,
-  way-of-reads.Learnt,
-  put-record-reads.Asked,
-  put-record-reads.Learnt,
-  under-reads.Asked,
-  under-reads.Learnt,
-  put-part-below t,
-  put-part.Post,
-  draw-reads.Asked,
-  draw-reads.Learnt,
-  past-reads.Asked,
-  past-reads.Learnt,
-) (put-part-at t) put-part.Post
-put-part-past-requires t c κs = search needs
-
-put-part-put-part-requires-6 : (t : ℕ) → put-part-lts.Need-put-part-requires-6 (
-  put-small-reads.Asked,
-  put-small-reads.Learnt,
-  way-of-reads.Asked,
-  way-of-reads.Learnt,
-  put-record-reads.Asked,
-  put-record-reads.Learnt,
-  under-reads.Asked,
-  under-reads.Learnt,
-  put-part-below t,
-  put-part.Post,
-  draw-reads.Asked,
-  draw-reads.Learnt,
-  past-reads.Asked,
-  past-reads.Learnt,
-) (put-part-at t) put-part.Post
-put-part-put-part-requires-6 t c κs = search needs
-
-put-part-put-record-requires-7 : (t : ℕ) → put-part-lts.Need-put-record-requires-7 (
-  put-small-reads.Asked,
-  put-small-reads.Learnt,
-  way-of-reads.Asked,
-  way-of-reads.Learnt,
-  put-record-reads.Asked,
-  put-record-reads.Learnt,
-  under-reads.Asked,
-  under-reads.Learnt,
-  put-part-below t,
-  put-part.Post,
-  draw-reads.Asked,
-  draw-reads.Learnt,
-  past-reads.Asked,
-  past-reads.Learnt,
-) (put-part-at t) put-part.Post
-put-part-put-record-requires-7 t c κs = search needs
-
-put-part-same-length-2 : (t : ℕ) → put-part-lts.Need-same-length-2 (
-  put-small-reads.Asked,
-  put-small-reads.Learnt,
-  way-of-reads.Asked,
-  way-of-reads.Learnt,
-  put-record-reads.Asked,
-  put-record-reads.Learnt,
-  under-reads.Asked,
-  under-reads.Learnt,
-  put-part-below t,
-  put-part.Post,
-  draw-reads.Asked,
-  draw-reads.Learnt,
-  past-reads.Asked,
-  past-reads.Learnt,
-) (put-part-at t) put-part.Post
-put-part-same-length-2 t c = search needs
+put-part-rest-size-requires t c κs = search needs
 
 put-part-returns-2 : (t : ℕ) → put-part-lts.Need-returns-2 (
   put-small-reads.Asked,
   put-small-reads.Learnt,
   way-of-reads.Asked,
   way-of-reads.Learnt,
-  put-record-reads.Asked,
-  put-record-reads.Learnt,
-  under-reads.Asked,
-  under-reads.Learnt,
+  first-size-reads.Asked,
+  first-size-reads.Learnt,
+  rest-size-reads.Asked,
+  rest-size-reads.Learnt,
+  put-front-reads.Asked,
+  put-front-reads.Learnt,
+  first-locals-reads.Asked,
+  first-locals-reads.Learnt,
   put-part-below t,
   put-part.Post,
-  draw-reads.Asked,
-  draw-reads.Learnt,
-  past-reads.Asked,
-  past-reads.Learnt,
+  put-record-reads.Asked,
+  put-record-reads.Learnt,
 ) (put-part-at t) put-part.Post
 put-part-returns-2 t c = search needs
-
-put-part-same-length-3 : (t : ℕ) → put-part-lts.Need-same-length-3 (
-  put-small-reads.Asked,
-  put-small-reads.Learnt,
-  way-of-reads.Asked,
-  way-of-reads.Learnt,
-  put-record-reads.Asked,
-  put-record-reads.Learnt,
-  under-reads.Asked,
-  under-reads.Learnt,
-  put-part-below t,
-  put-part.Post,
-  draw-reads.Asked,
-  draw-reads.Learnt,
-  past-reads.Asked,
-  past-reads.Learnt,
-) (put-part-at t) put-part.Post
-put-part-same-length-3 t c = search needs
 
 put-part-returns-3 : (t : ℕ) → put-part-lts.Need-returns-3 (
   put-small-reads.Asked,
   put-small-reads.Learnt,
   way-of-reads.Asked,
   way-of-reads.Learnt,
-  put-record-reads.Asked,
-  put-record-reads.Learnt,
-  under-reads.Asked,
-  under-reads.Learnt,
+  first-size-reads.Asked,
+  first-size-reads.Learnt,
+  rest-size-reads.Asked,
+  rest-size-reads.Learnt,
+  put-front-reads.Asked,
+  put-front-reads.Learnt,
+  first-locals-reads.Asked,
+  first-locals-reads.Learnt,
   put-part-below t,
   put-part.Post,
-  draw-reads.Asked,
-  draw-reads.Learnt,
-  past-reads.Asked,
-  past-reads.Learnt,
+  put-record-reads.Asked,
+  put-record-reads.Learnt,
 ) (put-part-at t) put-part.Post
 put-part-returns-3 t c = search needs
 
-put-part-same-length-4 : (t : ℕ) → put-part-lts.Need-same-length-4 (
+put-part-put-front-requires : (t : ℕ) → put-part-lts.Need-put-front-requires (
   put-small-reads.Asked,
   put-small-reads.Learnt,
   way-of-reads.Asked,
   way-of-reads.Learnt,
-  put-record-reads.Asked,
-  put-record-reads.Learnt,
-  under-reads.Asked,
-  under-reads.Learnt,
+  first-size-reads.Asked,
+  first-size-reads.Learnt,
+  rest-size-reads.Asked,
+  rest-size-reads.Learnt,
+  put-front-reads.Asked,
+  put-front-reads.Learnt,
+  first-locals-reads.Asked,
+  first-locals-reads.Learnt,
   put-part-below t,
   put-part.Post,
-  draw-reads.Asked,
-  draw-reads.Learnt,
-  past-reads.Asked,
-  past-reads.Learnt,
+  put-record-reads.Asked,
+  put-record-reads.Learnt,
 ) (put-part-at t) put-part.Post
-put-part-same-length-4 t c = search needs
+put-part-put-front-requires t c κs = search needs
+
+put-part-first-locals-requires : (t : ℕ) → put-part-lts.Need-first-locals-requires (
+  put-small-reads.Asked,
+  put-small-reads.Learnt,
+  way-of-reads.Asked,
+  way-of-reads.Learnt,
+  first-size-reads.Asked,
+  first-size-reads.Learnt,
+  rest-size-reads.Asked,
+  rest-size-reads.Learnt,
+  put-front-reads.Asked,
+  put-front-reads.Learnt,
+  first-locals-reads.Asked,
+  first-locals-reads.Learnt,
+  put-part-below t,
+  put-part.Post,
+  put-record-reads.Asked,
+  put-record-reads.Learnt,
+) (put-part-at t) put-part.Post
+put-part-first-locals-requires t c κs = search needs
+
+put-part-put-part-requires : (t : ℕ) → put-part-lts.Need-put-part-requires (
+  put-small-reads.Asked,
+  put-small-reads.Learnt,
+  way-of-reads.Asked,
+  way-of-reads.Learnt,
+  first-size-reads.Asked,
+  first-size-reads.Learnt,
+  rest-size-reads.Asked,
+  rest-size-reads.Learnt,
+  put-front-reads.Asked,
+  put-front-reads.Learnt,
+  first-locals-reads.Asked,
+  first-locals-reads.Learnt,
+  put-part-below t,
+  put-part.Post,
+  put-record-reads.Asked,
+  put-record-reads.Learnt,
+) (put-part-at t) put-part.Post
+put-part-put-part-requires t c κs = search needs
+
+put-part-same-length-2 : (t : ℕ) → put-part-lts.Need-same-length-2 (
+  put-small-reads.Asked,
+  put-small-reads.Learnt,
+  way-of-reads.Asked,
+  way-of-reads.Learnt,
+  first-size-reads.Asked,
+  first-size-reads.Learnt,
+  rest-size-reads.Asked,
+  rest-size-reads.Learnt,
+  put-front-reads.Asked,
+  put-front-reads.Learnt,
+  first-locals-reads.Asked,
+  first-locals-reads.Learnt,
+  put-part-below t,
+  put-part.Post,
+  put-record-reads.Asked,
+  put-record-reads.Learnt,
+) (put-part-at t) put-part.Post
+put-part-same-length-2 t c = search needs
 
 put-part-returns-4 : (t : ℕ) → put-part-lts.Need-returns-4 (
   put-small-reads.Asked,
   put-small-reads.Learnt,
   way-of-reads.Asked,
   way-of-reads.Learnt,
-  put-record-reads.Asked,
-  put-record-reads.Learnt,
-  under-reads.Asked,
-  under-reads.Learnt,
+  first-size-reads.Asked,
+  first-size-reads.Learnt,
+  rest-size-reads.Asked,
+  rest-size-reads.Learnt,
+  put-front-reads.Asked,
+  put-front-reads.Learnt,
+  first-locals-reads.Asked,
+  first-locals-reads.Learnt,
   put-part-below t,
   put-part.Post,
-  draw-reads.Asked,
-  draw-reads.Learnt,
-  past-reads.Asked,
-  past-reads.Learnt,
+  put-record-reads.Asked,
+  put-record-reads.Learnt,
 ) (put-part-at t) put-part.Post
 put-part-returns-4 t c = search needs
 
-put-part-same-length-5 : (t : ℕ) → put-part-lts.Need-same-length-5 (
+put-part-put-record-requires : (t : ℕ) → put-part-lts.Need-put-record-requires (
   put-small-reads.Asked,
   put-small-reads.Learnt,
   way-of-reads.Asked,
   way-of-reads.Learnt,
-  put-record-reads.Asked,
-  put-record-reads.Learnt,
-  under-reads.Asked,
-  under-reads.Learnt,
+  first-size-reads.Asked,
+  first-size-reads.Learnt,
+  rest-size-reads.Asked,
+  rest-size-reads.Learnt,
+  put-front-reads.Asked,
+  put-front-reads.Learnt,
+  first-locals-reads.Asked,
+  first-locals-reads.Learnt,
   put-part-below t,
   put-part.Post,
-  draw-reads.Asked,
-  draw-reads.Learnt,
-  past-reads.Asked,
-  past-reads.Learnt,
+  put-record-reads.Asked,
+  put-record-reads.Learnt,
 ) (put-part-at t) put-part.Post
-put-part-same-length-5 t c = search needs
+put-part-put-record-requires t c κs = search needs
+
+put-part-same-length-3 : (t : ℕ) → put-part-lts.Need-same-length-3 (
+  put-small-reads.Asked,
+  put-small-reads.Learnt,
+  way-of-reads.Asked,
+  way-of-reads.Learnt,
+  first-size-reads.Asked,
+  first-size-reads.Learnt,
+  rest-size-reads.Asked,
+  rest-size-reads.Learnt,
+  put-front-reads.Asked,
+  put-front-reads.Learnt,
+  first-locals-reads.Asked,
+  first-locals-reads.Learnt,
+  put-part-below t,
+  put-part.Post,
+  put-record-reads.Asked,
+  put-record-reads.Learnt,
+) (put-part-at t) put-part.Post
+put-part-same-length-3 t c = search needs
 
 put-part-returns-5 : (t : ℕ) → put-part-lts.Need-returns-5 (
   put-small-reads.Asked,
   put-small-reads.Learnt,
   way-of-reads.Asked,
   way-of-reads.Learnt,
-  put-record-reads.Asked,
-  put-record-reads.Learnt,
-  under-reads.Asked,
-  under-reads.Learnt,
+  first-size-reads.Asked,
+  first-size-reads.Learnt,
+  rest-size-reads.Asked,
+  rest-size-reads.Learnt,
+  put-front-reads.Asked,
+  put-front-reads.Learnt,
+  first-locals-reads.Asked,
+  first-locals-reads.Learnt,
   put-part-below t,
   put-part.Post,
-  draw-reads.Asked,
-  draw-reads.Learnt,
-  past-reads.Asked,
-  past-reads.Learnt,
+  put-record-reads.Asked,
+  put-record-reads.Learnt,
 ) (put-part-at t) put-part.Post
 put-part-returns-5 t c = search needs
+
+put-part-put-part-requires-2 : (t : ℕ) → put-part-lts.Need-put-part-requires-2 (
+  put-small-reads.Asked,
+  put-small-reads.Learnt,
+  way-of-reads.Asked,
+  way-of-reads.Learnt,
+  first-size-reads.Asked,
+  first-size-reads.Learnt,
+  rest-size-reads.Asked,
+  rest-size-reads.Learnt,
+  put-front-reads.Asked,
+  put-front-reads.Learnt,
+  first-locals-reads.Asked,
+  first-locals-reads.Learnt,
+  put-part-below t,
+  put-part.Post,
+  put-record-reads.Asked,
+  put-record-reads.Learnt,
+) (put-part-at t) put-part.Post
+put-part-put-part-requires-2 t c κs = search needs
+
+put-part-same-length-4 : (t : ℕ) → put-part-lts.Need-same-length-4 (
+  put-small-reads.Asked,
+  put-small-reads.Learnt,
+  way-of-reads.Asked,
+  way-of-reads.Learnt,
+  first-size-reads.Asked,
+  first-size-reads.Learnt,
+  rest-size-reads.Asked,
+  rest-size-reads.Learnt,
+  put-front-reads.Asked,
+  put-front-reads.Learnt,
+  first-locals-reads.Asked,
+  first-locals-reads.Learnt,
+  put-part-below t,
+  put-part.Post,
+  put-record-reads.Asked,
+  put-record-reads.Learnt,
+) (put-part-at t) put-part.Post
+put-part-same-length-4 t c = search needs
+
+put-part-returns-6 : (t : ℕ) → put-part-lts.Need-returns-6 (
+  put-small-reads.Asked,
+  put-small-reads.Learnt,
+  way-of-reads.Asked,
+  way-of-reads.Learnt,
+  first-size-reads.Asked,
+  first-size-reads.Learnt,
+  rest-size-reads.Asked,
+  rest-size-reads.Learnt,
+  put-front-reads.Asked,
+  put-front-reads.Learnt,
+  first-locals-reads.Asked,
+  first-locals-reads.Learnt,
+  put-part-below t,
+  put-part.Post,
+  put-record-reads.Asked,
+  put-record-reads.Learnt,
+) (put-part-at t) put-part.Post
+put-part-returns-6 t c = search needs
 
 pub +put-part-spec : {M : Type 1} → statement M
 +put-part-spec = close μ-put-part λ t. put-part-lts.spec (
@@ -824,16 +413,18 @@ pub +put-part-spec : {M : Type 1} → statement M
   put-small-reads.Learnt,
   way-of-reads.Asked,
   way-of-reads.Learnt,
-  put-record-reads.Asked,
-  put-record-reads.Learnt,
-  under-reads.Asked,
-  under-reads.Learnt,
+  first-size-reads.Asked,
+  first-size-reads.Learnt,
+  rest-size-reads.Asked,
+  rest-size-reads.Learnt,
+  put-front-reads.Asked,
+  put-front-reads.Learnt,
+  first-locals-reads.Asked,
+  first-locals-reads.Learnt,
   put-part-below t,
   put-part.Post,
-  draw-reads.Asked,
-  draw-reads.Learnt,
-  past-reads.Asked,
-  past-reads.Learnt,
+  put-record-reads.Asked,
+  put-record-reads.Learnt,
 )
     (put-part-at t)
     put-part.Post
@@ -841,43 +432,18 @@ pub +put-part-spec : {M : Type 1} → statement M
     (put-part-same-length t)
     (put-part-returns t)
     (put-part-way-of-requires t)
-    (put-part-enum-told t)
-    (put-part-put-record-requires t)
-    (put-part-sub-put-part t)
-    (put-part-under-requires t)
-    (put-part-put-part-requires t)
-    (put-part-enum-told-2 t)
-    (put-part-sub-draw t)
-    (put-part-draw-requires t)
-    (put-part-add-m t)
-    (put-part-put-record-requires-2 t)
-    (put-part-put-part-requires-2 t)
-    (put-part-sub-put-part-2 t)
-    (put-part-sub-put-part-3 t)
-    (put-part-put-part-requires-3 t)
-    (put-part-enum-told-3 t)
-    (put-part-sub-draw-2 t)
-    (put-part-draw-requires-2 t)
-    (put-part-add-m-2 t)
-    (put-part-put-record-requires-3 t)
-    (put-part-put-record-requires-4 t)
-    (put-part-under-requires-2 t)
-    (put-part-put-part-requires-4 t)
-    (put-part-sub-put-part-4 t)
-    (put-part-sub-put-part-5 t)
-    (put-part-put-part-requires-5 t)
-    (put-part-enum-told-4 t)
-    (put-part-put-record-requires-5 t)
-    (put-part-put-record-requires-6 t)
-    (put-part-sub-put-part-6 t)
-    (put-part-past-requires t)
-    (put-part-put-part-requires-6 t)
-    (put-part-put-record-requires-7 t)
-    (put-part-same-length-2 t)
+    (put-part-first-size-requires t)
+    (put-part-rest-size-requires t)
     (put-part-returns-2 t)
-    (put-part-same-length-3 t)
     (put-part-returns-3 t)
-    (put-part-same-length-4 t)
+    (put-part-put-front-requires t)
+    (put-part-first-locals-requires t)
+    (put-part-put-part-requires t)
+    (put-part-same-length-2 t)
     (put-part-returns-4 t)
-    (put-part-same-length-5 t)
+    (put-part-put-record-requires t)
+    (put-part-same-length-3 t)
     (put-part-returns-5 t)
+    (put-part-put-part-requires-2 t)
+    (put-part-same-length-4 t)
+    (put-part-returns-6 t)
