@@ -1,6 +1,6 @@
 -- Whether the head of a rigid argument is that of a part of the target, read from their records one after the other. Records of other kinds and
 -- other constants tell them apart, and of two applications the heads do. Assumes nothing.
-use mathlib.Core.Path.{_≡_, refl, sym, _∙_, subst}
+use mathlib.Core.Path.{_≡_, refl, sym, ap, _∙_, subst}
 use mathlib.Core.Bool.{Bool, true, false}
 use mathlib.Core.List.{List}
 use Prim.Native.Nat.{ℕ, _+_}

@@ -9,7 +9,7 @@ use Prim.Native.Nat.{ℕ, _+_, _-_, _*_, _/_, _%_, _<_, _≤_}
 use native.Mathlib.Omega.{arith}
 use lib.ListN.{length, getD, take, drop, replicate, length-take}
 use lib.Seq.{sets}
-use Rattle.terms.specs.Figures.{variables, patternRecords, tableBytes}
+use Rattle.terms.specs.Figures.{variables, patternRecords, valueRecords, tableBytes}
 use Rattle.terms.specs.Term.{Term, app, lam, loc, con, var, size, shift}
 use Rattle.terms.specs.Table.{bytes, encode}
 use Rattle.terms.specs.Listing.{Line}

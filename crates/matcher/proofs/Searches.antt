@@ -4,7 +4,6 @@ use mathlib.Core.Path.{_≡_, refl, sym, ap, ap₂, _∙_, subst, subst₂}
 use mathlib.Core.List.{List, [], _∷_, _++_}
 use mathlib.Core.Logic.{_⊎_, inl, inr, ⊎-elim}
 use Prim.Native.Nat.{ℕ, _+_, _-_, _*_, _≤_, _<_}
-use native.Mathlib.Decide.{decLt}
 use native.Mathlib.Omega.{arith}
 use lib.ListN.{length, take, drop}
 use lib.Seq.{sets, sets-eq, drop-at, take-at}
@@ -24,7 +23,7 @@ use Rattle.matching.proofs.Listing.{full-sort}
 use Rattle.records.specs.Checks.{Pattern, Recipe}
 use Rattle.listing.specs.declared.Tally.{Tally}
 use Rattle.listing.specs.Outcome.{Outcome, outcome, Tables, InLineOrder, Arranges, Arranged}
-use Rattle.listing.proofs.Stores.{Begun, stores-count, stores-records, stores-lengths, stores-tables, stores-begin, line-table-length, value-table-length}
+use Rattle.listing.proofs.Stores.{stores-count, stores-records, stores-lengths, stores-begin, line-table-length, value-table-length}
 use Rattle.search.specs.Collected.{Tallied, nothing, Collected}
 use Rattle.matcher.specs.declared.Refusal.{Refusal}
 use Rattle.matcher.specs.declared.ListAnswer.{ListAnswer}
@@ -76,7 +75,7 @@ module _ (p t : List ℕ) (a : Pattern p) (b : Recipe t) where
   lists-of : (ls : List Line) → ListingOf p t ls → Listing ls
   lists-of ls f = lists-full variables x y (a .below) ls (full-of ls f)
 
-  -- a search with any tables, for lent tables of as many lines as its limit
+  -- a search with any tables, whose limit is at most the lines that are lent
   module _ (m₀ q₀ : List ℕ) (limit : ℕ) (m q : List ℕ) (n : Tally) (c : Collected p t limit m₀ q₀ m q n) where
     tallied : Tallied p (Sweeps x y) limit (outcome m₀ q₀ nothing) (outcome m q n)
     tallied = c .answer x y (a .table .0) (b .table .0)
@@ -110,7 +109,7 @@ module _ (p t : List ℕ) (a : Pattern p) (b : Recipe t) where
       records-are : n .records ≡ valuesRecords found
       records-are = omega (arith, ap (λ (o : Outcome). o .records) (tallied .exact h), stores-records (outcome m₀ q₀ nothing) found)
 
-      module _ (l s : List ℕ) (e : limit ≡ lentLines l) where
+      module _ (l s : List ℕ) (e : limit ≤ lentLines l) where
         suffice : ¬ (lentLines l < length order)
         suffice k = omega (arith, lines-are, order-length)
 
@@ -123,9 +122,6 @@ module _ (p t : List ℕ) (a : Pattern p) (b : Recipe t) where
 
       -- what it has written, where all lines fit
       module _ (i : 4 * variables * n .lines ≤ length m₀) (j : 4 * n .records ≤ length q₀) where
-        begun : Begun m₀ q₀ found
-        begun = stores-tables m₀ q₀ found (listed .entries) (omega (arith, lines-are)) (omega (arith, records-are))
-
         tables : Tables m q found
         tables =
             subst (λ (o : Outcome). Tables (o .lines) (o .values) found) (sym (tallied .exact h))
@@ -135,18 +131,6 @@ module _ (p t : List ℕ) (a : Pattern p) (b : Recipe t) where
         lengths =
             let n = stores-lengths (outcome m₀ q₀ nothing) found in
             (ap (λ (o : Outcome). length (o .lines)) (tallied .exact h) ∙ n .0, ap (λ (o : Outcome). length (o .values)) (tallied .exact h) ∙ n .1)
-
-        pub arranges : (w : List ℕ) → length m₀ ≤ tableBytes → length q₀ ≤ tableBytes → length w ≡ tableBytes → Arranges m q (n .lines) (n .records) w
-        arranges w u v z = record {
-          found = found;
-          tables = tables;
-          distinct = listed .distinct;
-          lines-are = lines-are;
-          records-are = records-are;
-          lines-most = omega (arith, lengths .0);
-          values-most = omega (arith, lengths .1);
-          area = z;
-        }
 
         pub copies : (l s w : List ℕ) → 4 * variables * n .lines ≤ length l → 4 * n .records ≤ length s → Listable p t l s w → Copies n m q l s w
         copies l s w u v z = record {
@@ -160,24 +144,6 @@ module _ (p t : List ℕ) (a : Pattern p) (b : Recipe t) where
           most = (z .lines-most, z .values-most);
           area = z .area;
         }
-
-        -- the bytes behind the lines and the values
-        behind : (xs before now : List ℕ) (n : ℕ) → length xs ≡ n → now ≡ xs ++ drop n before → drop n now ≡ drop n before
-        behind xs before now n g f = ap (drop n) f ∙ drop-at xs (drop n before) n g
-
-        in-order : (m′ q′ : List ℕ) → Arranged m q (n .lines) (n .records) m′ q′ → InLineOrder m₀ q₀ found m′ q′
-        in-order m′ q′ z =
-            let o = z .arranged found tables (listed .distinct) lines-are records-are in
-            record {
-              order = o .order;
-              sorted = o .sorted;
-              lines-begin = o .lines-begin
-                  ∙ ap (lineTable 0 (o .order) ++_)
-                  (behind (lineTable 0 found) m₀ m (4 * variables * length found) (line-table-length 0 found (listed .entries)) (ap (λ (o : Outcome). o .lines) (tallied .exact h) ∙ begun .lines-begin));
-              values-begin = o .values-begin
-                  ∙ ap (valueTable (o .order) ++_)
-                  (behind (valueTable found) q₀ q (4 * valuesRecords found) (value-table-length found) (ap (λ (o : Outcome). o .values) (tallied .exact h) ∙ begun .values-begin));
-            }
 
       -- the lines in order are the full listing
       module _ (l s : List ℕ) (r : Room p t l s) where
@@ -211,28 +177,6 @@ module _ (p t : List ℕ) (a : Pattern p) (b : Recipe t) where
             4 * variables * n .lines ≤ length m₀ → 4 * n .records ≤ length q₀ → (k : ℕ) → k ≡ n .lines → (m′ q′ : List ℕ) → Copied n m q l s m′ q′ → WrittenLines p t l s k m′ q′
         written-copied i j k e m′ q′ z =
             subst (λ (k : ℕ). WrittenLines p t l s k m′ q′) (sym e) (written-in-order m′ q′ (z .copied found (tables i j) (listed .distinct) lines-are records-are))
-
-  -- a second search, with the lent tables
-  module _ (l s : List ℕ) (limit : ℕ) (e : limit ≡ lentLines l) (r : Room p t l s) (m q : List ℕ) (k : Tally) (c : Collected p t limit l s m q k) where
-    within : k .lines ≤ limit
-    within = go (decLt limit (k .lines))
-      where
-        go : Dec (limit < k .lines) → k .lines ≤ limit
-        go (yes h) =
-            absurd (r .fits .0 (omega (arith, tallied l s limit m q k c .over h, lists-length variables (λ i. Occurs i x) (Sweeps x y) _ (r .lines) (listed l s limit m q k c) (lists-of (r .lines) (r .listing-of)))))
-        go (no h) = omega arith
-
-    lines-room : 4 * variables * k .lines ≤ length l
-    lines-room = omega (arith, within)
-
-    values-room : 4 * k .records ≤ length s
-    values-room = let h = r .fits .1 .0 in omega (arith, records-are l s limit m q k c within, same-records l s limit m q k c within l s r)
-
-    pub second-arranges : (w : List ℕ) → Listable p t l s w → (v : List ℕ) → length v ≡ length w → Arranges m q (k .lines) (k .records) v
-    second-arranges w z v f = arranges l s limit m q k c within lines-room values-room v (z .lines-most) (z .values-most) (f ∙ z .area)
-
-    pub written : (m′ q′ : List ℕ) → Arranged m q (k .lines) (k .records) m′ q′ → WrittenLines p t l s (k .lines) m′ q′
-    written m′ q′ z = written-in-order l s limit m q k c within l s r m′ q′ (in-order l s limit m q k c within lines-room values-room m′ q′ z)
 
 -- copying the tables of lines
 module _ (n : Tally) (m q l s w : List ℕ) (x : Copies n m q l s w) (i j : ℕ) (f : i ≡ 4 * variables * n .lines) (g : j ≡ 4 * n .records) (l₁ s₁ : List ℕ) (c : l₁ ≡ sets l 0 (take (i - 0) (drop 0 m))) (d : s₁ ≡ sets s 0 (take (j - 0) (drop 0 q))) where

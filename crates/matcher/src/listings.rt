@@ -1,6 +1,6 @@
-// Lists the matches of a pattern and a recipe. A first search counts them, so that a listing without room is refused before anything is
-// written. It has tables of its own, with room for a short listing: such a one is copied from there. For a longer one a second search writes
-// the lines and their values. Either way they are then brought into document 01's order.
+// Lists the matches of a pattern and a recipe. A search writes what it finds to tables of its own, so that a listing without room is refused
+// before anything is written; from there the lines and their values are copied, and brought into document 01's order. The first search has
+// room for a short listing and stops where there are more lines; for a longer one a second search has as much room as can be lent.
 
 use crate::ListAnswer;
 use crate::Refusal;
@@ -8,13 +8,16 @@ use listing::LINE;
 use listing::Tally;
 use records::RECORD;
 ghost use mathlib.Core.Path.{_≡_};
-ghost use Rattle.matcher.specs.Operations.{WrittenLines};
-ghost use Rattle.matcher.specs.Steps.{Listable, Room, Enumerated, Copies, Copied};
+ghost use Prim.Native.Nat.{_≤_};
+ghost use Rattle.matcher.specs.Steps.{Listable, Enumerated, Copies, Copied};
 
-// The bytes of the lines of a short listing, at most 128, and of their values, at most 4,096 records.
+// The bytes of the lines of a short listing, at most 128, and of their values, at most 8,192 records.
 const SHORT_LINES: usize = 4096;
 
-const SHORT_VALUES: usize = 16384;
+const SHORT_VALUES: usize = 32768;
+
+// The bytes of the longest table.
+const TABLE_BYTES: usize = 65536;
 
 // Copies the lines that a search found, and their values, from the tables that it wrote to those that are lent, and brings them into order.
 fn copy_lines(
@@ -39,22 +42,46 @@ fn copy_lines(
     count
 }
 
-// Writes the full listing, which has room, and answers its number of lines.
-fn write_lines(
+// Writes the full listing, or refuses if it has no room. Where the search stops at no limit, its tables hold all that has room in those lent.
+fn enumerate_long(
     pattern: &[u8],
     recipe: &[u8],
     lines: &mut [u8],
     values: &mut [u8],
     work: &mut [u8],
-) -> usize
-    requires { ⌜ Listable (now pattern) (now recipe) (now lines) (now values) (now work) × Room (now pattern) (now recipe) (now lines) (now values) ⌝ }
-    ensures { λ r. ⌜ WrittenLines (now (pattern .entry)) (now (recipe .entry)) (now (lines .entry)) (now (values .entry)) r (now (lines .exit)) (now (values .exit)) ⌝ }
+) -> ListAnswer
+    requires { ⌜ Listable (now pattern) (now recipe) (now lines) (now values) (now work) ⌝ }
+    ensures { λ r. ⌜ Enumerated (now (pattern .entry)) (now (recipe .entry)) (now (lines .entry)) (now (values .entry)) r (now (lines .exit)) (now (values .exit)) ⌝ }
 {
     let limit = lines.len() / LINE;
-    let found = search::collect(pattern, recipe, limit, lines, values, work);
-    let written = found.lines;
-    listing::arrange(lines, written, values, found.records, work);
-    written
+    let room = values.len() / RECORD;
+    let mut long_lines = [0u8; TABLE_BYTES];
+    let mut long_values = [0u8; TABLE_BYTES];
+    let found = search::collect(
+        pattern,
+        recipe,
+        limit,
+        &mut long_lines,
+        &mut long_values,
+        work,
+    );
+    if limit < found.lines {
+        return ListAnswer::Refused(Refusal::LineRoom);
+    }
+    if room < found.records {
+        return ListAnswer::Refused(Refusal::ValueRoom);
+    }
+    ListAnswer::Lines(copy_lines(found, &long_lines, &long_values, lines, values, work))
+}
+
+// How many lines a short listing has at most, where so many are lent.
+fn few_lines(lent: usize) -> usize
+    ensures { λ r. ⌜ (r ≤ lent) × (r ≤ 128) ⌝ }
+{
+    if lent < SHORT_LINES / LINE {
+        return lent;
+    }
+    SHORT_LINES / LINE
 }
 
 // Writes the full listing, or refuses if it has no room.
@@ -68,28 +95,25 @@ pub fn enumerate(
     requires { ⌜ Listable (now pattern) (now recipe) (now lines) (now values) (now work) ⌝ }
     ensures { λ r. ⌜ Enumerated (now (pattern .entry)) (now (recipe .entry)) (now (lines .entry)) (now (values .entry)) r (now (lines .exit)) (now (values .exit)) ⌝ }
 {
-    let limit = lines.len() / LINE;
+    let few = few_lines(lines.len() / LINE);
     let mut short_lines = [0u8; SHORT_LINES];
     let mut short_values = [0u8; SHORT_VALUES];
     let found = search::collect(
         pattern,
         recipe,
-        limit,
+        few,
         &mut short_lines,
         &mut short_values,
         work,
     );
-    if limit < found.lines {
-        return ListAnswer::Refused(Refusal::LineRoom);
+    if few < found.lines {
+        return enumerate_long(pattern, recipe, lines, values, work);
+    }
+    if SHORT_VALUES / RECORD < found.records {
+        return enumerate_long(pattern, recipe, lines, values, work);
     }
     if values.len() / RECORD < found.records {
         return ListAnswer::Refused(Refusal::ValueRoom);
-    }
-    if SHORT_LINES / LINE < found.lines {
-        return ListAnswer::Lines(write_lines(pattern, recipe, lines, values, work));
-    }
-    if SHORT_VALUES / RECORD < found.records {
-        return ListAnswer::Lines(write_lines(pattern, recipe, lines, values, work));
     }
     ListAnswer::Lines(copy_lines(found, &short_lines, &short_values, lines, values, work))
 }
