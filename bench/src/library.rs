@@ -64,11 +64,13 @@ pub const LINE: usize = 32;
 pub struct Tables {
     pub lines: Vec<u8>,
     pub values: Vec<u8>,
+    /// What (a) and (b) leave all zero, as the library does its own work area.
+    pub work: Vec<u8>,
 }
 
 impl Tables {
     pub fn new() -> Tables {
-        Tables { lines: vec![0; TABLE], values: vec![0; TABLE] }
+        Tables { lines: vec![0; TABLE], values: vec![0; TABLE], work: vec![0; TABLE] }
     }
 }
 

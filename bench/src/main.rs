@@ -76,7 +76,7 @@ fn print_setting(cases: usize, limit: Duration) {
         "tuned; each divided by the library's time, so above 1 the library is faster. Worst is the least ratio. `limit`: no answer within {} ms.",
         limit.as_millis()
     );
-    println!("Buffers: full tables of 65,536 bytes, the same ones for each call, warm, not cleared between calls; the library clears its work area itself.");
+    println!("Buffers: full tables of 65,536 bytes, the same ones for each call, warm, not cleared between calls; the library, (a) and (b) clear their work area themselves.");
     println!("All read bytes and write sorted lines and values; the library, (a) and (b) check pattern and recipe, (c) takes them as good.\n");
 }
 
@@ -88,7 +88,7 @@ fn print_noise(when: &str) {
     let clearing = timing::alone(|| black_box(&mut area).fill(0));
     let (best, most) = (samples[0], samples[samples.len() - 1]);
     println!("machine noise {when}: 200 times the same work: best {best:.1} µs, median {middle:.1} µs, most {most:.1} µs;");
-    println!("clearing 65,536 bytes, as each call of the library does: best {:.2} µs, median {:.2} µs", clearing.best, clearing.median);
+    println!("clearing 65,536 bytes, as each call of the library, (a) and (b) does: best {:.2} µs, median {:.2} µs", clearing.best, clearing.median);
 }
 
 fn fixed_work() -> u64 {

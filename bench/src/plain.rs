@@ -50,10 +50,13 @@ pub enum Prunings {
 
 /// Lists as `onestep_list` does, with the same answer; nothing if the deadline, in `timing::now`'s time, passed first. The tables are taken to have good lengths (refusal 8).
 pub fn list(pattern: &[u8], recipe: &[u8], out: &mut Tables, prunings: Prunings, deadline: Duration) -> Option<i64> {
-    match read_both(pattern, recipe) {
+    let answer = match read_both(pattern, recipe) {
         Err(refusal) => Some(-refusal),
         Ok(rule) => Search { prunings, lines: Vec::new(), room: out.lines.len() / LINE, deadline, steps: 0, stop: None }.list(rule, out),
-    }
+    };
+    // document 01: the work area is all zero on return
+    out.work.fill(0);
+    answer
 }
 
 /// Pattern and recipe as terms, or the number of the refusal.
