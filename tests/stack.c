@@ -1,0 +1,71 @@
+/* How much stack the library takes: one call in a thread whose stack was filled with a mark, and then looked through for the first byte that changed.
+ *
+ *   stack list PATTERN RECIPE     lists with full tables
+ *   stack sweep N                 sweeps N nested abstractions
+ *
+ * Prints the bytes of stack used, the thread's own start included. A call that takes over two seconds is ended, and nothing is printed. */
+#define _GNU_SOURCE
+#include <pthread.h>
+#include <stdio.h>
+#include <stdlib.h>
+#include <string.h>
+#include <sys/mman.h>
+#include <unistd.h>
+#include "../include/onestep.h"
+
+enum { STACK = 4 << 20, MARK = 0xA5, TABLE = 65536 };
+
+static uint8_t first[512], second[512], lines[TABLE], values[TABLE], work[TABLE];
+static size_t first_length, second_length;
+
+static size_t read_table(const char *path, uint8_t *table) {
+    FILE *file = fopen(path, "rb");
+    if (!file) {
+        perror(path);
+        exit(2);
+    }
+    size_t length = fread(table, 1, 512, file);
+    fclose(file);
+    return length;
+}
+
+static void *list(void *unused) {
+    (void)unused;
+    onestep_list(first, first_length, second, second_length, lines, TABLE, values, TABLE, work, TABLE);
+    return NULL;
+}
+
+static void *sweep(void *unused) {
+    (void)unused;
+    onestep_sweep(first, first_length, lines, 32, values, 0, second, sizeof second, work, TABLE);
+    return NULL;
+}
+
+int main(int count, char **words) {
+    if (count < 3) return 2;
+    int is_list = strcmp(words[1], "list") == 0;
+    if (is_list) {
+        if (count < 4) return 2;
+        first_length = read_table(words[2], first);
+        second_length = read_table(words[3], second);
+    } else {
+        size_t depth = strtoul(words[2], NULL, 10);
+        for (size_t i = 0; i < depth; i++) first[4 * i] = 1;
+        first[4 * depth] = 2;
+        first_length = 4 * (depth + 1);
+    }
+    alarm(2);
+    uint8_t *stack = mmap(NULL, STACK, PROT_READ | PROT_WRITE, MAP_PRIVATE | MAP_ANONYMOUS, -1, 0);
+    if (stack == MAP_FAILED) return 2;
+    memset(stack, MARK, STACK);
+    pthread_attr_t attributes;
+    pthread_t thread;
+    pthread_attr_init(&attributes);
+    pthread_attr_setstack(&attributes, stack, STACK);
+    if (pthread_create(&thread, &attributes, is_list ? list : sweep, NULL) != 0) return 2;
+    pthread_join(thread, NULL);
+    size_t at = 0;
+    while (at < STACK && stack[at] == MARK) at++;
+    printf("%zu\n", STACK - at);
+    return 0;
+}
