@@ -14,7 +14,10 @@ use Rattle.terms.specs.Term.{Term, app, lam, loc, con, var, Closed, shift, unsh
 use Rattle.terms.specs.Sweep.{sweep, contract, fill}
 use Rattle.terms.proofs.Tests.{by-ltb, by-eqb}
 use Rattle.terms.proofs.Shift.{isEta-shift, isAbstraction-shift, shift-unshift}
-use Rattle.terms.proofs.Substitute.{by-substitute, substitute-here, substitute-low, substitute-shift, isEta-substitute}
+use Rattle.terms.proofs.Substitute.{by-substitute, substitute-here, substitute-low, substitute-high, substitute-shift, isEta-substitute}
+use Rattle.terms.proofs.Sweep.{contract-app}
+use Rattle.terms.proofs.Contracted.{isProper, Abstracted, Abstracted.out, Abstracted.kept, abstracted}
+use Rattle.matching.proofs.Step.{isAbstraction-unshift, contract-to-other}
 
 pub record Passes (h : ℕ → Term → Term) : Type 0 where
   pub application : (k : ℕ) (f a : Term) → h k (app f a) ≡ app (h k f) (h k a)
@@ -71,3 +74,105 @@ module _ (h : ℕ → Term → Term) (x : Passes h) where
   passes-closed d k (loc n) l c = x .low k n (omega (arith, c))
   passes-closed d k (con n) l c = x .constant k n
   passes-closed d k (var n) l c = x .variable k n
+
+-- shifting and substitution are such
+shift-within : (d b k c : ℕ) (t : Term) → c ≤ b → b ≤ c + k → shift (k + d) c t ≡ shift d b (shift k c t)
+shift-within d b k c (app f a) l g = ap₂ app (shift-within d b k c f l g) (shift-within d b k c a l g)
+shift-within d b k c (lam t) l g = ap lam (shift-within d (suc b) k (suc c) t (omega arith) (omega arith))
+shift-within d b k c (loc n) l g =
+    by-ltb (λ s. cond s (loc n) (loc (n + (k + d))) ≡ shift d b (cond s (loc n) (loc (n + k)))) n c (λ p. sym (shift-low d b n (omega arith)))
+    (λ p. ap loc (omega arith) ∙ sym (shift-high d b (n + k) (omega arith)))
+shift-within d b k c (con n) l g = refl
+shift-within d b k c (var n) l g = refl
+
+shift-passes : (d : ℕ) → Passes (shift d)
+shift-passes d = record {
+  application = λ k f a. refl;
+  abstraction = λ k b. refl;
+  constant = λ k n. refl;
+  variable = λ k n. refl;
+  low = λ k n l. shift-low d k n l;
+  high = λ i b k n l g.
+    shift-high d (k + i) (n + i) (omega arith) ∙ ap loc (omega arith) ∙ sym (ap (shift i b) (shift-high d k n g) ∙ shift-high i b (n + d) (omega arith));
+}
+
+substitute-high-shift : (e : Term) (d b k n : ℕ) → b ≤ k → k ≤ n → substitute (k + d) e (loc (n + d)) ≡ shift d b (substitute k e (loc n))
+substitute-high-shift e d b k n l g =
+    by-substitute (λ s. substitute (k + d) e (loc (n + d)) ≡ shift d b s) k e n (λ p. absurd (omega arith))
+    (λ q. substitute-here (k + d) e (n + d) (omega arith) ∙ shift-within d b k 0 e (omega arith) (omega arith))
+    (λ p. substitute-high (n + d) (k + d) e (omega arith) ∙ ap loc (omega arith) ∙ sym (shift-high d b (n - 1) (omega arith)))
+
+substitute-passes : (e : Term) → Passes (λ k t. substitute k e t)
+substitute-passes e = record {
+  application = λ k f a. refl;
+  abstraction = λ k b. refl;
+  constant = λ k n. refl;
+  variable = λ k n. refl;
+  low = λ k n l. substitute-low n k e l;
+  high = λ d b k n l g. substitute-high-shift e d b k n l g;
+}
+
+-- what keeps locals as they are is known at a local from what it does to the term that is put in
+module _ (F : Term → Term) (local : (n : ℕ) → F (loc n) ≡ loc n) where
+  shift-at : (d c n : ℕ) → F (shift d c (loc n)) ≡ shift d c (loc n)
+  shift-at d c n = by-ltb (λ s. F (cond s (loc n) (loc (n + d))) ≡ cond s (loc n) (loc (n + d))) n c (λ l. local n) (λ l. local (n + d))
+
+  substitute-at : (k : ℕ) (e u : Term) (n : ℕ) → F (shift k 0 e) ≡ shift k 0 u → F (substitute k e (loc n)) ≡ substitute k u (loc n)
+  substitute-at k e u n p =
+      by-ltb (λ s. F (cond s (loc n) (cond (eqb n k) (shift k 0 e) (loc (n - 1)))) ≡ cond s (loc n) (cond (eqb n k) (shift k 0 u) (loc (n - 1)))) n k (λ l. local n)
+      (λ l. by-eqb (λ s. F (cond s (shift k 0 e) (loc (n - 1))) ≡ cond s (shift k 0 u) (loc (n - 1))) n k (λ q. p) (λ q. local (n - 1)))
+
+-- the sweep
+module _ (h : ℕ → Term → Term) (x : Passes h) (head : (k : ℕ) (t : Term) → isAbstraction (h k t) ≡ isAbstraction t) where
+  kept-application : (k : ℕ) (f a : Term) → isAbstraction f ≡ false → contract (app (h k f) (h k a)) ≡ h k (contract (app f a))
+  kept-application k f a l =
+      contract-app (h k f) (h k a) (rw (head k f, l) tt) ∙ sym (x .application k f a) ∙ ap (h k) (sym (contract-app f a (rw l tt)))
+
+  contract-application : (k : ℕ) (f a : Term) → contract (app (h k f) (h k a)) ≡ h k (contract (app f a))
+  contract-application k (app f b) a = kept-application k (app f b) a refl
+  contract-application k (lam b) a = rw (x .abstraction k b) (sym (passes-substitute h x k 0 k a b (omega arith)))
+  contract-application k (loc n) a = kept-application k (loc n) a refl
+  contract-application k (con n) a = kept-application k (con n) a refl
+  contract-application k (var n) a = kept-application k (var n) a refl
+
+  module _ (eta : (k : ℕ) (t : Term) → isEta (h (suc k) t) ≡ isEta t) where
+    isProper-passes : (k : ℕ) (s : Term) → isProper s ≡ false → isProper (h (suc k) s) ≡ false
+    isProper-passes k (app m a) o = rw (eta k (app m a), x .application (suc k) m a, head (suc k) m) o
+    isProper-passes k (lam b) o = rw (eta k (lam b))
+    isProper-passes k (loc n) o = rw (eta k (loc n))
+    isProper-passes k (con n) o = rw (eta k (con n))
+    isProper-passes k (var n) o = rw (eta k (var n))
+
+    contract-lambda : (k : ℕ) (s : Term) → contract (lam (h (suc k) s)) ≡ h k (contract (lam s))
+    contract-lambda k s = go (abstracted s)
+      where
+        go : Abstracted s → contract (lam (h (suc k) s)) ≡ h k (contract (lam s))
+        go (out m p u l w) =
+            let q : isAbstraction (unshift 1 0 m) ≡ false = isAbstraction-unshift m u ∙ l in
+            rw w (contract-to-other (h (suc k) s) (h k (unshift 1 0 m)) (head k (unshift 1 0 m) ∙ q) .1
+            (ap (h (suc k)) p ∙ x .application (suc k) m (loc 0)
+            ∙ ap₂ app (ap (h (suc k)) (sym (shift-unshift 0 m u)) ∙ passes-shift h x 1 0 k (suc k) (unshift 1 0 m) (omega arith) (omega arith)) (x .low (suc k) 0 (omega arith))))
+        go (kept o w) = rw (w, isProper-passes k s o) (sym (x .abstraction k s))
+
+    module _ (g : ℕ → Term → Term) (y : Passes g) (local : (k n : ℕ) → sweep (g k (loc n)) ≡ h k (loc n)) where
+      sweep-passes : (k : ℕ) (t : Term) → sweep (g k t) ≡ h k (sweep t)
+      sweep-passes k (app f a) = rw (y .application k f a, sweep-passes k f, sweep-passes k a) (contract-application k (sweep f) (sweep a))
+      sweep-passes k (lam b) = rw (y .abstraction k b, sweep-passes (suc k) b) (contract-lambda k (sweep b))
+      sweep-passes k (loc n) = local k n
+      sweep-passes k (con n) = rw (y .constant k n, x .constant k n)
+      sweep-passes k (var n) = rw (y .variable k n, x .variable k n)
+
+pub sweep-shift : (d c : ℕ) (t : Term) → sweep (shift d c t) ≡ shift d c (sweep t)
+sweep-shift d c t = sweep-passes (shift d) (shift-passes d) (isAbstraction-shift d) (isEta-shift d) (shift d) (shift-passes d) (shift-at sweep (λ n. refl) d) c t
+
+isAbstraction-put : (e : Term) → isAbstraction e ≡ false → (k : ℕ) (t : Term) → isAbstraction (substitute k e t) ≡ isAbstraction t
+isAbstraction-put e r k (app f a) = refl
+isAbstraction-put e r k (lam b) = refl
+isAbstraction-put e r k (loc n) = by-substitute (λ s. isAbstraction s ≡ false) k e n (λ l. refl) (λ l. isAbstraction-shift k 0 e ∙ r) (λ l. refl)
+isAbstraction-put e r k (con n) = refl
+isAbstraction-put e r k (var n) = refl
+
+pub sweep-substitute : (k : ℕ) (e q : Term) → isAbstraction (sweep e) ≡ false → sweep (substitute k e q) ≡ substitute k (sweep e) (sweep q)
+sweep-substitute k e q r =
+    sweep-passes (λ j t. substitute j (sweep e) t) (substitute-passes (sweep e)) (isAbstraction-put (sweep e) r) (λ j t. isEta-substitute j (sweep e) t)
+    (λ j t. substitute j e t) (substitute-passes e) (λ j n. substitute-at sweep (λ i. refl) j e (sweep e) n (sweep-shift j 0 e)) k q

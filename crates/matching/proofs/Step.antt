@@ -24,7 +24,7 @@ bodyTarget (loc n) = app (shift 1 0 (loc n)) (loc 0)
 bodyTarget (con n) = app (con n) (loc 0)
 bodyTarget (var n) = app (var n) (loc 0)
 
-isAbstraction-unshift : (m : Term) → uses 0 m ≡ false → isAbstraction (unshift 1 0 m) ≡ isAbstraction m
+pub isAbstraction-unshift : (m : Term) → uses 0 m ≡ false → isAbstraction (unshift 1 0 m) ≡ isAbstraction m
 isAbstraction-unshift m u = sym (isAbstraction-shift 1 0 (unshift 1 0 m)) ∙ ap isAbstraction (shift-unshift 0 m u)
 
 pub contract-to-lam : (s t : Term) → Normal (lam t) → (contract (lam s) ≡ lam t) ↔ (s ≡ t)
