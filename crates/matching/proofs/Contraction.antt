@@ -1,22 +1,26 @@
 -- A redex whose argument never sweeps to an abstraction can be contracted before the sweep: shifting and substitution pass a sweep and a
 -- filling, shown once for all that is done to the locals from a number on. Assumes nothing.
 --   Passes h       h k does something to the locals of a term that aren't below k, and passes binders
---   Leaves C V t   C holds of the number of each constant of t, and V of that of each variable
+--   Leaves C W t   C holds of the number of each constant of t, and W of that of each variable
 --   applied f a    f applied to a, with the redex contracted if it is one and a is rigid
 --   reduct p       p with its redexes contracted bottom-up where the argument is rigid
 use mathlib.Core.Path.{_≡_, refl, sym, ap, ap₂, _∙_, subst}
 use mathlib.Core.Bool.{Bool, true, false, not, cond, _&&_}
+use mathlib.Core.Logic.{inl, inr, ⊎-elim}
 use Prim.Native.Nat.{ℕ, suc, _+_, _-_, _≤_, _<_}
 use native.Mathlib.Omega.{arith}
 use lib.Dec.{T, ltb, eqb}
 use borrow.Author.Tests.{lt-ltb, le-ltb}
-use Rattle.terms.specs.Term.{Term, app, lam, loc, con, var, Closed, shift, unshift, substitute, isAbstraction, isEta}
+use Rattle.terms.specs.Term.{Term, app, lam, loc, con, var, Closed, Occurs, Below, shift, unshift, substitute, isAbstraction, isEta}
 use Rattle.terms.specs.Sweep.{sweep, contract, fill}
 use Rattle.terms.proofs.Tests.{by-ltb, by-eqb}
 use Rattle.terms.proofs.Shift.{isEta-shift, isAbstraction-shift, shift-unshift}
-use Rattle.terms.proofs.Substitute.{by-substitute, substitute-here, substitute-low, substitute-high, substitute-shift, isEta-substitute}
+use Rattle.terms.proofs.Substitute.{by-substitute, substitute-here, substitute-low, substitute-high, substitute-shift, substitute-unused, unused-substitute, isEta-substitute}
 use Rattle.terms.proofs.Sweep.{contract-app}
+use Rattle.terms.proofs.Occurs.{occurs-below}
 use Rattle.terms.proofs.Contracted.{isProper, Abstracted, Abstracted.out, Abstracted.kept, abstracted}
+use Rattle.terms.proofs.Locals.{rigid, rigid-sweep, closed-unused, unused-closed}
+use Rattle.matching.proofs.Lines.{Values}
 use Rattle.matching.proofs.Step.{isAbstraction-unshift, contract-to-other}
 
 pub record Passes (h : ℕ → Term → Term) : Type 0 where
@@ -176,3 +180,156 @@ pub sweep-substitute : (k : ℕ) (e q : Term) → isAbstraction (sweep e) ≡ fa
 sweep-substitute k e q r =
     sweep-passes (λ j t. substitute j (sweep e) t) (substitute-passes (sweep e)) (isAbstraction-put (sweep e) r) (λ j t. isEta-substitute j (sweep e) t)
     (λ j t. substitute j e t) (substitute-passes e) (λ j n. substitute-at sweep (λ i. refl) j e (sweep e) n (sweep-shift j 0 e)) k q
+
+shift-zero : (c : ℕ) (t : Term) → shift 0 c t ≡ t
+shift-zero c (app f a) = ap₂ app (shift-zero c f) (shift-zero c a)
+shift-zero c (lam b) = ap lam (shift-zero (suc c) b)
+shift-zero c (loc n) = by-ltb (λ s. cond s (loc n) (loc (n + 0)) ≡ loc n) n c (λ l. refl) (λ l. ap loc (omega arith))
+shift-zero c (con n) = refl
+shift-zero c (var n) = refl
+
+-- the redex: the head's swept form is the abstraction over the swept body, or what the abstraction was over, applied to its local
+pub sweep-redex : (q e : Term) → isAbstraction (sweep e) ≡ false → sweep (app (lam q) e) ≡ sweep (substitute 0 e q)
+sweep-redex q e r = go (abstracted (sweep q)) ∙ sym (sweep-substitute 0 e q r)
+  where
+    go : Abstracted (sweep q) → sweep (app (lam q) e) ≡ substitute 0 (sweep e) (sweep q)
+    go (out m p u l w) =
+        rw (w, p, isAbstraction-unshift m u, l) (ap₂ app (sym (substitute-unused 0 (sweep e) m u)) (sym (shift-zero 0 (sweep e))))
+    go (kept o w) = rw w
+
+-- filling, with closed values
+module _ (φ : ℕ → Term) (v : Values φ) where
+  module _ (g h : ℕ → Term → Term) (x : Passes g) (y : Passes h) (local : (k n : ℕ) → fill φ (g k (loc n)) ≡ h k (loc n)) where
+    fill-passes : (k : ℕ) (t : Term) → fill φ (g k t) ≡ h k (fill φ t)
+    fill-passes k (app f a) = rw (x .application k f a, y .application k (fill φ f) (fill φ a)) (ap₂ app (fill-passes k f) (fill-passes k a))
+    fill-passes k (lam b) = rw (x .abstraction k b, y .abstraction k (fill φ b)) (ap lam (fill-passes (suc k) b))
+    fill-passes k (loc n) = local k n
+    fill-passes k (con n) = rw (x .constant k n, y .constant k n)
+    fill-passes k (var n) = rw (x .variable k n) (sym (passes-closed h y 0 k (φ n) (omega arith) (v n .0)))
+
+  pub fill-shift : (d c : ℕ) (t : Term) → fill φ (shift d c t) ≡ shift d c (fill φ t)
+  fill-shift d c t = fill-passes (shift d) (shift d) (shift-passes d) (shift-passes d) (shift-at (fill φ) (λ n. refl) d) c t
+
+  pub fill-substitute : (k : ℕ) (e q : Term) → fill φ (substitute k e q) ≡ substitute k (fill φ e) (fill φ q)
+  fill-substitute k e q =
+      fill-passes (λ j t. substitute j e t) (λ j t. substitute j (fill φ e) t) (substitute-passes e) (substitute-passes (fill φ e))
+      (λ j n. substitute-at (fill φ) (λ i. refl) j e (fill φ e) n (fill-shift j 0 e)) k q
+
+-- the pattern with its redexes contracted where the argument is rigid, bottom-up
+abbrev pub applied : Term → Term → Term
+applied (app f b) a = app (app f b) a
+applied (lam b) a = cond (rigid a) (substitute 0 a b) (app (lam b) a)
+applied (loc n) a = app (loc n) a
+applied (con n) a = app (con n) a
+applied (var n) a = app (var n) a
+
+abbrev pub reduct : Term → Term
+reduct (app f a) = applied (reduct f) (reduct a)
+reduct (lam b) = lam (reduct b)
+reduct (loc n) = loc n
+reduct (con n) = con n
+reduct (var n) = var n
+
+-- the two cases of an application
+pub by-applied : (P : Term → Type 0) (f a : Term) → P (app f a) → ((b : Term) → f ≡ lam b → rigid a ≡ true → P (substitute 0 a b)) → P (applied f a)
+by-applied P (app f b) a y z = y
+by-applied P (lam b) a y z = go (rigid a) refl
+  where
+    go : (r : Bool) → rigid a ≡ r → P (cond r (substitute 0 a b) (app (lam b) a))
+    go true e = z b refl e
+    go false e = y
+by-applied P (loc n) a y z = y
+by-applied P (con n) a y z = y
+by-applied P (var n) a y z = y
+
+-- it sweeps to the same, whatever the values
+module _ (φ : ℕ → Term) (v : Values φ) where
+  sweep-applied : (f a : Term) → sweep (fill φ (applied f a)) ≡ sweep (fill φ (app f a))
+  sweep-applied f a =
+      by-applied (λ t. sweep (fill φ t) ≡ sweep (fill φ (app f a))) f a refl
+      (λ b p r. rw (p, fill-substitute φ v 0 a b) (sym (sweep-redex (fill φ b) (fill φ a) (rigid-sweep φ a r))))
+
+  pub reduct-sweep : (p : Term) → sweep (fill φ (reduct p)) ≡ sweep (fill φ p)
+  reduct-sweep (app f a) = sweep-applied (reduct f) (reduct a) ∙ ap₂ (λ g b. contract (app g b)) (reduct-sweep f) (reduct-sweep a)
+  reduct-sweep (lam b) = ap (λ c. contract (lam c)) (reduct-sweep b)
+  reduct-sweep (loc n) = refl
+  reduct-sweep (con n) = refl
+  reduct-sweep (var n) = refl
+
+-- its locals have their binders
+closed-redex : (d : ℕ) (a b : Term) → Closed d a → Closed (suc d) b → Closed d (substitute 0 a b)
+closed-redex d a b c e =
+    unused-closed d (substitute 0 a b)
+    (λ j l. unused-substitute j j 0 a b (omega arith) (closed-unused (suc d) (suc j) b (omega arith) e) (closed-unused d j a l c))
+
+pub reduct-closed : (d : ℕ) (p : Term) → Closed d p → Closed d (reduct p)
+reduct-closed d (app f a) c =
+    let g = reduct-closed d f (c .0) in
+    let e = reduct-closed d a (c .1) in
+    by-applied (Closed d) (reduct f) (reduct a) (g, e) (λ b p r. closed-redex d (reduct a) b e (subst (Closed d) p g))
+reduct-closed d (lam b) c = reduct-closed (suc d) b c
+reduct-closed d (loc n) c = c
+reduct-closed d (con n) c = c
+reduct-closed d (var n) c = c
+
+-- its constants and variables are the pattern's
+abbrev pub Leaves : (ℕ → Type 0) → (ℕ → Type 0) → Term → Type 0
+Leaves C W (app f a) = Leaves C W f × Leaves C W a
+Leaves C W (lam b) = Leaves C W b
+Leaves C W (loc n) = Unit {0}
+Leaves C W (con n) = C n
+Leaves C W (var n) = W n
+
+module _ (C W : ℕ → Type 0) where
+  leaves-shift : (d c : ℕ) (t : Term) → Leaves C W t → Leaves C W (shift d c t)
+  leaves-shift d c (app f a) h = (leaves-shift d c f (h .0), leaves-shift d c a (h .1))
+  leaves-shift d c (lam b) h = leaves-shift d (suc c) b h
+  leaves-shift d c (loc n) h = by-ltb (λ s. Leaves C W (cond s (loc n) (loc (n + d)))) n c (λ l. tt) (λ l. tt)
+  leaves-shift d c (con n) h = h
+  leaves-shift d c (var n) h = h
+
+  leaves-substitute : (k : ℕ) (e t : Term) → Leaves C W e → Leaves C W t → Leaves C W (substitute k e t)
+  leaves-substitute k e (app f a) g h = (leaves-substitute k e f g (h .0), leaves-substitute k e a g (h .1))
+  leaves-substitute k e (lam b) g h = leaves-substitute (suc k) e b g h
+  leaves-substitute k e (loc n) g h = by-substitute (Leaves C W) k e n (λ l. tt) (λ l. leaves-shift k 0 e g) (λ l. tt)
+  leaves-substitute k e (con n) g h = h
+  leaves-substitute k e (var n) g h = h
+
+  pub reduct-leaves : (p : Term) → Leaves C W p → Leaves C W (reduct p)
+  reduct-leaves (app f a) h =
+      let g = reduct-leaves f (h .0) in
+      let e = reduct-leaves a (h .1) in
+      by-applied (Leaves C W) (reduct f) (reduct a) (g, e) (λ b p r. leaves-substitute 0 (reduct a) b e (subst (Leaves C W) p g))
+  reduct-leaves (lam b) h = reduct-leaves b h
+  reduct-leaves (loc n) h = h
+  reduct-leaves (con n) h = h
+  reduct-leaves (var n) h = h
+
+  pub leaf-occurs : (i : ℕ) (t : Term) → Leaves C W t → Occurs i t → W i
+  leaf-occurs i (app f a) h o = ⊎-elim (leaf-occurs i f (h .0)) (leaf-occurs i a (h .1)) o
+  leaf-occurs i (lam b) h o = leaf-occurs i b h o
+  leaf-occurs i (loc n) h o = absurd o
+  leaf-occurs i (con n) h o = absurd o
+  leaf-occurs i (var n) h o = subst W (sym o) h
+
+leaves-each : (W : ℕ → Type 0) (t : Term) → ((i : ℕ) → Occurs i t → W i) → Leaves (λ n. Unit {0}) W t
+leaves-each W (app f a) h = (leaves-each W f (λ i o. h i (inl o)), leaves-each W a (λ i o. h i (inr o)))
+leaves-each W (lam b) h = leaves-each W b h
+leaves-each W (loc n) h = tt
+leaves-each W (con n) h = tt
+leaves-each W (var n) h = h n refl
+
+pub reduct-occurs : (i : ℕ) (p : Term) → Occurs i (reduct p) → Occurs i p
+reduct-occurs i p o =
+    let W : ℕ → Type 0 = λ j. Occurs j p in
+    leaf-occurs (λ n. Unit {0}) W i (reduct p) (reduct-leaves (λ n. Unit {0}) W p (leaves-each W p (λ j q. q))) o
+
+below-each : (n : ℕ) (t : Term) → ((i : ℕ) → Occurs i t → i < n) → Below n t
+below-each n (app f a) h = (below-each n f (λ i o. h i (inl o)), below-each n a (λ i o. h i (inr o)))
+below-each n (lam b) h = below-each n b h
+below-each n (loc k) h = tt
+below-each n (con k) h = tt
+below-each n (var k) h = h k refl
+
+pub reduct-below : (n : ℕ) (p : Term) → Below n p → Below n (reduct p)
+reduct-below n p b = below-each n (reduct p) (λ i o. occurs-below n i p b (reduct-occurs i p o))
