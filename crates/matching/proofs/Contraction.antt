@@ -1,18 +1,20 @@
 -- A redex whose argument never sweeps to an abstraction can be contracted before the sweep: shifting and substitution pass a sweep and a
 -- filling, shown once for all that is done to the locals from a number on. Assumes nothing.
---   Passes h       h k does something to the locals of a term that aren't below k, and passes binders
---   Leaves C W t   C holds of the number of each constant of t, and W of that of each variable
---   applied f a    f applied to a, with the redex contracted if it is one and a is rigid
---   reduct p       p with its redexes contracted bottom-up where the argument is rigid
+--   Passes h        h k does something to the locals of a term that aren't below k, and passes binders
+--   Numbered C W t  C holds of the number of each constant of t, and W of that of each variable
+--   applied f a     f applied to a, with the redex contracted if it is one and a is rigid
+--   reduct p        p with its redexes contracted bottom-up where the argument is rigid
 use mathlib.Core.Path.{_≡_, refl, sym, ap, ap₂, _∙_, subst}
-use mathlib.Core.Bool.{Bool, true, false, not, cond, _&&_}
+use mathlib.Core.Bool.{Bool, true, false, cond}
 use mathlib.Core.Logic.{inl, inr, ⊎-elim}
+use mathlib.Core.List.{List}
 use Prim.Native.Nat.{ℕ, suc, _+_, _-_, _≤_, _<_}
 use native.Mathlib.Omega.{arith}
-use lib.Dec.{T, ltb, eqb}
+use lib.Dec.{eqb}
 use borrow.Author.Tests.{lt-ltb, le-ltb}
 use Rattle.terms.specs.Term.{Term, app, lam, loc, con, var, Closed, Occurs, Below, shift, unshift, substitute, isAbstraction, isEta}
 use Rattle.terms.specs.Sweep.{sweep, contract, fill}
+use Rattle.terms.specs.Listing.{Line, Full}
 use Rattle.terms.proofs.Tests.{by-ltb, by-eqb}
 use Rattle.terms.proofs.Shift.{isEta-shift, isAbstraction-shift, shift-unshift}
 use Rattle.terms.proofs.Substitute.{by-substitute, substitute-here, substitute-low, substitute-high, substitute-shift, substitute-unused, unused-substitute, isEta-substitute}
@@ -21,6 +23,9 @@ use Rattle.terms.proofs.Occurs.{occurs-below}
 use Rattle.terms.proofs.Contracted.{isProper, Abstracted, Abstracted.out, Abstracted.kept, abstracted}
 use Rattle.terms.proofs.Locals.{rigid, rigid-sweep, closed-unused, unused-closed}
 use Rattle.matching.proofs.Lines.{Values}
+use Rattle.matching.proofs.Lists.{Lists, lists-same, lists-more}
+use Rattle.matching.proofs.Lister.{Sweeps}
+use Rattle.matching.proofs.Partial.{full-lists, lists-full}
 use Rattle.matching.proofs.Step.{isAbstraction-unshift, contract-to-other}
 
 pub record Passes (h : ℕ → Term → Term) : Type 0 where
@@ -37,8 +42,11 @@ shift-low d b n l = rw (lt-ltb n b l)
 shift-high : (d b n : ℕ) → b ≤ n → shift d b (loc n) ≡ loc (n + d)
 shift-high d b n l = rw (le-ltb n b l)
 
+raised : (n k : ℕ) → k < n → loc n ≡ shift 1 k (loc (n - 1))
+raised n k l = rw (le-ltb (n - 1) k (omega arith)) (ap loc (omega arith))
+
 module _ (h : ℕ → Term → Term) (x : Passes h) where
-  passes-shift : (d b k j : ℕ) (t : Term) → j ≡ k + d → b ≤ k → h j (shift d b t) ≡ shift d b (h k t)
+  pub passes-shift : (d b k j : ℕ) (t : Term) → j ≡ k + d → b ≤ k → h j (shift d b t) ≡ shift d b (h k t)
   passes-shift d b k j (app f a) e l =
       rw (x .application j (shift d b f) (shift d b a), x .application k f a) (ap₂ app (passes-shift d b k j f e l) (passes-shift d b k j a e l))
   passes-shift d b k j (lam t) e l =
@@ -51,9 +59,6 @@ module _ (h : ℕ → Term → Term) (x : Passes h) where
       (λ p. ap (λ i. h i (loc (n + d))) e ∙ x .high d b k n l p))
   passes-shift d b k j (con n) e l = rw (x .constant j n, x .constant k n)
   passes-shift d b k j (var n) e l = rw (x .variable j n, x .variable k n)
-
-  raised : (n k : ℕ) → k < n → loc n ≡ shift 1 k (loc (n - 1))
-  raised n k l = rw (le-ltb (n - 1) k (omega arith)) (ap loc (omega arith))
 
   -- the substitution lemma
   pub passes-substitute : (c k j : ℕ) (a b : Term) → j ≡ c + k → h j (substitute k a b) ≡ substitute k (h c a) (h (suc j) b)
@@ -72,7 +77,7 @@ module _ (h : ℕ → Term → Term) (x : Passes h) where
   passes-substitute c k j a (con n) e = rw (x .constant j n, x .constant (suc j) n)
   passes-substitute c k j a (var n) e = rw (x .variable j n, x .variable (suc j) n)
 
-  passes-closed : (d k : ℕ) (t : Term) → d ≤ k → Closed d t → h k t ≡ t
+  pub passes-closed : (d k : ℕ) (t : Term) → d ≤ k → Closed d t → h k t ≡ t
   passes-closed d k (app f a) l c = rw (x .application k f a) (ap₂ app (passes-closed d k f l (c .0)) (passes-closed d k a l (c .1)))
   passes-closed d k (lam b) l c = rw (x .abstraction k b) (ap lam (passes-closed (suc d) (suc k) b (omega arith) c))
   passes-closed d k (loc n) l c = x .low k n (omega (arith, c))
@@ -89,7 +94,7 @@ shift-within d b k c (loc n) l g =
 shift-within d b k c (con n) l g = refl
 shift-within d b k c (var n) l g = refl
 
-shift-passes : (d : ℕ) → Passes (shift d)
+pub shift-passes : (d : ℕ) → Passes (shift d)
 shift-passes d = record {
   application = λ k f a. refl;
   abstraction = λ k b. refl;
@@ -97,7 +102,7 @@ shift-passes d = record {
   variable = λ k n. refl;
   low = λ k n l. shift-low d k n l;
   high = λ i b k n l g.
-    shift-high d (k + i) (n + i) (omega arith) ∙ ap loc (omega arith) ∙ sym (ap (shift i b) (shift-high d k n g) ∙ shift-high i b (n + d) (omega arith));
+      shift-high d (k + i) (n + i) (omega arith) ∙ ap loc (omega arith) ∙ sym (ap (shift i b) (shift-high d k n g) ∙ shift-high i b (n + d) (omega arith));
 }
 
 substitute-high-shift : (e : Term) (d b k n : ℕ) → b ≤ k → k ≤ n → substitute (k + d) e (loc (n + d)) ≡ shift d b (substitute k e (loc n))
@@ -106,7 +111,7 @@ substitute-high-shift e d b k n l g =
     (λ q. substitute-here (k + d) e (n + d) (omega arith) ∙ shift-within d b k 0 e (omega arith) (omega arith))
     (λ p. substitute-high (n + d) (k + d) e (omega arith) ∙ ap loc (omega arith) ∙ sym (shift-high d b (n - 1) (omega arith)))
 
-substitute-passes : (e : Term) → Passes (λ k t. substitute k e t)
+pub substitute-passes : (e : Term) → Passes (λ k t. substitute k e t)
 substitute-passes e = record {
   application = λ k f a. refl;
   abstraction = λ k b. refl;
@@ -244,7 +249,7 @@ by-applied P (var n) a y z = y
 
 -- it sweeps to the same, whatever the values
 module _ (φ : ℕ → Term) (v : Values φ) where
-  sweep-applied : (f a : Term) → sweep (fill φ (applied f a)) ≡ sweep (fill φ (app f a))
+  pub sweep-applied : (f a : Term) → sweep (fill φ (applied f a)) ≡ sweep (fill φ (app f a))
   sweep-applied f a =
       by-applied (λ t. sweep (fill φ t) ≡ sweep (fill φ (app f a))) f a refl
       (λ b p r. rw (p, fill-substitute φ v 0 a b) (sym (sweep-redex (fill φ b) (fill φ a) (rigid-sweep φ a r))))
@@ -257,7 +262,7 @@ module _ (φ : ℕ → Term) (v : Values φ) where
   reduct-sweep (var n) = refl
 
 -- its locals have their binders
-closed-redex : (d : ℕ) (a b : Term) → Closed d a → Closed (suc d) b → Closed d (substitute 0 a b)
+pub closed-redex : (d : ℕ) (a b : Term) → Closed d a → Closed (suc d) b → Closed d (substitute 0 a b)
 closed-redex d a b c e =
     unused-closed d (substitute 0 a b)
     (λ j l. unused-substitute j j 0 a b (omega arith) (closed-unused (suc d) (suc j) b (omega arith) e) (closed-unused d j a l c))
@@ -273,56 +278,56 @@ reduct-closed d (con n) c = c
 reduct-closed d (var n) c = c
 
 -- its constants and variables are the pattern's
-abbrev pub Leaves : (ℕ → Type 0) → (ℕ → Type 0) → Term → Type 0
-Leaves C W (app f a) = Leaves C W f × Leaves C W a
-Leaves C W (lam b) = Leaves C W b
-Leaves C W (loc n) = Unit {0}
-Leaves C W (con n) = C n
-Leaves C W (var n) = W n
+abbrev pub Numbered : (ℕ → Type 0) → (ℕ → Type 0) → Term → Type 0
+Numbered C W (app f a) = Numbered C W f × Numbered C W a
+Numbered C W (lam b) = Numbered C W b
+Numbered C W (loc n) = Unit {0}
+Numbered C W (con n) = C n
+Numbered C W (var n) = W n
 
 module _ (C W : ℕ → Type 0) where
-  leaves-shift : (d c : ℕ) (t : Term) → Leaves C W t → Leaves C W (shift d c t)
-  leaves-shift d c (app f a) h = (leaves-shift d c f (h .0), leaves-shift d c a (h .1))
-  leaves-shift d c (lam b) h = leaves-shift d (suc c) b h
-  leaves-shift d c (loc n) h = by-ltb (λ s. Leaves C W (cond s (loc n) (loc (n + d)))) n c (λ l. tt) (λ l. tt)
-  leaves-shift d c (con n) h = h
-  leaves-shift d c (var n) h = h
+  numbered-shift : (d c : ℕ) (t : Term) → Numbered C W t → Numbered C W (shift d c t)
+  numbered-shift d c (app f a) h = (numbered-shift d c f (h .0), numbered-shift d c a (h .1))
+  numbered-shift d c (lam b) h = numbered-shift d (suc c) b h
+  numbered-shift d c (loc n) h = by-ltb (λ s. Numbered C W (cond s (loc n) (loc (n + d)))) n c (λ l. tt) (λ l. tt)
+  numbered-shift d c (con n) h = h
+  numbered-shift d c (var n) h = h
 
-  leaves-substitute : (k : ℕ) (e t : Term) → Leaves C W e → Leaves C W t → Leaves C W (substitute k e t)
-  leaves-substitute k e (app f a) g h = (leaves-substitute k e f g (h .0), leaves-substitute k e a g (h .1))
-  leaves-substitute k e (lam b) g h = leaves-substitute (suc k) e b g h
-  leaves-substitute k e (loc n) g h = by-substitute (Leaves C W) k e n (λ l. tt) (λ l. leaves-shift k 0 e g) (λ l. tt)
-  leaves-substitute k e (con n) g h = h
-  leaves-substitute k e (var n) g h = h
+  pub numbered-substitute : (k : ℕ) (e t : Term) → Numbered C W e → Numbered C W t → Numbered C W (substitute k e t)
+  numbered-substitute k e (app f a) g h = (numbered-substitute k e f g (h .0), numbered-substitute k e a g (h .1))
+  numbered-substitute k e (lam b) g h = numbered-substitute (suc k) e b g h
+  numbered-substitute k e (loc n) g h = by-substitute (Numbered C W) k e n (λ l. tt) (λ l. numbered-shift k 0 e g) (λ l. tt)
+  numbered-substitute k e (con n) g h = h
+  numbered-substitute k e (var n) g h = h
 
-  pub reduct-leaves : (p : Term) → Leaves C W p → Leaves C W (reduct p)
-  reduct-leaves (app f a) h =
-      let g = reduct-leaves f (h .0) in
-      let e = reduct-leaves a (h .1) in
-      by-applied (Leaves C W) (reduct f) (reduct a) (g, e) (λ b p r. leaves-substitute 0 (reduct a) b e (subst (Leaves C W) p g))
-  reduct-leaves (lam b) h = reduct-leaves b h
-  reduct-leaves (loc n) h = h
-  reduct-leaves (con n) h = h
-  reduct-leaves (var n) h = h
+  pub reduct-numbered : (p : Term) → Numbered C W p → Numbered C W (reduct p)
+  reduct-numbered (app f a) h =
+      let g = reduct-numbered f (h .0) in
+      let e = reduct-numbered a (h .1) in
+      by-applied (Numbered C W) (reduct f) (reduct a) (g, e) (λ b p r. numbered-substitute 0 (reduct a) b e (subst (Numbered C W) p g))
+  reduct-numbered (lam b) h = reduct-numbered b h
+  reduct-numbered (loc n) h = h
+  reduct-numbered (con n) h = h
+  reduct-numbered (var n) h = h
 
-  pub leaf-occurs : (i : ℕ) (t : Term) → Leaves C W t → Occurs i t → W i
-  leaf-occurs i (app f a) h o = ⊎-elim (leaf-occurs i f (h .0)) (leaf-occurs i a (h .1)) o
-  leaf-occurs i (lam b) h o = leaf-occurs i b h o
-  leaf-occurs i (loc n) h o = absurd o
-  leaf-occurs i (con n) h o = absurd o
-  leaf-occurs i (var n) h o = subst W (sym o) h
+  pub numbered-occurs : (i : ℕ) (t : Term) → Numbered C W t → Occurs i t → W i
+  numbered-occurs i (app f a) h o = ⊎-elim (numbered-occurs i f (h .0)) (numbered-occurs i a (h .1)) o
+  numbered-occurs i (lam b) h o = numbered-occurs i b h o
+  numbered-occurs i (loc n) h o = absurd o
+  numbered-occurs i (con n) h o = absurd o
+  numbered-occurs i (var n) h o = subst W (sym o) h
 
-leaves-each : (W : ℕ → Type 0) (t : Term) → ((i : ℕ) → Occurs i t → W i) → Leaves (λ n. Unit {0}) W t
-leaves-each W (app f a) h = (leaves-each W f (λ i o. h i (inl o)), leaves-each W a (λ i o. h i (inr o)))
-leaves-each W (lam b) h = leaves-each W b h
-leaves-each W (loc n) h = tt
-leaves-each W (con n) h = tt
-leaves-each W (var n) h = h n refl
+numbered-each : (W : ℕ → Type 0) (t : Term) → ((i : ℕ) → Occurs i t → W i) → Numbered (λ n. Unit {0}) W t
+numbered-each W (app f a) h = (numbered-each W f (λ i o. h i (inl o)), numbered-each W a (λ i o. h i (inr o)))
+numbered-each W (lam b) h = numbered-each W b h
+numbered-each W (loc n) h = tt
+numbered-each W (con n) h = tt
+numbered-each W (var n) h = h n refl
 
 pub reduct-occurs : (i : ℕ) (p : Term) → Occurs i (reduct p) → Occurs i p
 reduct-occurs i p o =
     let W : ℕ → Type 0 = λ j. Occurs j p in
-    leaf-occurs (λ n. Unit {0}) W i (reduct p) (reduct-leaves (λ n. Unit {0}) W p (leaves-each W p (λ j q. q))) o
+    numbered-occurs (λ n. Unit {0}) W i (reduct p) (reduct-numbered (λ n. Unit {0}) W p (numbered-each W p (λ j q. q))) o
 
 below-each : (n : ℕ) (t : Term) → ((i : ℕ) → Occurs i t → i < n) → Below n t
 below-each n (app f a) h = (below-each n f (λ i o. h i (inl o)), below-each n a (λ i o. h i (inr o)))
@@ -333,3 +338,13 @@ below-each n (var k) h = h k refl
 
 pub reduct-below : (n : ℕ) (p : Term) → Below n p → Below n (reduct p)
 reduct-below n p b = below-each n (reduct p) (λ i o. occurs-below n i p b (reduct-occurs i p o))
+
+-- lines that list the reduct's matches list the pattern's
+pub reduct-lists :
+    (n : ℕ) (p t : Term) (ls : List Line) → Lists n (λ i. Occurs i (reduct p)) (Sweeps (reduct p) t) ls → Lists n (λ i. Occurs i p) (Sweeps p t) ls
+reduct-lists n p t ls x =
+    lists-same n (λ i. Occurs i p) (Sweeps p t) (Sweeps (reduct p) t) ls (λ φ v. (λ s. reduct-sweep φ v p ∙ s, λ s. sym (reduct-sweep φ v p) ∙ s))
+    (lists-more n (λ i. Occurs i p) (λ i. Occurs i (reduct p)) (Sweeps (reduct p) t) ls (λ i o. reduct-occurs i p o) x)
+
+pub reduct-full : (n : ℕ) (p t : Term) → Below n p → (ls : List Line) → Full n (reduct p) t ls → Full n p t ls
+reduct-full n p t b ls x = full-lists n p t b ls (reduct-lists n p t ls (lists-full n (reduct p) t (reduct-below n p b) ls x)) (x .rising)
