@@ -19,3 +19,4 @@ pub mod Choices
 pub mod Alternatives
 pub mod Tables
 pub mod Cases
+pub mod Repeated

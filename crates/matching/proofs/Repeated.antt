@@ -1,0 +1,149 @@
+-- One variable applied to constants in two places: at most one value comes to both targets, and it is read off them place by place.
+-- By induction on the body below the abstractions of the value, the constants standing where its locals stood. Assumes nothing.
+--   spine f cs       f applied to the constants cs, of which the first is the last argument
+--   bodies n v       what stands below n abstractions of v, each made where v has none
+--   enclose n b      what n abstractions over b come to
+--   replace d cs t   t with the constants cs for its locals from d on, the first for local d; the locals above move down
+--   Apart ps         the two constants of each pair differ, and so do the pairs
+--   join d ps t u    the term that comes to t with the first constants of the pairs ps put in, and to u with the second
+use mathlib.Core.Path.{_≡_, refl, sym, ap, ap₂, _∙_, subst}
+use mathlib.Core.Bool.{Bool, true, false, cond, _&&_}
+use mathlib.Core.Option.{Option, none, some}
+use mathlib.Core.List.{List, [], _∷_}
+use mathlib.Core.Logic.{inl, inr}
+use Prim.Native.Nat.{ℕ, zero, suc, _+_, _-_, _≤_, _<_}
+use native.Mathlib.Omega.{arith}
+use native.Mathlib.Decide.{decLt, ℕ-discrete}
+use lib.Dec.{T, ltb, eqb}
+use lib.ListN.{length}
+use borrow.Author.Tests.{lt-ltb, le-ltb, eq-eqb, eqb-true}
+use Rattle.terms.specs.Term.{Term, app, lam, loc, con, var, Normal, Value, shift, substitute, isAbstraction}
+use Rattle.terms.specs.Sweep.{sweep, contract, fill}
+use Rattle.terms.specs.Listing.{In}
+use Rattle.terms.proofs.Tests.{by-ltb}
+use Rattle.terms.proofs.Substitute.{substitute-shift, substitute-high}
+use Rattle.terms.proofs.Sweep.{sweep-normal}
+use Rattle.matching.proofs.Step.{bodyTarget, contract-to, bodyTarget-normal}
+use Rattle.matching.proofs.Lister.{Sweeps}
+
+abbrev pub spine : Term → List ℕ → Term
+spine f [] = f
+spine f (c ∷ cs) = app (spine f cs) (con c)
+
+-- a value and the body below its abstractions
+abbrev pub bodies : ℕ → Term → Term
+bodies zero v = v
+bodies (suc n) v = bodyTarget (bodies n v)
+
+abbrev pub enclose : ℕ → Term → Term
+enclose zero b = b
+enclose (suc n) b = enclose n (contract (lam b))
+
+bodies-normal : (n : ℕ) (v : Term) → Normal v → Normal (bodies n v)
+bodies-normal zero v h = h
+bodies-normal (suc n) v h = bodyTarget-normal (bodies n v) (bodies-normal n v h)
+
+pub enclose-bodies : (n : ℕ) (v : Term) → Normal v → enclose n (bodies n v) ≡ v
+enclose-bodies zero v h = refl
+enclose-bodies (suc n) v h =
+    ap (enclose n) (contract-to (bodies (suc n) v) (bodies n v) (bodies-normal n v h) .1 refl) ∙ enclose-bodies n v h
+
+-- constants for the innermost locals
+abbrev pub pick : ℕ → List ℕ → ℕ → Term
+pick d [] k = loc (d + k)
+pick d (c ∷ cs) zero = con c
+pick d (c ∷ cs) (suc k) = pick d cs k
+
+abbrev pub replace : ℕ → List ℕ → Term → Term
+replace d cs (app f a) = app (replace d cs f) (replace d cs a)
+replace d cs (lam b) = lam (replace (suc d) cs b)
+replace d cs (loc n) = cond (ltb n d) (loc n) (pick d cs (n - d))
+replace d cs (con n) = con n
+replace d cs (var n) = var n
+
+replace-none : (d : ℕ) (t : Term) → replace d [] t ≡ t
+replace-none d (app f a) = ap₂ app (replace-none d f) (replace-none d a)
+replace-none d (lam b) = ap lam (replace-none (suc d) b)
+replace-none d (loc n) = by-ltb (λ s. cond s (loc n) (loc (d + (n - d))) ≡ loc n) n d (λ l. refl) (λ l. ap loc (omega arith))
+replace-none d (con n) = refl
+replace-none d (var n) = refl
+
+pick-substitute : (d c : ℕ) (cs : List ℕ) (k : ℕ) → substitute d (con c) (pick (suc d) cs k) ≡ pick d cs k
+pick-substitute d c [] k = substitute-high (suc d + k) d (con c) (omega arith) ∙ ap loc (omega arith)
+pick-substitute d c (a ∷ cs) zero = refl
+pick-substitute d c (a ∷ cs) (suc k) = pick-substitute d c cs k
+
+pub substitute-replace : (d c : ℕ) (cs : List ℕ) (t : Term) → substitute d (con c) (replace (suc d) cs t) ≡ replace d (c ∷ cs) t
+substitute-replace d c cs (app f a) = ap₂ app (substitute-replace d c cs f) (substitute-replace d c cs a)
+substitute-replace d c cs (lam b) = ap lam (substitute-replace (suc d) c cs b)
+substitute-replace d c cs (loc n) = go (decLt n d) (ℕ-discrete n d)
+  where
+    go : Dec (n < d) → Dec (n ≡ d) → substitute d (con c) (replace (suc d) cs (loc n)) ≡ replace d (c ∷ cs) (loc n)
+    go (yes l) o = rw (lt-ltb n (suc d) (omega arith), lt-ltb n d l)
+    go (no l) (yes q) =
+        let z : n - d ≡ 0 = omega arith in
+        rw (lt-ltb n (suc d) (omega arith), le-ltb n d (omega arith), z, eq-eqb n d q)
+    go (no l) (no q) =
+        let z : n - d ≡ suc (n - suc d) = omega arith in
+        rw (le-ltb n (suc d) (omega arith), le-ltb n d (omega arith), z) (pick-substitute d c cs (n - suc d))
+substitute-replace d c cs (con n) = refl
+substitute-replace d c cs (var n) = refl
+
+pick-shift : (c d : ℕ) (cs : List ℕ) (k : ℕ) → c ≤ d → pick (suc d) cs k ≡ shift 1 c (pick d cs k)
+pick-shift c d [] k h = rw (le-ltb (d + k) c (omega arith)) (ap loc (omega arith))
+pick-shift c d (a ∷ cs) zero h = refl
+pick-shift c d (a ∷ cs) (suc k) h = pick-shift c d cs k h
+
+replace-shift : (c d : ℕ) (cs : List ℕ) (t : Term) → c ≤ d → replace (suc d) cs (shift 1 c t) ≡ shift 1 c (replace d cs t)
+replace-shift c d cs (app f a) h = ap₂ app (replace-shift c d cs f h) (replace-shift c d cs a h)
+replace-shift c d cs (lam b) h = ap lam (replace-shift (suc c) (suc d) cs b (omega arith))
+replace-shift c d cs (loc n) h = go (decLt n c) (decLt n d)
+  where
+    go : Dec (n < c) → Dec (n < d) → replace (suc d) cs (shift 1 c (loc n)) ≡ shift 1 c (replace d cs (loc n))
+    go (yes l) o = rw (lt-ltb n c l, lt-ltb n (suc d) (omega arith), lt-ltb n d (omega arith), lt-ltb n c l)
+    go (no l) (yes m) = rw (le-ltb n c (omega arith), lt-ltb (n + 1) (suc d) (omega arith), lt-ltb n d m, le-ltb n c (omega arith))
+    go (no l) (no m) =
+        let z : n + 1 - suc d ≡ n - d = omega arith in
+        rw (le-ltb n c (omega arith), le-ltb (n + 1) (suc d) (omega arith), le-ltb n d (omega arith), z) (pick-shift c d cs (n - d) h)
+replace-shift c d cs (con n) h = refl
+replace-shift c d cs (var n) h = refl
+
+-- the body below one more abstraction
+bodyTarget-other : (t : Term) → isAbstraction t ≡ false → bodyTarget t ≡ app (shift 1 0 t) (loc 0)
+bodyTarget-other (app f a) h = refl
+bodyTarget-other (lam b) h = absurd (subst T h tt)
+bodyTarget-other (loc n) h = refl
+bodyTarget-other (con n) h = refl
+bodyTarget-other (var n) h = refl
+
+pick-no-abstraction : (d : ℕ) (cs : List ℕ) (k : ℕ) → isAbstraction (pick d cs k) ≡ false
+pick-no-abstraction d [] k = refl
+pick-no-abstraction d (c ∷ cs) zero = refl
+pick-no-abstraction d (c ∷ cs) (suc k) = pick-no-abstraction d cs k
+
+replace-innermost : (d : ℕ) (cs : List ℕ) (t : Term) → app (shift 1 0 (replace d cs t)) (loc 0) ≡ replace (suc d) cs (app (shift 1 0 t) (loc 0))
+replace-innermost d cs t = ap₂ app (sym (replace-shift 0 d cs t (omega arith))) (rw (lt-ltb 0 (suc d) (omega arith)))
+
+bodyTarget-replace : (d : ℕ) (cs : List ℕ) (t : Term) → bodyTarget (replace d cs t) ≡ replace (suc d) cs (bodyTarget t)
+bodyTarget-replace d cs (app f a) = replace-innermost d cs (app f a)
+bodyTarget-replace d cs (lam b) = refl
+bodyTarget-replace d cs (loc n) = bodyTarget-other (replace d cs (loc n)) other ∙ replace-innermost d cs (loc n)
+  where
+    other : isAbstraction (replace d cs (loc n)) ≡ false
+    other = by-ltb (λ s. isAbstraction (cond s (loc n) (pick d cs (n - d))) ≡ false) n d (λ l. refl) (λ l. pick-no-abstraction d cs (n - d))
+bodyTarget-replace d cs (con n) = replace-innermost d cs (con n)
+bodyTarget-replace d cs (var n) = replace-innermost d cs (var n)
+
+-- an application to constants
+contract-constant : (s : Term) (c : ℕ) → contract (app s (con c)) ≡ substitute 0 (con c) (bodyTarget s)
+contract-constant (app f a) c = ap (λ x. app x (con c)) (sym (substitute-shift 0 (con c) (app f a)))
+contract-constant (lam b) c = refl
+contract-constant (loc n) c = ap (λ x. app x (con c)) (sym (substitute-shift 0 (con c) (loc n)))
+contract-constant (con n) c = refl
+contract-constant (var n) c = refl
+
+pub sweep-spine : (φ : ℕ → Term) (i : ℕ) (cs : List ℕ) → Normal (φ i) → sweep (fill φ (spine (var i) cs)) ≡ replace 0 cs (bodies (length cs) (φ i))
+sweep-spine φ i [] h = sweep-normal (φ i) h ∙ sym (replace-none 0 (φ i))
+sweep-spine φ i (c ∷ cs) h =
+    contract-constant (sweep (fill φ (spine (var i) cs))) c ∙ ap (λ x. substitute 0 (con c) (bodyTarget x)) (sweep-spine φ i cs h)
+    ∙ ap (substitute 0 (con c)) (bodyTarget-replace 0 cs (bodies (length cs) (φ i))) ∙ substitute-replace 0 c cs (bodies (suc (length cs)) (φ i))
