@@ -8,7 +8,7 @@
 --   join d ps t u    the term that comes to t with the first constants of the pairs ps put in, and to u with the second
 use mathlib.Core.Path.{_≡_, refl, sym, ap, ap₂, _∙_, subst}
 use mathlib.Core.Bool.{Bool, true, false, cond, _&&_}
-use mathlib.Core.Option.{Option, none, some}
+use mathlib.Core.Option.{Option, none, some, IsSome}
 use mathlib.Core.List.{List, [], _∷_}
 use mathlib.Core.Logic.{inl, inr}
 use Prim.Native.Nat.{ℕ, zero, suc, _+_, _-_, _≤_, _<_}
@@ -16,11 +16,11 @@ use native.Mathlib.Omega.{arith}
 use native.Mathlib.Decide.{decLt, ℕ-discrete}
 use lib.Dec.{T, ltb, eqb}
 use lib.ListN.{length}
-use borrow.Author.Tests.{lt-ltb, le-ltb, eq-eqb, eqb-true}
+use borrow.Author.Tests.{lt-ltb, le-ltb, eq-eqb, ne-eqb}
 use Rattle.terms.specs.Term.{Term, app, lam, loc, con, var, Normal, Value, shift, substitute, isAbstraction}
 use Rattle.terms.specs.Sweep.{sweep, contract, fill}
 use Rattle.terms.specs.Listing.{In}
-use Rattle.terms.proofs.Tests.{by-ltb}
+use Rattle.terms.proofs.Tests.{by-ltb, by-eqb}
 use Rattle.terms.proofs.Substitute.{substitute-shift, substitute-high}
 use Rattle.terms.proofs.Sweep.{sweep-normal}
 use Rattle.matching.proofs.Step.{bodyTarget, contract-to, bodyTarget-normal}
@@ -147,3 +147,146 @@ sweep-spine φ i [] h = sweep-normal (φ i) h ∙ sym (replace-none 0 (φ i))
 sweep-spine φ i (c ∷ cs) h =
     contract-constant (sweep (fill φ (spine (var i) cs))) c ∙ ap (λ x. substitute 0 (con c) (bodyTarget x)) (sweep-spine φ i cs h)
     ∙ ap (substitute 0 (con c)) (bodyTarget-replace 0 cs (bodies (length cs) (φ i))) ∙ substitute-replace 0 c cs (bodies (suc (length cs)) (φ i))
+
+-- the two targets, place by place
+abbrev pub firsts : List (ℕ × ℕ) → List ℕ
+firsts [] = []
+firsts (p ∷ ps) = p .0 ∷ firsts ps
+
+abbrev pub seconds : List (ℕ × ℕ) → List ℕ
+seconds [] = []
+seconds (p ∷ ps) = p .1 ∷ seconds ps
+
+abbrev pub Apart : List (ℕ × ℕ) → Type 0
+Apart [] = Unit {0}
+Apart (p ∷ ps) = ¬ (p .0 ≡ p .1) × ¬ In p ps × Apart ps
+
+-- two constants: the local whose pair they are, or one constant that stays
+abbrev pub atConstants : ℕ → List (ℕ × ℕ) → ℕ → ℕ → Option Term
+atConstants d [] m n = cond (eqb m n) (some (con m)) none
+atConstants d (p ∷ ps) m n = cond (eqb m (p .0) && eqb n (p .1)) (some (loc d)) (atConstants (suc d) ps m n)
+
+abbrev pub both : Option Term → Option Term → Option Term
+both none o = none
+both (some f) none = none
+both (some f) (some a) = some (app f a)
+
+abbrev pub below : Option Term → Option Term
+below none = none
+below (some b) = some (lam b)
+
+abbrev pub join : ℕ → List (ℕ × ℕ) → Term → Term → Option Term
+join d ps (app f a) (app g b) = both (join d ps f g) (join d ps a b)
+join d ps (app f a) (lam u) = none
+join d ps (app f a) (loc n) = none
+join d ps (app f a) (con n) = none
+join d ps (app f a) (var n) = none
+join d ps (lam t) (app g b) = none
+join d ps (lam t) (lam u) = below (join (suc d) ps t u)
+join d ps (lam t) (loc n) = none
+join d ps (lam t) (con n) = none
+join d ps (lam t) (var n) = none
+join d ps (loc m) (app g b) = none
+join d ps (loc m) (lam u) = none
+join d ps (loc m) (loc n) = cond (eqb m n) (some (cond (ltb m d) (loc m) (loc (m + length ps)))) none
+join d ps (loc m) (con n) = none
+join d ps (loc m) (var n) = none
+join d ps (con m) (app g b) = none
+join d ps (con m) (lam u) = none
+join d ps (con m) (loc n) = none
+join d ps (con m) (con n) = atConstants d ps m n
+join d ps (con m) (var n) = none
+join d ps (var m) (app g b) = none
+join d ps (var m) (lam u) = none
+join d ps (var m) (loc n) = none
+join d ps (var m) (con n) = none
+join d ps (var m) (var n) = cond (eqb m n) (some (var m)) none
+
+-- a constant of the body stays
+unlike : (m n : ℕ) (p : ℕ × ℕ) → (m ≡ p .0 → n ≡ p .1 → ⊥) → eqb m (p .0) && eqb n (p .1) ≡ false
+unlike m n p h = by-eqb (λ s. s && eqb n (p .1) ≡ false) m (p .0) (λ q. ne-eqb n (p .1) (h q)) (λ q. refl)
+
+constant-stays : (d : ℕ) (ps : List (ℕ × ℕ)) (m : ℕ) → Apart ps → atConstants d ps m m ≡ some (con m)
+constant-stays d [] m h = rw (eq-eqb m m refl)
+constant-stays d (p ∷ ps) m h = rw (unlike m m p (λ q r. h .0 (sym q ∙ r))) (constant-stays (suc d) ps m (h .2))
+
+-- a local that a constant replaced
+pub record Replaced (d k : ℕ) (ps : List (ℕ × ℕ)) : Type 0 where
+  pub pair : ℕ × ℕ
+  pub member : In pair ps
+  pub first : pick d (firsts ps) k ≡ con (pair .0)
+  pub second : pick d (seconds ps) k ≡ con (pair .1)
+  pub found : (e : ℕ) → atConstants e ps (pair .0) (pair .1) ≡ some (loc (e + k))
+
+replaced : (d k : ℕ) (ps : List (ℕ × ℕ)) → Apart ps → k < length ps → Replaced d k ps
+replaced d k [] h l = absurd (omega arith)
+replaced d zero (p ∷ ps) h l = record {
+  pair = p;
+  member = inl refl;
+  first = refl;
+  second = refl;
+  found = λ e. rw (eq-eqb (p .0) (p .0) refl, eq-eqb (p .1) (p .1) refl) (ap (λ x. some (loc x)) (omega arith));
+}
+replaced d (suc k) (p ∷ ps) h l =
+    let r = replaced d k ps (h .2) (omega arith) in
+    record {
+      pair = r .pair;
+      member = inr (r .member);
+      first = r .first;
+      second = r .second;
+      found = λ e.
+          rw (unlike (r .pair .0) (r .pair .1) p (λ x y. h .1 (subst (λ z. In z ps) (ap₂ (λ m n. (m, n)) x y) (r .member))))
+          (r .found (suc e) ∙ ap (λ x. some (loc x)) (omega arith));
+    }
+
+-- a local above those
+pick-above : (d k : ℕ) (cs : List ℕ) → length cs ≤ k → pick d cs k ≡ loc (d + (k - length cs))
+pick-above d k [] h = ap loc (omega arith)
+pick-above d zero (c ∷ cs) h = absurd (omega arith)
+pick-above d (suc k) (c ∷ cs) h = pick-above d k cs (omega arith) ∙ ap loc (omega arith)
+
+length-firsts : (ps : List (ℕ × ℕ)) → length (firsts ps) ≡ length ps
+length-firsts [] = refl
+length-firsts (p ∷ ps) = ap suc (length-firsts ps)
+
+length-seconds : (ps : List (ℕ × ℕ)) → length (seconds ps) ≡ length ps
+length-seconds [] = refl
+length-seconds (p ∷ ps) = ap suc (length-seconds ps)
+
+module _ (ps : List (ℕ × ℕ)) (h : Apart ps) where
+  join-local : (d n : ℕ) → join d ps (replace d (firsts ps) (loc n)) (replace d (seconds ps) (loc n)) ≡ some (loc n)
+  join-local d n = go (decLt n d) (decLt (n - d) (length ps))
+    where
+      go : Dec (n < d) → Dec (n - d < length ps) → join d ps (replace d (firsts ps) (loc n)) (replace d (seconds ps) (loc n)) ≡ some (loc n)
+      go (yes l) o = rw (lt-ltb n d l, eq-eqb n n refl, lt-ltb n d l)
+      go (no l) (yes m) =
+          let r = replaced d (n - d) ps h m in
+          rw (le-ltb n d (omega arith), r .first, r .second) (r .found d ∙ ap (λ x. some (loc x)) (omega arith))
+      go (no l) (no m) =
+          let x : pick d (firsts ps) (n - d) ≡ loc (n - length ps) = pick-above d (n - d) (firsts ps) (omega (arith, length-firsts ps)) ∙ ap loc (omega (arith, length-firsts ps)) in
+          let y : pick d (seconds ps) (n - d) ≡ loc (n - length ps) = pick-above d (n - d) (seconds ps) (omega (arith, length-seconds ps)) ∙ ap loc (omega (arith, length-seconds ps)) in
+          rw (le-ltb n d (omega arith), x, y, eq-eqb (n - length ps) (n - length ps) refl, le-ltb (n - length ps) d (omega arith)) (ap (λ z. some (loc z)) (omega arith))
+
+  join-replace : (d : ℕ) (b : Term) → join d ps (replace d (firsts ps) b) (replace d (seconds ps) b) ≡ some b
+  join-replace d (app f a) = rw (join-replace d f, join-replace d a)
+  join-replace d (lam b) = rw (join-replace (suc d) b)
+  join-replace d (loc n) = join-local d n
+  join-replace d (con n) = constant-stays d ps n h
+  join-replace d (var n) = rw (eq-eqb n n refl)
+
+  -- at most one body comes to both
+  pub join-unique : (d : ℕ) (b t u : Term) → replace d (firsts ps) b ≡ t → replace d (seconds ps) b ≡ u → join d ps t u ≡ some b
+  join-unique d b t u p q = ap₂ (join d ps) (sym p) (sym q) ∙ join-replace d b
+
+  -- the two goals of the variable
+  module _ (φ : ℕ → Term) (i : ℕ) (v : Value (φ i)) (t u : Term) (p : Sweeps (spine (var i) (firsts ps)) t φ) (q : Sweeps (spine (var i) (seconds ps)) u φ) where
+    pub join-value : join 0 ps t u ≡ some (bodies (length ps) (φ i))
+    join-value =
+        join-unique 0 (bodies (length ps) (φ i)) t u (sym (ap (λ n. replace 0 (firsts ps) (bodies n (φ i))) (length-firsts ps)) ∙ sym (sweep-spine φ i (firsts ps) (v .1)) ∙ p)
+        (sym (ap (λ n. replace 0 (seconds ps) (bodies n (φ i))) (length-seconds ps)) ∙ sym (sweep-spine φ i (seconds ps) (v .1)) ∙ q)
+
+    pub forced-value : (b : Term) → join 0 ps t u ≡ some b → φ i ≡ enclose (length ps) b
+    forced-value b e = sym (enclose-bodies (length ps) (φ i) (v .1)) ∙ ap (enclose (length ps)) (let r = sym join-value ∙ e in (cc))
+
+    pub no-value : join 0 ps t u ≡ none → ⊥
+    no-value e = subst IsSome (sym join-value ∙ e) tt
