@@ -142,11 +142,14 @@ contract-constant (loc n) c = ap (λ x. app x (con c)) (sym (substitute-shift 0 
 contract-constant (con n) c = refl
 contract-constant (var n) c = refl
 
-pub sweep-spine : (φ : ℕ → Term) (i : ℕ) (cs : List ℕ) → Normal (φ i) → sweep (fill φ (spine (var i) cs)) ≡ replace 0 cs (bodies (length cs) (φ i))
-sweep-spine φ i [] h = sweep-normal (φ i) h ∙ sym (replace-none 0 (φ i))
-sweep-spine φ i (c ∷ cs) h =
-    contract-constant (sweep (fill φ (spine (var i) cs))) c ∙ ap (λ x. substitute 0 (con c) (bodyTarget x)) (sweep-spine φ i cs h)
-    ∙ ap (substitute 0 (con c)) (bodyTarget-replace 0 cs (bodies (length cs) (φ i))) ∙ substitute-replace 0 c cs (bodies (suc (length cs)) (φ i))
+pub sweep-spine :
+    (φ : ℕ → Term) (i n : ℕ) (cs : List ℕ) → length cs ≡ n → Normal (φ i) → sweep (fill φ (spine (var i) cs)) ≡ replace 0 cs (bodies n (φ i))
+sweep-spine φ i zero [] e h = sweep-normal (φ i) h ∙ sym (replace-none 0 (φ i))
+sweep-spine φ i zero (c ∷ cs) e h = absurd (omega arith)
+sweep-spine φ i (suc n) [] e h = absurd (omega arith)
+sweep-spine φ i (suc n) (c ∷ cs) e h =
+    contract-constant (sweep (fill φ (spine (var i) cs))) c ∙ ap (λ x. substitute 0 (con c) (bodyTarget x)) (sweep-spine φ i n cs (omega arith) h)
+    ∙ ap (substitute 0 (con c)) (bodyTarget-replace 0 cs (bodies n (φ i))) ∙ substitute-replace 0 c cs (bodies (suc n) (φ i))
 
 -- the two targets, place by place
 abbrev pub firsts : List (ℕ × ℕ) → List ℕ
@@ -240,10 +243,10 @@ replaced d (suc k) (p ∷ ps) h l =
     }
 
 -- a local above those
-pick-above : (d k : ℕ) (cs : List ℕ) → length cs ≤ k → pick d cs k ≡ loc (d + (k - length cs))
-pick-above d k [] h = ap loc (omega arith)
-pick-above d zero (c ∷ cs) h = absurd (omega arith)
-pick-above d (suc k) (c ∷ cs) h = pick-above d k cs (omega arith) ∙ ap loc (omega arith)
+pick-above : (d m k : ℕ) (cs : List ℕ) → length cs ≡ m → m ≤ k → pick d cs k ≡ loc (d + (k - m))
+pick-above d m k [] e h = ap loc (omega arith)
+pick-above d m zero (c ∷ cs) e h = absurd (omega arith)
+pick-above d m (suc k) (c ∷ cs) e h = pick-above d (m - 1) k cs (omega arith) (omega arith) ∙ ap loc (omega arith)
 
 length-firsts : (ps : List (ℕ × ℕ)) → length (firsts ps) ≡ length ps
 length-firsts [] = refl
@@ -263,9 +266,9 @@ module _ (ps : List (ℕ × ℕ)) (h : Apart ps) where
           let r = replaced d (n - d) ps h m in
           rw (le-ltb n d (omega arith), r .first, r .second) (r .found d ∙ ap (λ x. some (loc x)) (omega arith))
       go (no l) (no m) =
-          let x : pick d (firsts ps) (n - d) ≡ loc (n - length ps) = pick-above d (n - d) (firsts ps) (omega (arith, length-firsts ps)) ∙ ap loc (omega (arith, length-firsts ps)) in
-          let y : pick d (seconds ps) (n - d) ≡ loc (n - length ps) = pick-above d (n - d) (seconds ps) (omega (arith, length-seconds ps)) ∙ ap loc (omega (arith, length-seconds ps)) in
-          rw (le-ltb n d (omega arith), x, y, eq-eqb (n - length ps) (n - length ps) refl, le-ltb (n - length ps) d (omega arith)) (ap (λ z. some (loc z)) (omega arith))
+          let k = d + (n - d - length ps) in
+          rw (le-ltb n d (omega arith), pick-above d (length ps) (n - d) (firsts ps) (length-firsts ps) (omega arith), pick-above d (length ps) (n - d) (seconds ps) (length-seconds ps) (omega arith), eq-eqb k k refl, le-ltb k d (omega arith))
+          (ap (λ z. some (loc z)) (omega arith))
 
   join-replace : (d : ℕ) (b : Term) → join d ps (replace d (firsts ps) b) (replace d (seconds ps) b) ≡ some b
   join-replace d (app f a) = rw (join-replace d f, join-replace d a)
@@ -278,15 +281,18 @@ module _ (ps : List (ℕ × ℕ)) (h : Apart ps) where
   pub join-unique : (d : ℕ) (b t u : Term) → replace d (firsts ps) b ≡ t → replace d (seconds ps) b ≡ u → join d ps t u ≡ some b
   join-unique d b t u p q = ap₂ (join d ps) (sym p) (sym q) ∙ join-replace d b
 
-  -- the two goals of the variable
-  module _ (φ : ℕ → Term) (i : ℕ) (v : Value (φ i)) (t u : Term) (p : Sweeps (spine (var i) (firsts ps)) t φ) (q : Sweeps (spine (var i) (seconds ps)) u φ) where
-    pub join-value : join 0 ps t u ≡ some (bodies (length ps) (φ i))
-    join-value =
-        join-unique 0 (bodies (length ps) (φ i)) t u (sym (ap (λ n. replace 0 (firsts ps) (bodies n (φ i))) (length-firsts ps)) ∙ sym (sweep-spine φ i (firsts ps) (v .1)) ∙ p)
-        (sym (ap (λ n. replace 0 (seconds ps) (bodies n (φ i))) (length-seconds ps)) ∙ sym (sweep-spine φ i (seconds ps) (v .1)) ∙ q)
+  -- the two goals of a variable
+  module _ (φ : ℕ → Term) (i : ℕ) (v : Value (φ i)) (t u : Term) where
+    abbrev pub Both : Type 0
+    Both = Sweeps (spine (var i) (firsts ps)) t φ × Sweeps (spine (var i) (seconds ps)) u φ
 
-    pub forced-value : (b : Term) → join 0 ps t u ≡ some b → φ i ≡ enclose (length ps) b
-    forced-value b e = sym (enclose-bodies (length ps) (φ i) (v .1)) ∙ ap (enclose (length ps)) (let r = sym join-value ∙ e in (cc))
+    pub join-value : Both → join 0 ps t u ≡ some (bodies (length ps) (φ i))
+    join-value s =
+        join-unique 0 (bodies (length ps) (φ i)) t u (sym (sweep-spine φ i (length ps) (firsts ps) (length-firsts ps) (v .1)) ∙ s .0)
+        (sym (sweep-spine φ i (length ps) (seconds ps) (length-seconds ps) (v .1)) ∙ s .1)
 
-    pub no-value : join 0 ps t u ≡ none → ⊥
-    no-value e = subst IsSome (sym join-value ∙ e) tt
+    pub forced-value : (b : Term) → join 0 ps t u ≡ some b → Both → φ i ≡ enclose (length ps) b
+    forced-value b e s = sym (enclose-bodies (length ps) (φ i) (v .1)) ∙ ap (enclose (length ps)) (let r = sym (join-value s) ∙ e in (cc))
+
+    pub no-value : join 0 ps t u ≡ none → ¬ Both
+    no-value e s = subst IsSome (sym (join-value s) ∙ e) tt
