@@ -16,7 +16,7 @@ use native.Mathlib.Omega.{arith}
 use native.Mathlib.Decide.{decLt, ℕ-discrete}
 use lib.Dec.{T, ltb, eqb}
 use lib.ListN.{length}
-use borrow.Author.Tests.{lt-ltb, le-ltb, eq-eqb, ne-eqb}
+use borrow.Author.Tests.{lt-ltb, le-ltb, eq-eqb, ne-eqb, eqb-true, ltb-false}
 use Rattle.terms.specs.Term.{Term, app, lam, loc, con, var, Normal, Value, shift, substitute, isAbstraction}
 use Rattle.terms.specs.Sweep.{sweep, contract, fill}
 use Rattle.terms.specs.Listing.{In}
@@ -255,6 +255,102 @@ length-firsts (p ∷ ps) = ap suc (length-firsts ps)
 length-seconds : (ps : List (ℕ × ℕ)) → length (seconds ps) ≡ length ps
 length-seconds [] = refl
 length-seconds (p ∷ ps) = ap suc (length-seconds ps)
+
+-- what is found comes to both targets
+abbrev pub Comes : ℕ → List (ℕ × ℕ) → Term → Term → Term → Type 0
+Comes d ps t u b = (replace d (firsts ps) b ≡ t) × (replace d (seconds ps) b ≡ u)
+
+none-some : (b : Term) → none ≡ some b → ⊥
+none-some b e = subst IsSome (sym e) tt
+
+both-some : (o r : Option Term) (c : Term) → both o r ≡ some c → (f a : Term) × (o ≡ some f) × (r ≡ some a) × (c ≡ app f a)
+both-some none r c e = absurd (none-some c e)
+both-some (some f) none c e = absurd (none-some c e)
+both-some (some f) (some a) c e = (f, a, refl, refl, cc)
+
+below-some : (o : Option Term) (c : Term) → below o ≡ some c → (b : Term) × (o ≡ some b) × (c ≡ lam b)
+below-some none c e = absurd (none-some c e)
+below-some (some b) c e = (b, refl, cc)
+
+comes-later :
+    (d : ℕ) (p : ℕ × ℕ) (ps : List (ℕ × ℕ)) (m n : ℕ) (b : Term) → Comes (suc d) ps (con m) (con n) b → Comes d (p ∷ ps) (con m) (con n) b
+comes-later d p ps m n b x = (
+  sym (substitute-replace d (p .0) (firsts ps) b) ∙ ap (substitute d (con (p .0))) (x .0),
+  sym (substitute-replace d (p .1) (seconds ps) b) ∙ ap (substitute d (con (p .1))) (x .1),
+)
+
+constants-sound : (d : ℕ) (ps : List (ℕ × ℕ)) (m n : ℕ) (b : Term) → atConstants d ps m n ≡ some b → Comes d ps (con m) (con n) b
+constants-sound d [] m n b e =
+    by-eqb (λ s. cond s (some (con m)) none ≡ some b → Comes d [] (con m) (con n) b) m n (λ q r. let z : b ≡ con m = cc in rw z (refl, ap con q))
+    (λ q r. absurd (none-some b r)) e
+constants-sound d (p ∷ ps) m n b e =
+    go (λ r. comes-later d p ps m n b (constants-sound (suc d) ps m n b r)) (eqb m (p .0)) refl (eqb n (p .1)) refl
+  where
+    go :
+        (atConstants (suc d) ps m n ≡ some b → Comes d (p ∷ ps) (con m) (con n) b) → (x : Bool) → eqb m (p .0) ≡ x → (y : Bool) → eqb n (p .1) ≡ y
+        → Comes d (p ∷ ps) (con m) (con n) b
+    go later true q true r =
+        let z : some (loc d) ≡ some b = rw (q, r) at e in
+        let w : b ≡ loc d = cc in
+        let k : d - d ≡ 0 = omega arith in
+        rw (w, le-ltb d d (omega arith), k) (ap con (sym (eqb-true m (p .0) q)), ap con (sym (eqb-true n (p .1) r)))
+    go later true q false r = later (rw (q, r) at e)
+    go later false q y r = later (rw q at e)
+
+module _ (ps : List (ℕ × ℕ)) where
+  locals-sound : (d m n : ℕ) (c : Term) → join d ps (loc m) (loc n) ≡ some c → Comes d ps (loc m) (loc n) c
+  locals-sound d m n c e = go (eqb m n) refl (ltb m d) refl
+    where
+      go : (x : Bool) → eqb m n ≡ x → (y : Bool) → ltb m d ≡ y → Comes d ps (loc m) (loc n) c
+      go true q true r =
+          let z : some (loc m) ≡ some c = rw (q, r) at e in
+          let w : c ≡ loc m = cc in
+          rw (w, r) (refl, ap loc (eqb-true m n q))
+      go true q false r =
+          let z : some (loc (m + length ps)) ≡ some c = rw (q, r) at e in
+          let w : c ≡ loc (m + length ps) = cc in
+          let l = ltb-false m d r in
+          let k = m + length ps - d in
+          rw (w, le-ltb (m + length ps) d (omega arith)) (
+            pick-above d (length ps) k (firsts ps) (length-firsts ps) (omega arith) ∙ ap loc (omega arith),
+            pick-above d (length ps) k (seconds ps) (length-seconds ps) (omega arith) ∙ ap loc (omega (arith, eqb-true m n q)),
+          )
+      go false q y r = absurd (none-some c (rw q at e))
+
+  pub join-sound : (d : ℕ) (t u c : Term) → join d ps t u ≡ some c → Comes d ps t u c
+  join-sound d (app f a) (app g b) c e =
+      let r = both-some (join d ps f g) (join d ps a b) c e in
+      let x = join-sound d f g (r .0) (r .2) in
+      let y = join-sound d a b (r .1) (r .3) in
+      rw (r .4) (ap₂ app (x .0) (y .0), ap₂ app (x .1) (y .1))
+  join-sound d (app f a) (lam u) c e = absurd (none-some c e)
+  join-sound d (app f a) (loc n) c e = absurd (none-some c e)
+  join-sound d (app f a) (con n) c e = absurd (none-some c e)
+  join-sound d (app f a) (var n) c e = absurd (none-some c e)
+  join-sound d (lam t) (app g b) c e = absurd (none-some c e)
+  join-sound d (lam t) (lam u) c e =
+      let r = below-some (join (suc d) ps t u) c e in
+      let x = join-sound (suc d) t u (r .0) (r .1) in
+      rw (r .2) (ap lam (x .0), ap lam (x .1))
+  join-sound d (lam t) (loc n) c e = absurd (none-some c e)
+  join-sound d (lam t) (con n) c e = absurd (none-some c e)
+  join-sound d (lam t) (var n) c e = absurd (none-some c e)
+  join-sound d (loc m) (app g b) c e = absurd (none-some c e)
+  join-sound d (loc m) (lam u) c e = absurd (none-some c e)
+  join-sound d (loc m) (loc n) c e = locals-sound d m n c e
+  join-sound d (loc m) (con n) c e = absurd (none-some c e)
+  join-sound d (loc m) (var n) c e = absurd (none-some c e)
+  join-sound d (con m) (app g b) c e = absurd (none-some c e)
+  join-sound d (con m) (lam u) c e = absurd (none-some c e)
+  join-sound d (con m) (loc n) c e = absurd (none-some c e)
+  join-sound d (con m) (con n) c e = constants-sound d ps m n c e
+  join-sound d (con m) (var n) c e = absurd (none-some c e)
+  join-sound d (var m) (app g b) c e = absurd (none-some c e)
+  join-sound d (var m) (lam u) c e = absurd (none-some c e)
+  join-sound d (var m) (loc n) c e = absurd (none-some c e)
+  join-sound d (var m) (con n) c e = absurd (none-some c e)
+  join-sound d (var m) (var n) c e =
+      by-eqb (λ s. cond s (some (var m)) none ≡ some c → Comes d ps (var m) (var n) c) m n (λ q r. let z : c ≡ var m = cc in rw z (refl, ap var q)) (λ q r. absurd (none-some c r)) e
 
 module _ (ps : List (ℕ × ℕ)) (h : Apart ps) where
   join-local : (d n : ℕ) → join d ps (replace d (firsts ps) (loc n)) (replace d (seconds ps) (loc n)) ≡ some (loc n)

@@ -62,7 +62,7 @@ abbrev pub constant : Term → Term
 constant t = lam (shift 1 0 t)
 
 -- a body without a redex, whose abstraction is no proper eta-redex, has a normal abstraction
-lam-normal : (b : Term) → T (not (isProper b)) → Normal b → Normal (lam b)
+pub lam-normal : (b : Term) → T (not (isProper b)) → Normal b → Normal (lam b)
 lam-normal (app m a) o h = (rw (false-of (isAbstraction m) (h .0), and-true (isEta (app m a))) at o, h)
 lam-normal (lam b) o h = (tt, h)
 lam-normal (loc n) o h = (tt, h)
