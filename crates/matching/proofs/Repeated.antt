@@ -10,21 +10,24 @@ use mathlib.Core.Path.{_≡_, refl, sym, ap, ap₂, _∙_, subst}
 use mathlib.Core.Bool.{Bool, true, false, cond, _&&_}
 use mathlib.Core.Option.{Option, none, some, IsSome}
 use mathlib.Core.List.{List, [], _∷_}
-use mathlib.Core.Logic.{inl, inr}
+use mathlib.Core.Logic.{inl, inr, _↔_}
 use Prim.Native.Nat.{ℕ, zero, suc, _+_, _-_, _≤_, _<_}
 use native.Mathlib.Omega.{arith}
 use native.Mathlib.Decide.{decLt, ℕ-discrete}
 use lib.Dec.{T, ltb, eqb}
 use lib.ListN.{length}
 use borrow.Author.Tests.{lt-ltb, le-ltb, eq-eqb, ne-eqb, eqb-true, ltb-false}
-use Rattle.terms.specs.Term.{Term, app, lam, loc, con, var, Normal, Value, shift, substitute, isAbstraction}
+use Rattle.terms.specs.Term.{Term, app, lam, loc, con, var, Normal, Closed, Ground, Value, shift, unshift, substitute, isAbstraction}
 use Rattle.terms.specs.Sweep.{sweep, contract, fill}
 use Rattle.terms.specs.Listing.{In}
 use Rattle.terms.proofs.Tests.{by-ltb, by-eqb}
-use Rattle.terms.proofs.Substitute.{substitute-shift, substitute-high}
+use Rattle.terms.proofs.Shift.{shift-unshift, normal-shift}
+use Rattle.terms.proofs.Substitute.{substitute-shift, substitute-high, normal-substitute}
 use Rattle.terms.proofs.Sweep.{sweep-normal}
-use Rattle.matching.proofs.Step.{bodyTarget, contract-to, bodyTarget-normal}
+use Rattle.terms.proofs.Contracted.{Abstracted, Abstracted.out, Abstracted.kept, abstracted}
+use Rattle.matching.proofs.Step.{bodyTarget, contract-to, lam-normal, bodyTarget-normal}
 use Rattle.matching.proofs.Lister.{Sweeps}
+use Rattle.matching.proofs.Targets.{shift-closed, ground-shift}
 
 abbrev pub spine : Term → List ℕ → Term
 spine f [] = f
@@ -47,6 +50,40 @@ pub enclose-bodies : (n : ℕ) (v : Term) → Normal v → enclose n (bodies n v
 enclose-bodies zero v h = refl
 enclose-bodies (suc n) v h =
     ap (enclose n) (contract-to (bodies (suc n) v) (bodies n v) (bodies-normal n v h) .1 refl) ∙ enclose-bodies n v h
+
+-- what one abstraction over a body of a value comes to
+normal-contract : (b : Term) → Normal b → Normal (contract (lam b))
+normal-contract b h = go (abstracted b)
+  where
+    go : Abstracted b → Normal (contract (lam b))
+    go (out m p u l w) = let g : Normal (app m (loc 0)) = rw p at h in rw w (rw (normal-shift 1 0 (unshift 1 0 m)) at (rw (← shift-unshift 0 m u) at (g .1)))
+    go (kept o w) = rw w (lam-normal b (rw o tt) h)
+
+closed-contract : (n : ℕ) (b : Term) → Closed (suc n) b → Closed n (contract (lam b))
+closed-contract n b h = go (abstracted b)
+  where
+    go : Abstracted b → Closed n (contract (lam b))
+    go (out m p u l w) =
+        let g : Closed (suc n) (app m (loc 0)) = rw p at h in
+        rw w (shift-closed 1 0 n (suc n) (unshift 1 0 m) (omega arith) (omega arith) (rw (← shift-unshift 0 m u) at (g .0)))
+    go (kept o w) = rw w h
+
+ground-contract : (b : Term) → Ground b → Ground (contract (lam b))
+ground-contract b h = go (abstracted b)
+  where
+    go : Abstracted b → Ground (contract (lam b))
+    go (out m p u l w) = let g : Ground (app m (loc 0)) = rw p at h in rw w (rw (ground-shift 1 0 (unshift 1 0 m)) at (rw (← shift-unshift 0 m u) at (g .0)))
+    go (kept o w) = rw w h
+
+pub value-enclose : (n : ℕ) (b : Term) → Closed n b → Normal b → Ground b → Value (enclose n b)
+value-enclose zero b c h g = (c, h, g)
+value-enclose (suc n) b c h g = value-enclose n (contract (lam b)) (closed-contract n b c) (normal-contract b h) (ground-contract b g)
+
+pub bodies-enclose : (n : ℕ) (b : Term) → Normal b → bodies n (enclose n b) ≡ b
+bodies-enclose zero b h = refl
+bodies-enclose (suc n) b h =
+    let c = contract (lam b) in
+    ap bodyTarget (bodies-enclose n c (normal-contract b h)) ∙ sym (contract-to b c (normal-contract b h) .0 refl)
 
 -- constants for the innermost locals
 abbrev pub pick : ℕ → List ℕ → ℕ → Term
@@ -88,6 +125,32 @@ substitute-replace d c cs (loc n) = go (decLt n d) (ℕ-discrete n d)
         rw (le-ltb n (suc d) (omega arith), le-ltb n d (omega arith), z) (pick-substitute d c cs (n - suc d))
 substitute-replace d c cs (con n) = refl
 substitute-replace d c cs (var n) = refl
+
+-- a term is closed, normal and without variables where it is so with the constants put in
+normal-replace : (d : ℕ) (cs : List ℕ) (t : Term) → Normal (replace d cs t) → Normal t
+normal-replace d [] t h = rw (replace-none d t) at h
+normal-replace d (c ∷ cs) t h = normal-replace (suc d) cs t (normal-substitute d (con c) (replace (suc d) cs t) (rw (substitute-replace d c cs t) h))
+
+pick-closed : (m d k : ℕ) (cs : List ℕ) → d ≤ m → Closed m (pick d cs k) → d + k < m + length cs
+pick-closed m d k [] l h = omega (arith, h)
+pick-closed m d zero (c ∷ cs) l h = omega arith
+pick-closed m d (suc k) (c ∷ cs) l h = omega (arith, pick-closed m d k cs l h)
+
+closed-replace : (m n d : ℕ) (cs : List ℕ) (t : Term) → n ≡ m + length cs → d ≤ m → Closed m (replace d cs t) → Closed n t
+closed-replace m n d cs (app f a) e l h = (closed-replace m n d cs f e l (h .0), closed-replace m n d cs a e l (h .1))
+closed-replace m n d cs (lam b) e l h = closed-replace (suc m) (suc n) (suc d) cs b (omega arith) (omega arith) h
+closed-replace m n d cs (loc k) e l h =
+    by-ltb (λ s. Closed m (cond s (loc k) (pick d cs (k - d))) → k < n) k d (λ q _. omega arith)
+    (λ q x. omega (arith, pick-closed m d (k - d) cs l x)) h
+closed-replace m n d cs (con k) e l h = tt
+closed-replace m n d cs (var k) e l h = tt
+
+ground-replace : (d : ℕ) (cs : List ℕ) (t : Term) → Ground (replace d cs t) → Ground t
+ground-replace d cs (app f a) h = (ground-replace d cs f (h .0), ground-replace d cs a (h .1))
+ground-replace d cs (lam b) h = ground-replace (suc d) cs b h
+ground-replace d cs (loc n) h = tt
+ground-replace d cs (con n) h = h
+ground-replace d cs (var n) h = h
 
 pick-shift : (c d : ℕ) (cs : List ℕ) (k : ℕ) → c ≤ d → pick (suc d) cs k ≡ shift 1 c (pick d cs k)
 pick-shift c d [] k h = rw (le-ltb (d + k) c (omega arith)) (ap loc (omega arith))
@@ -214,12 +277,12 @@ constant-stays d [] m h = rw (eq-eqb m m refl)
 constant-stays d (p ∷ ps) m h = rw (unlike m m p (λ q r. h .0 (sym q ∙ r))) (constant-stays (suc d) ps m (h .2))
 
 -- a local that a constant replaced
-pub record Replaced (d k : ℕ) (ps : List (ℕ × ℕ)) : Type 0 where
-  pub pair : ℕ × ℕ
-  pub member : In pair ps
-  pub first : pick d (firsts ps) k ≡ con (pair .0)
-  pub second : pick d (seconds ps) k ≡ con (pair .1)
-  pub found : (e : ℕ) → atConstants e ps (pair .0) (pair .1) ≡ some (loc (e + k))
+record Replaced (d k : ℕ) (ps : List (ℕ × ℕ)) : Type 0 where
+  pair : ℕ × ℕ
+  member : In pair ps
+  first : pick d (firsts ps) k ≡ con (pair .0)
+  second : pick d (seconds ps) k ≡ con (pair .1)
+  found : (e : ℕ) → atConstants e ps (pair .0) (pair .1) ≡ some (loc (e + k))
 
 replaced : (d k : ℕ) (ps : List (ℕ × ℕ)) → Apart ps → k < length ps → Replaced d k ps
 replaced d k [] h l = absurd (omega arith)
@@ -352,6 +415,31 @@ module _ (ps : List (ℕ × ℕ)) where
   join-sound d (var m) (var n) c e =
       by-eqb (λ s. cond s (some (var m)) none ≡ some c → Comes d ps (var m) (var n) c) m n (λ q r. let z : c ≡ var m = cc in rw z (refl, ap var q)) (λ q r. absurd (none-some c r)) e
 
+-- it is the body of a value
+module _ (ps : List (ℕ × ℕ)) (t u b : Term) (e : join 0 ps t u ≡ some b) where
+  join-normal : Normal t → Normal b
+  join-normal h = normal-replace 0 (firsts ps) b (rw (join-sound ps 0 t u b e .0) h)
+
+  pub value-join : Value t → Value (enclose (length ps) b)
+  value-join v =
+      let p = join-sound ps 0 t u b e .0 in
+      value-enclose (length ps) b (closed-replace 0 (length ps) 0 (firsts ps) b (omega (arith, length-firsts ps)) (omega arith) (rw p (v .0))) (join-normal (v .1))
+      (ground-replace 0 (firsts ps) b (rw p (v .2)))
+
+  pub join-meets :
+      (φ : ℕ → Term) (i : ℕ) → Value (φ i) → Normal t → φ i ≡ enclose (length ps) b
+      → Sweeps (spine (var i) (firsts ps)) t φ × Sweeps (spine (var i) (seconds ps)) u φ
+  join-meets φ i v h q = (
+    sweep-spine φ i (length ps) (firsts ps) (length-firsts ps) (v .1) ∙ ap (replace 0 (firsts ps)) r ∙ s .0,
+    sweep-spine φ i (length ps) (seconds ps) (length-seconds ps) (v .1) ∙ ap (replace 0 (seconds ps)) r ∙ s .1,
+  )
+    where
+      r : bodies (length ps) (φ i) ≡ b
+      r = ap (bodies (length ps)) q ∙ bodies-enclose (length ps) b (join-normal h)
+
+      s : Comes 0 ps t u b
+      s = join-sound ps 0 t u b e
+
 module _ (ps : List (ℕ × ℕ)) (h : Apart ps) where
   join-local : (d n : ℕ) → join d ps (replace d (firsts ps) (loc n)) (replace d (seconds ps) (loc n)) ≡ some (loc n)
   join-local d n = go (decLt n d) (decLt (n - d) (length ps))
@@ -392,3 +480,7 @@ module _ (ps : List (ℕ × ℕ)) (h : Apart ps) where
 
     pub no-value : join 0 ps t u ≡ none → ¬ Both
     no-value e s = subst IsSome (sym (join-value s) ∙ e) tt
+
+    -- the two goals together are that the variable has this value
+    pub forced-exactly : (b : Term) → join 0 ps t u ≡ some b → Normal t → Both ↔ (φ i ≡ enclose (length ps) b)
+    forced-exactly b e n = (forced-value b e, join-meets ps t u b e φ i v n)
