@@ -6,6 +6,8 @@
 --   replace d cs t   t with the constants cs for its locals from d on, the first for local d; the locals above move down
 --   Apart ps         the two constants of each pair differ, and so do the pairs
 --   join d ps t u    the term that comes to t with the first constants of the pairs ps put in, and to u with the second
+--   Comes d ps t u b   b comes to both so
+--   Both ps i t u φ    variable i, applied to the first constants and to the second, sweeps to t and to u
 use mathlib.Core.Path.{_≡_, refl, sym, ap, ap₂, _∙_, subst}
 use mathlib.Core.Bool.{Bool, true, false, cond, _&&_}
 use mathlib.Core.Option.{Option, none, some, IsSome}
@@ -26,6 +28,7 @@ use Rattle.terms.proofs.Substitute.{substitute-shift, substitute-high, normal-s
 use Rattle.terms.proofs.Sweep.{sweep-normal}
 use Rattle.terms.proofs.Contracted.{Abstracted, Abstracted.out, Abstracted.kept, abstracted}
 use Rattle.matching.proofs.Step.{bodyTarget, contract-to, lam-normal, bodyTarget-normal}
+use Rattle.matching.proofs.Lists.{Predicate}
 use Rattle.matching.proofs.Lister.{Sweeps}
 use Rattle.matching.proofs.Targets.{shift-closed, ground-shift}
 
@@ -415,7 +418,21 @@ module _ (ps : List (ℕ × ℕ)) where
   join-sound d (var m) (var n) c e =
       by-eqb (λ s. cond s (some (var m)) none ≡ some c → Comes d ps (var m) (var n) c) m n (λ q r. let z : c ≡ var m = cc in rw z (refl, ap var q)) (λ q r. absurd (none-some c r)) e
 
--- it is the body of a value
+-- the two goals of a variable, and the body below the abstractions of its value
+abbrev pub Both : List (ℕ × ℕ) → ℕ → Term → Term → Predicate
+Both ps i t u φ = Sweeps (spine (var i) (firsts ps)) t φ × Sweeps (spine (var i) (seconds ps)) u φ
+
+pub both-comes :
+    (ps : List (ℕ × ℕ)) (i : ℕ) (t u : Term) (φ : ℕ → Term) → Normal (φ i) → Both ps i t u φ ↔ Comes 0 ps t u (bodies (length ps) (φ i))
+both-comes ps i t u φ h = (λ s. (sym x ∙ s .0, sym y ∙ s .1), λ s. (x ∙ s .0, y ∙ s .1))
+  where
+    x : sweep (fill φ (spine (var i) (firsts ps))) ≡ replace 0 (firsts ps) (bodies (length ps) (φ i))
+    x = sweep-spine φ i (length ps) (firsts ps) (length-firsts ps) h
+
+    y : sweep (fill φ (spine (var i) (seconds ps))) ≡ replace 0 (seconds ps) (bodies (length ps) (φ i))
+    y = sweep-spine φ i (length ps) (seconds ps) (length-seconds ps) h
+
+-- what is found is the body of a value, with which both goals are met
 module _ (ps : List (ℕ × ℕ)) (t u b : Term) (e : join 0 ps t u ≡ some b) where
   join-normal : Normal t → Normal b
   join-normal h = normal-replace 0 (firsts ps) b (rw (join-sound ps 0 t u b e .0) h)
@@ -423,23 +440,15 @@ module _ (ps : List (ℕ × ℕ)) (t u b : Term) (e : join 0 ps t u ≡ some b) 
   pub value-join : Value t → Value (enclose (length ps) b)
   value-join v =
       let p = join-sound ps 0 t u b e .0 in
-      value-enclose (length ps) b (closed-replace 0 (length ps) 0 (firsts ps) b (omega (arith, length-firsts ps)) (omega arith) (rw p (v .0))) (join-normal (v .1))
-      (ground-replace 0 (firsts ps) b (rw p (v .2)))
+      let c = closed-replace 0 (length ps) 0 (firsts ps) b (omega (arith, length-firsts ps)) (omega arith) (rw p (v .0)) in
+      value-enclose (length ps) b c (join-normal (v .1)) (ground-replace 0 (firsts ps) b (rw p (v .2)))
 
-  pub join-meets :
-      (φ : ℕ → Term) (i : ℕ) → Value (φ i) → Normal t → φ i ≡ enclose (length ps) b
-      → Sweeps (spine (var i) (firsts ps)) t φ × Sweeps (spine (var i) (seconds ps)) u φ
-  join-meets φ i v h q = (
-    sweep-spine φ i (length ps) (firsts ps) (length-firsts ps) (v .1) ∙ ap (replace 0 (firsts ps)) r ∙ s .0,
-    sweep-spine φ i (length ps) (seconds ps) (length-seconds ps) (v .1) ∙ ap (replace 0 (seconds ps)) r ∙ s .1,
-  )
-    where
-      r : bodies (length ps) (φ i) ≡ b
-      r = ap (bodies (length ps)) q ∙ bodies-enclose (length ps) b (join-normal h)
+  pub both-meets : (i : ℕ) (φ : ℕ → Term) → Normal (φ i) → Normal t → φ i ≡ enclose (length ps) b → Both ps i t u φ
+  both-meets i φ v h q =
+      let r : b ≡ bodies (length ps) (φ i) = sym (ap (bodies (length ps)) q ∙ bodies-enclose (length ps) b (join-normal h)) in
+      both-comes ps i t u φ v .1 (subst (Comes 0 ps t u) r (join-sound ps 0 t u b e))
 
-      s : Comes 0 ps t u b
-      s = join-sound ps 0 t u b e
-
+-- it is the only one
 module _ (ps : List (ℕ × ℕ)) (h : Apart ps) where
   join-local : (d n : ℕ) → join d ps (replace d (firsts ps) (loc n)) (replace d (seconds ps) (loc n)) ≡ some (loc n)
   join-local d n = go (decLt n d) (decLt (n - d) (length ps))
@@ -451,8 +460,9 @@ module _ (ps : List (ℕ × ℕ)) (h : Apart ps) where
           rw (le-ltb n d (omega arith), r .first, r .second) (r .found d ∙ ap (λ x. some (loc x)) (omega arith))
       go (no l) (no m) =
           let k = d + (n - d - length ps) in
-          rw (le-ltb n d (omega arith), pick-above d (length ps) (n - d) (firsts ps) (length-firsts ps) (omega arith), pick-above d (length ps) (n - d) (seconds ps) (length-seconds ps) (omega arith), eq-eqb k k refl, le-ltb k d (omega arith))
-          (ap (λ z. some (loc z)) (omega arith))
+          let x = pick-above d (length ps) (n - d) (firsts ps) (length-firsts ps) (omega arith) in
+          let y = pick-above d (length ps) (n - d) (seconds ps) (length-seconds ps) (omega arith) in
+          rw (le-ltb n d (omega arith), x, y, eq-eqb k k refl, le-ltb k d (omega arith)) (ap (λ z. some (loc z)) (omega arith))
 
   join-replace : (d : ℕ) (b : Term) → join d ps (replace d (firsts ps) b) (replace d (seconds ps) b) ≡ some b
   join-replace d (app f a) = rw (join-replace d f, join-replace d a)
@@ -461,26 +471,19 @@ module _ (ps : List (ℕ × ℕ)) (h : Apart ps) where
   join-replace d (con n) = constant-stays d ps n h
   join-replace d (var n) = rw (eq-eqb n n refl)
 
-  -- at most one body comes to both
-  pub join-unique : (d : ℕ) (b t u : Term) → replace d (firsts ps) b ≡ t → replace d (seconds ps) b ≡ u → join d ps t u ≡ some b
-  join-unique d b t u p q = ap₂ (join d ps) (sym p) (sym q) ∙ join-replace d b
+  pub join-unique : (d : ℕ) (b t u : Term) → Comes d ps t u b → join d ps t u ≡ some b
+  join-unique d b t u s = ap₂ (join d ps) (sym (s .0)) (sym (s .1)) ∙ join-replace d b
 
-  -- the two goals of a variable
-  module _ (φ : ℕ → Term) (i : ℕ) (v : Value (φ i)) (t u : Term) where
-    abbrev pub Both : Type 0
-    Both = Sweeps (spine (var i) (firsts ps)) t φ × Sweeps (spine (var i) (seconds ps)) u φ
+  module _ (i : ℕ) (t u : Term) (φ : ℕ → Term) (v : Normal (φ i)) where
+    pub join-value : Both ps i t u φ → join 0 ps t u ≡ some (bodies (length ps) (φ i))
+    join-value s = join-unique 0 (bodies (length ps) (φ i)) t u (both-comes ps i t u φ v .0 s)
 
-    pub join-value : Both → join 0 ps t u ≡ some (bodies (length ps) (φ i))
-    join-value s =
-        join-unique 0 (bodies (length ps) (φ i)) t u (sym (sweep-spine φ i (length ps) (firsts ps) (length-firsts ps) (v .1)) ∙ s .0)
-        (sym (sweep-spine φ i (length ps) (seconds ps) (length-seconds ps) (v .1)) ∙ s .1)
+    pub forced-value : (b : Term) → join 0 ps t u ≡ some b → Both ps i t u φ → φ i ≡ enclose (length ps) b
+    forced-value b e s = sym (enclose-bodies (length ps) (φ i) v) ∙ ap (enclose (length ps)) (let r = sym (join-value s) ∙ e in (cc))
 
-    pub forced-value : (b : Term) → join 0 ps t u ≡ some b → Both → φ i ≡ enclose (length ps) b
-    forced-value b e s = sym (enclose-bodies (length ps) (φ i) (v .1)) ∙ ap (enclose (length ps)) (let r = sym (join-value s) ∙ e in (cc))
-
-    pub no-value : join 0 ps t u ≡ none → ¬ Both
+    pub no-value : join 0 ps t u ≡ none → ¬ Both ps i t u φ
     no-value e s = subst IsSome (sym (join-value s) ∙ e) tt
 
     -- the two goals together are that the variable has this value
-    pub forced-exactly : (b : Term) → join 0 ps t u ≡ some b → Normal t → Both ↔ (φ i ≡ enclose (length ps) b)
-    forced-exactly b e n = (forced-value b e, join-meets ps t u b e φ i v n)
+    pub forced-exactly : (b : Term) → join 0 ps t u ≡ some b → Normal t → Both ps i t u φ ↔ (φ i ≡ enclose (length ps) b)
+    forced-exactly b e h = (forced-value b e, both-meets ps t u b e i φ v h)
