@@ -19,7 +19,7 @@ use native.Mathlib.Decide.{decLt, ℕ-discrete}
 use lib.Dec.{T, ltb, eqb}
 use lib.ListN.{length}
 use borrow.Author.Tests.{lt-ltb, le-ltb, eq-eqb, ne-eqb, eqb-true, ltb-false}
-use Rattle.terms.specs.Term.{Term, app, lam, loc, con, var, Normal, Closed, Ground, Value, shift, unshift, substitute, isAbstraction}
+use Rattle.terms.specs.Term.{Term, app, lam, loc, con, var, Normal, Closed, Ground, Value, size, shift, unshift, substitute, isAbstraction}
 use Rattle.terms.specs.Sweep.{sweep, contract, fill}
 use Rattle.terms.specs.Listing.{In}
 use Rattle.terms.proofs.Tests.{by-ltb, by-eqb}
@@ -154,6 +154,18 @@ ground-replace d cs (lam b) h = ground-replace (suc d) cs b h
 ground-replace d cs (loc n) h = tt
 ground-replace d cs (con n) h = h
 ground-replace d cs (var n) h = h
+
+pick-size : (d : ℕ) (cs : List ℕ) (k : ℕ) → size (pick d cs k) ≡ 1
+pick-size d [] k = refl
+pick-size d (c ∷ cs) zero = refl
+pick-size d (c ∷ cs) (suc k) = pick-size d cs k
+
+size-replace : (d : ℕ) (cs : List ℕ) (t : Term) → size (replace d cs t) ≡ size t
+size-replace d cs (app f a) = ap suc (ap₂ _+_ (size-replace d cs f) (size-replace d cs a))
+size-replace d cs (lam b) = ap suc (size-replace (suc d) cs b)
+size-replace d cs (loc n) = by-ltb (λ s. size (cond s (loc n) (pick d cs (n - d))) ≡ 1) n d (λ l. refl) (λ l. pick-size d cs (n - d))
+size-replace d cs (con n) = refl
+size-replace d cs (var n) = refl
 
 pick-shift : (c d : ℕ) (cs : List ℕ) (k : ℕ) → c ≤ d → pick (suc d) cs k ≡ shift 1 c (pick d cs k)
 pick-shift c d [] k h = rw (le-ltb (d + k) c (omega arith)) (ap loc (omega arith))
@@ -417,6 +429,12 @@ module _ (ps : List (ℕ × ℕ)) where
   join-sound d (var m) (con n) c e = absurd (none-some c e)
   join-sound d (var m) (var n) c e =
       by-eqb (λ s. cond s (some (var m)) none ≡ some c → Comes d ps (var m) (var n) c) m n (λ q r. let z : c ≡ var m = cc in rw z (refl, ap var q)) (λ q r. absurd (none-some c r)) e
+
+  -- record for record
+  pub size-join : (d : ℕ) (t u b : Term) → join d ps t u ≡ some b → (size b ≡ size t) × (size b ≡ size u)
+  size-join d t u b e =
+      let s = join-sound d t u b e in
+      (sym (size-replace d (firsts ps) b) ∙ ap size (s .0), sym (size-replace d (seconds ps) b) ∙ ap size (s .1))
 
 -- the two goals of a variable, and the body below the abstractions of its value
 abbrev pub Both : List (ℕ × ℕ) → ℕ → Term → Term → Predicate
