@@ -1,13 +1,14 @@
 -- One variable applied to constants in two places: at most one value comes to both targets, and it is read off them place by place.
 -- By induction on the body below the abstractions of the value, the constants standing where its locals stood. Assumes nothing.
---   spine f cs       f applied to the constants cs, of which the first is the last argument
---   bodies n v       what stands below n abstractions of v, each made where v has none
---   enclose n b      what n abstractions over b come to
---   replace d cs t   t with the constants cs for its locals from d on, the first for local d; the locals above move down
---   Apart ps         the two constants of each pair differ, and so do the pairs
---   join d ps t u    the term that comes to t with the first constants of the pairs ps put in, and to u with the second
---   Comes d ps t u b   b comes to both so
---   Both ps i t u φ    variable i, applied to the first constants and to the second, sweeps to t and to u
+--   spine f cs             f applied to the constants cs, of which the first is the last argument
+--   bodies n v             what stands below n abstractions of v, each made where v has none
+--   enclose n b            what n abstractions over b come to
+--   replace d cs t         t with the constants cs for its locals from d on, the first for local d; the locals above move down
+--   Apart ps               the two constants of each pair differ, and so do the pairs
+--   join d ps t u          the term that comes to t with the first constants of the pairs ps put in, and to u with the second
+--   Comes d ps t u b       b comes to both so
+--   Both ps i t u φ        variable i, applied to the first constants and to the second, sweeps to t and to u
+--   repeated ps i t u gs   these two goals before the goals gs
 use mathlib.Core.Path.{_≡_, refl, sym, ap, ap₂, _∙_, subst}
 use mathlib.Core.Bool.{Bool, true, false, cond, _&&_}
 use mathlib.Core.Option.{Option, none, some, IsSome}
@@ -30,6 +31,7 @@ use Rattle.terms.proofs.Contracted.{Abstracted, Abstracted.out, Abstracted.kept
 use Rattle.matching.proofs.Step.{bodyTarget, contract-to, lam-normal, bodyTarget-normal}
 use Rattle.matching.proofs.Lists.{Predicate}
 use Rattle.matching.proofs.Lister.{Sweeps}
+use Rattle.matching.proofs.Goals.{Goal, Goal.match, All}
 use Rattle.matching.proofs.Targets.{shift-closed, ground-shift}
 
 abbrev pub spine : Term → List ℕ → Term
@@ -78,9 +80,17 @@ ground-contract b h = go (abstracted b)
     go (out m p u l w) = let g : Ground (app m (loc 0)) = rw p at h in rw w (rw (ground-shift 1 0 (unshift 1 0 m)) at (rw (← shift-unshift 0 m u) at (g .0)))
     go (kept o w) = rw w h
 
-pub value-enclose : (n : ℕ) (b : Term) → Closed n b → Normal b → Ground b → Value (enclose n b)
-value-enclose zero b c h g = (c, h, g)
-value-enclose (suc n) b c h g = value-enclose n (contract (lam b)) (closed-contract n b c) (normal-contract b h) (ground-contract b g)
+normal-enclose : (n : ℕ) (b : Term) → Normal b → Normal (enclose n b)
+normal-enclose zero b h = h
+normal-enclose (suc n) b h = normal-enclose n (contract (lam b)) (normal-contract b h)
+
+closed-enclose : (m n k : ℕ) (b : Term) → k ≡ m + n → Closed k b → Closed m (enclose n b)
+closed-enclose m zero k b e h = subst (λ d. Closed d b) (omega arith) h
+closed-enclose m (suc n) k b e h = closed-enclose m n (m + n) (contract (lam b)) refl (closed-contract (m + n) b (subst (λ d. Closed d b) (omega arith) h))
+
+ground-enclose : (n : ℕ) (b : Term) → Ground b → Ground (enclose n b)
+ground-enclose zero b h = h
+ground-enclose (suc n) b h = ground-enclose n (contract (lam b)) (ground-contract b h)
 
 pub bodies-enclose : (n : ℕ) (b : Term) → Normal b → bodies n (enclose n b) ≡ b
 bodies-enclose zero b h = refl
@@ -440,6 +450,9 @@ module _ (ps : List (ℕ × ℕ)) where
 abbrev pub Both : List (ℕ × ℕ) → ℕ → Term → Term → Predicate
 Both ps i t u φ = Sweeps (spine (var i) (firsts ps)) t φ × Sweeps (spine (var i) (seconds ps)) u φ
 
+abbrev pub repeated : List (ℕ × ℕ) → ℕ → Term → Term → List Goal → List Goal
+repeated ps i t u gs = match (spine (var i) (firsts ps)) t ∷ match (spine (var i) (seconds ps)) u ∷ gs
+
 pub both-comes :
     (ps : List (ℕ × ℕ)) (i : ℕ) (t u : Term) (φ : ℕ → Term) → Normal (φ i) → Both ps i t u φ ↔ Comes 0 ps t u (bodies (length ps) (φ i))
 both-comes ps i t u φ h = (λ s. (sym x ∙ s .0, sym y ∙ s .1), λ s. (x ∙ s .0, y ∙ s .1))
@@ -455,11 +468,19 @@ module _ (ps : List (ℕ × ℕ)) (t u b : Term) (e : join 0 ps t u ≡ some b) 
   join-normal : Normal t → Normal b
   join-normal h = normal-replace 0 (firsts ps) b (rw (join-sound ps 0 t u b e .0) h)
 
-  pub value-join : Value t → Value (enclose (length ps) b)
-  value-join v =
-      let p = join-sound ps 0 t u b e .0 in
-      let c = closed-replace 0 (length ps) 0 (firsts ps) b (omega (arith, length-firsts ps)) (omega arith) (rw p (v .0)) in
-      value-enclose (length ps) b c (join-normal (v .1)) (ground-replace 0 (firsts ps) b (rw p (v .2)))
+  pub enclose-normal : Normal t → Normal (enclose (length ps) b)
+  enclose-normal h = normal-enclose (length ps) b (join-normal h)
+
+  pub enclose-closed : (m : ℕ) → Closed m t → Closed m (enclose (length ps) b)
+  enclose-closed m h =
+      let c = closed-replace m (m + length ps) 0 (firsts ps) b (omega (arith, length-firsts ps)) (omega arith) (rw (join-sound ps 0 t u b e .0) h) in
+      closed-enclose m (length ps) (m + length ps) b refl c
+
+  pub enclose-ground : Ground t → Ground (enclose (length ps) b)
+  enclose-ground h = ground-enclose (length ps) b (ground-replace 0 (firsts ps) b (rw (join-sound ps 0 t u b e .0) h))
+
+  pub enclose-value : Value t → Value (enclose (length ps) b)
+  enclose-value v = (enclose-closed 0 (v .0), enclose-normal (v .1), enclose-ground (v .2))
 
   pub both-meets : (i : ℕ) (φ : ℕ → Term) → Normal (φ i) → Normal t → φ i ≡ enclose (length ps) b → Both ps i t u φ
   both-meets i φ v h q =
@@ -505,3 +526,15 @@ module _ (ps : List (ℕ × ℕ)) (h : Apart ps) where
     -- the two goals together are that the variable has this value
     pub forced-exactly : (b : Term) → join 0 ps t u ≡ some b → Normal t → Both ps i t u φ ↔ (φ i ≡ enclose (length ps) b)
     forced-exactly b e h = (forced-value b e, both-meets ps t u b e i φ v h)
+
+    -- among the goals of a search, one goal for the two
+    pub goals-forced :
+        (b : Term) (gs : List Goal) → join 0 ps t u ≡ some b → Normal t
+        → All (repeated ps i t u gs) φ ↔ All (match (var i) (enclose (length ps) b) ∷ gs) φ
+    goals-forced b gs e h =
+        let r = forced-exactly b e h in
+        let w = sweep-normal (φ i) v in
+        (λ s. (w ∙ r .0 (s .0, s .1 .0), s .1 .1), λ s. let x = r .1 (sym w ∙ s .0) in (x .0, (x .1, s .1)))
+
+    pub goals-none : (gs : List Goal) → join 0 ps t u ≡ none → ¬ All (repeated ps i t u gs) φ
+    goals-none gs e s = no-value e (s .0, s .1 .0)
