@@ -20,3 +20,4 @@ pub mod Alternatives
 pub mod Tables
 pub mod Cases
 pub mod Contraction
+pub mod Repeated

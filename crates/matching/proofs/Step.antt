@@ -41,7 +41,7 @@ contract-to-other s t l = (λ e. go e (abstracted s), λ e. rw (e, unused-shift 
     go e (out m p u _ w) = rw (← e, w, shift-unshift 0 m u) p
     go e (kept o w) = absurd (subst T (ap isAbstraction (sym w ∙ e) ∙ l) tt)
 
-contract-to : (s t : Term) → Normal t → (contract (lam s) ≡ t) ↔ (s ≡ bodyTarget t)
+pub contract-to : (s t : Term) → Normal t → (contract (lam s) ≡ t) ↔ (s ≡ bodyTarget t)
 contract-to s (app f a) h = contract-to-other s (app f a) refl
 contract-to s (lam b) h = contract-to-lam s b h
 contract-to s (loc n) h = contract-to-other s (loc n) refl
@@ -62,7 +62,7 @@ abbrev pub constant : Term → Term
 constant t = lam (shift 1 0 t)
 
 -- a body without a redex, whose abstraction is no proper eta-redex, has a normal abstraction
-lam-normal : (b : Term) → T (not (isProper b)) → Normal b → Normal (lam b)
+pub lam-normal : (b : Term) → T (not (isProper b)) → Normal b → Normal (lam b)
 lam-normal (app m a) o h = (rw (false-of (isAbstraction m) (h .0), and-true (isEta (app m a))) at o, h)
 lam-normal (lam b) o h = (tt, h)
 lam-normal (loc n) o h = (tt, h)
