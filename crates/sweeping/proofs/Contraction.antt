@@ -96,7 +96,7 @@ module _ (f a : List ℕ) (z : getD f 0 0 ≡ 1) (next n : ℕ) (u : Used f 4 0 
   pub redex-too-long : (out : List ℕ) → sweptBytes < length f - 4 + n * (length a - 4) → Applies f a out TooLong out
   redex-too-long out h x y e g = too-long (contract (app x y)) out (omega (arith, redex-size x y e g))
 
-  pub redex-substitution : (out : List ℕ) → Applied f a → length out ≡ sweptBytes → length f - 4 + n * (length a - 4) ≤ sweptBytes → Substitution f 4 0 a out 0
+  pub redex-substitution : (out : List ℕ) → Applied f a → length f - 4 + n * (length a - 4) ≤ length out → length f - 4 + n * (length a - 4) ≤ sweptBytes → Substitution f 4 0 a out 0
   redex-substitution out x h m =
       let e = x .head-bytes in
       let g = x .argument-bytes in
