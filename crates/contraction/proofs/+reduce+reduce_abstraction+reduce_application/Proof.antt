@@ -73,7 +73,6 @@ reduce-application-below t =
     (falls 2 reduce-application-kinds.ps _<_ μ-reduce-application t)
     reduce-application.Pre
 
--- src/lib.rt:109:16
 reduce-shared-slice-read-kind : (t : ℕ) → reduce-lts.Need-shared-slice-read-kind (
   reduce-application-below t,
   reduce-application.Post,
@@ -84,7 +83,6 @@ reduce-shared-slice-read-kind : (t : ℕ) → reduce-lts.Need-shared-slice-read-
 ) (reduce-at t) reduce.Post
 reduce-shared-slice-read-kind t c = search needs
 
--- src/lib.rt:111:9
 reduce-reduce-application-requires : (t : ℕ) → reduce-lts.Need-reduce-application-requires (
   reduce-application-below t,
   reduce-application.Post,
@@ -95,7 +93,6 @@ reduce-reduce-application-requires : (t : ℕ) → reduce-lts.Need-reduce-applic
 ) (reduce-at t) reduce.Post
 reduce-reduce-application-requires t c κs = (omega arith, (c .before .before .before .before .before .pre .1, c .before .if1 .taken))
 
--- src/lib.rt:111:9
 reduce-returns : (t : ℕ) → reduce-lts.Need-returns (
   reduce-application-below t,
   reduce-application.Post,
@@ -106,7 +103,6 @@ reduce-returns : (t : ℕ) → reduce-lts.Need-returns (
 ) (reduce-at t) reduce.Post
 reduce-returns t c = c .reduce-application .ensures
 
--- src/lib.rt:114:9
 reduce-reduce-abstraction-requires : (t : ℕ) → reduce-lts.Need-reduce-abstraction-requires (
   reduce-application-below t,
   reduce-application.Post,
@@ -117,7 +113,6 @@ reduce-reduce-abstraction-requires : (t : ℕ) → reduce-lts.Need-reduce-abstra
 ) (reduce-at t) reduce.Post
 reduce-reduce-abstraction-requires t c κs = (omega arith, (c .before .before .before .before .before .before .before .pre .1, c .before .if2 .taken))
 
--- src/lib.rt:114:9
 reduce-returns-2 : (t : ℕ) → reduce-lts.Need-returns-2 (
   reduce-application-below t,
   reduce-application.Post,
@@ -128,7 +123,6 @@ reduce-returns-2 : (t : ℕ) → reduce-lts.Need-returns-2 (
 ) (reduce-at t) reduce.Post
 reduce-returns-2 t c = c .reduce-abstraction .ensures
 
--- src/lib.rt:116:5
 reduce-copy-into-requires : (t : ℕ) → reduce-lts.Need-copy-into-requires (
   reduce-application-below t,
   reduce-application.Post,
@@ -139,7 +133,6 @@ reduce-copy-into-requires : (t : ℕ) → reduce-lts.Need-copy-into-requires (
 ) (reduce-at t) reduce.Post
 reduce-copy-into-requires t c κs = omega (arith, leaf-length _ (c .before .before .before .if1 .left) (c .before .if2 .left) (c .before .before .before .before .before .before .before .pre .1))
 
--- src/lib.rt:105:1
 reduce-returns-3 : (t : ℕ) → reduce-lts.Need-returns-3 (
   reduce-application-below t,
   reduce-application.Post,
@@ -150,7 +143,6 @@ reduce-returns-3 : (t : ℕ) → reduce-lts.Need-returns-3 (
 ) (reduce-at t) reduce.Post
 reduce-returns-3 t c = reduces-leaf _ (c .before .before .before .before .if1 .left) (c .before .before .if2 .left) _ _ (c .copy-into .ensures)
 
--- src/lib.rt:91:26
 reduce-abstraction-body-of-requires : (t : ℕ) → reduce-abstraction-lts.Need-body-of-requires (
   body-of-reads.Asked,
   body-of-reads.Learnt,
@@ -163,7 +155,6 @@ reduce-abstraction-body-of-requires : (t : ℕ) → reduce-abstraction-lts.Need-
 ) (reduce-abstraction-at t) reduce-abstraction.Post
 reduce-abstraction-body-of-requires t c κs = (reducible-tree _ (c .before .pre .1 .0), c .before .pre .1 .1)
 
--- src/lib.rt:91:9
 reduce-abstraction-reduce-requires : (t : ℕ) → reduce-abstraction-lts.Need-reduce-requires (
   body-of-reads.Asked,
   body-of-reads.Learnt,
@@ -176,7 +167,6 @@ reduce-abstraction-reduce-requires : (t : ℕ) → reduce-abstraction-lts.Need-r
 ) (reduce-abstraction-at t) reduce-abstraction.Post
 reduce-abstraction-reduce-requires t c κs = (omega (arith, c .before .body-of .ensures .0 .shorter), reducible-body _ _ (c .before .before .before .pre .1 .0) (c .before .before .before .pre .1 .1) (c .before .body-of .ensures .1))
 
--- src/lib.rt:92:25
 reduce-abstraction-enum-known-reduced : (t : ℕ) → reduce-abstraction-lts.Need-enum-known-reduced (
   body-of-reads.Asked,
   body-of-reads.Learnt,
@@ -189,7 +179,6 @@ reduce-abstraction-enum-known-reduced : (t : ℕ) → reduce-abstraction-lts.Nee
 ) (reduce-abstraction-at t) reduce-abstraction.Post
 reduce-abstraction-enum-known-reduced t c = search needs
 
--- src/lib.rt:93:9
 reduce-abstraction-enum-told : (t : ℕ) → reduce-abstraction-lts.Need-enum-told (
   body-of-reads.Asked,
   body-of-reads.Learnt,
@@ -202,7 +191,6 @@ reduce-abstraction-enum-told : (t : ℕ) → reduce-abstraction-lts.Need-enum-to
 ) (reduce-abstraction-at t) reduce-abstraction.Post
 reduce-abstraction-enum-told t c = search needs
 
--- src/lib.rt:93:9
 reduce-abstraction-returns : (t : ℕ) → reduce-abstraction-lts.Need-returns (
   body-of-reads.Asked,
   body-of-reads.Learnt,
@@ -215,7 +203,6 @@ reduce-abstraction-returns : (t : ℕ) → reduce-abstraction-lts.Need-returns (
 ) (reduce-abstraction-at t) reduce-abstraction.Post
 reduce-abstraction-returns t c = λ x e. too-long _ _ _
 
--- src/lib.rt:95:13
 reduce-abstraction-mul-n : (t : ℕ) → reduce-abstraction-lts.Need-mul-n (
   body-of-reads.Asked,
   body-of-reads.Learnt,
@@ -228,7 +215,6 @@ reduce-abstraction-mul-n : (t : ℕ) → reduce-abstraction-lts.Need-mul-n (
 ) (reduce-abstraction-at t) reduce-abstraction.Post
 reduce-abstraction-mul-n t c = omega (arith, result-few _ _ _ _ _ (c .before .before .before .reduce .ensures) (c .before .reduced .given .1) (omega arith) (reducible-body _ _ (c .before .before .before .before .before .before .before .pre .1 .0) (c .before .before .before .before .before .before .before .pre .1 .1) (c .before .before .before .before .before .body-of .ensures .1)))
 
--- src/lib.rt:97:9
 reduce-abstraction-returns-2 : (t : ℕ) → reduce-abstraction-lts.Need-returns-2 (
   body-of-reads.Asked,
   body-of-reads.Learnt,
@@ -241,7 +227,6 @@ reduce-abstraction-returns-2 : (t : ℕ) → reduce-abstraction-lts.Need-returns
 ) (reduce-abstraction-at t) reduce-abstraction.Post
 reduce-abstraction-returns-2 t c = λ x e. too-long _ _ _
 
--- src/lib.rt:99:5
 reduce-abstraction-put-record-requires : (t : ℕ) → reduce-abstraction-lts.Need-put-record-requires (
   body-of-reads.Asked,
   body-of-reads.Learnt,
@@ -254,7 +239,6 @@ reduce-abstraction-put-record-requires : (t : ℕ) → reduce-abstraction-lts.Ne
 ) (reduce-abstraction-at t) reduce-abstraction.Post
 reduce-abstraction-put-record-requires t c κs = search needs
 
--- src/lib.rt:100:25
 reduce-abstraction-sub-copy-into : (t : ℕ) → reduce-abstraction-lts.Need-sub-copy-into (
   body-of-reads.Asked,
   body-of-reads.Learnt,
@@ -267,7 +251,6 @@ reduce-abstraction-sub-copy-into : (t : ℕ) → reduce-abstraction-lts.Need-sub
 ) (reduce-abstraction-at t) reduce-abstraction.Post
 reduce-abstraction-sub-copy-into t c = search needs
 
--- src/lib.rt:100:25
 reduce-abstraction-part-copy-into-start :
     (t : ℕ) → reduce-abstraction-lts.Need-part-copy-into-start (
       body-of-reads.Asked,
@@ -281,7 +264,6 @@ reduce-abstraction-part-copy-into-start :
     ) (reduce-abstraction-at t) reduce-abstraction.Post
 reduce-abstraction-part-copy-into-start t c = search needs
 
--- src/lib.rt:100:25
 reduce-abstraction-part-copy-into-end : (t : ℕ) → reduce-abstraction-lts.Need-part-copy-into-end (
   body-of-reads.Asked,
   body-of-reads.Learnt,
@@ -294,7 +276,6 @@ reduce-abstraction-part-copy-into-end : (t : ℕ) → reduce-abstraction-lts.Nee
 ) (reduce-abstraction-at t) reduce-abstraction.Post
 reduce-abstraction-part-copy-into-end t c = result-within _ _ _ _ _ (c .before .before .before .before .before .before .before .reduce .ensures) (c .before .before .before .before .before .reduced .given .1) (omega arith) (reducible-body _ _ (c .before .before .before .before .before .before .before .before .before .before .before .pre .1 .0) (c .before .before .before .before .before .before .before .before .before .before .before .pre .1 .1) (c .before .before .before .before .before .before .before .before .before .body-of .ensures .1))
 
--- src/lib.rt:100:5
 reduce-abstraction-copy-into-requires : (t : ℕ) → reduce-abstraction-lts.Need-copy-into-requires (
   body-of-reads.Asked,
   body-of-reads.Learnt,
@@ -307,7 +288,6 @@ reduce-abstraction-copy-into-requires : (t : ℕ) → reduce-abstraction-lts.Nee
 ) (reduce-abstraction-at t) reduce-abstraction.Post
 reduce-abstraction-copy-into-requires t c κs = omega (arith, c .before .before .before .before .before .if1 .left, result-few _ _ _ _ _ (c .before .before .before .before .before .before .before .before .before .reduce .ensures) (c .before .before .before .before .before .before .before .reduced .given .1) (omega arith) (reducible-body _ _ (c .before .before .before .before .before .before .before .before .before .before .before .before .before .pre .1 .0) (c .before .before .before .before .before .before .before .before .before .before .before .before .before .pre .1 .1) (c .before .before .before .before .before .before .before .before .before .before .before .body-of .ensures .1)), result-fills _ _ _ _ _ (c .before .before .before .before .before .before .before .before .before .reduce .ensures) (c .before .before .before .before .before .before .before .reduced .given .1) (omega arith) (reducible-body _ _ (c .before .before .before .before .before .before .before .before .before .before .before .before .before .pre .1 .0) (c .before .before .before .before .before .before .before .before .before .before .before .before .before .pre .1 .1) (c .before .before .before .before .before .before .before .before .before .before .before .body-of .ensures .1)))
 
--- src/lib.rt:101:21
 reduce-abstraction-add-t21 : (t : ℕ) → reduce-abstraction-lts.Need-add-t21 (
   body-of-reads.Asked,
   body-of-reads.Learnt,
@@ -320,7 +300,6 @@ reduce-abstraction-add-t21 : (t : ℕ) → reduce-abstraction-lts.Need-add-t21 (
 ) (reduce-abstraction-at t) reduce-abstraction.Post
 reduce-abstraction-add-t21 t c = omega (arith, result-few _ _ _ _ _ (c .before .before .before .before .before .before .before .before .before .before .reduce .ensures) (c .before .before .before .before .before .before .before .before .reduced .given .1) (omega arith) (reducible-body _ _ (c .before .before .before .before .before .before .before .before .before .before .before .before .before .before .pre .1 .0) (c .before .before .before .before .before .before .before .before .before .before .before .before .before .before .pre .1 .1) (c .before .before .before .before .before .before .before .before .before .before .before .before .body-of .ensures .1)))
 
--- src/lib.rt:86:1
 reduce-abstraction-returns-3 : (t : ℕ) → reduce-abstraction-lts.Need-returns-3 (
   body-of-reads.Asked,
   body-of-reads.Learnt,
@@ -333,7 +312,6 @@ reduce-abstraction-returns-3 : (t : ℕ) → reduce-abstraction-lts.Need-returns
 ) (reduce-abstraction-at t) reduce-abstraction.Post
 reduce-abstraction-returns-3 t c = reduces-abstraction _ (c .before .before .before .before .before .before .before .before .before .before .before .before .before .before .pre .1 .1) _ (c .before .before .before .before .before .before .before .before .before .before .before .before .body-of .ensures .1) _ _ _ (c .before .before .before .before .before .before .before .before .before .before .reduce .ensures) _ (c .before .before .before .before .before .before .before .before .reduced .given .1) (omega arith) (c .before .before .before .before .before .before .if1 .left) _ _ _ (c .before .before .before .before .put-record .ensures) (c .copy-into .ensures)
 
--- src/lib.rt:71:24
 reduce-application-head-of-requires : (t : ℕ) → reduce-application-lts.Need-head-of-requires (
   head-of-reads.Asked,
   head-of-reads.Learnt,
@@ -346,7 +324,6 @@ reduce-application-head-of-requires : (t : ℕ) → reduce-application-lts.Need-
 ) (reduce-application-at t) reduce-application.Post
 reduce-application-head-of-requires t c κs = (reducible-tree _ (c .before .pre .1 .0), c .before .pre .1 .1)
 
--- src/lib.rt:71:9
 reduce-application-reduce-requires : (t : ℕ) → reduce-application-lts.Need-reduce-requires (
   head-of-reads.Asked,
   head-of-reads.Learnt,
@@ -359,7 +336,6 @@ reduce-application-reduce-requires : (t : ℕ) → reduce-application-lts.Need-r
 ) (reduce-application-at t) reduce-application.Post
 reduce-application-reduce-requires t c κs = (omega (arith, c .before .head-of .ensures .0 .shorter), reducible-head _ _ (c .before .before .before .pre .1 .0) (c .before .before .before .pre .1 .1) (c .before .head-of .ensures .1))
 
--- src/lib.rt:72:25
 reduce-application-enum-known-first : (t : ℕ) → reduce-application-lts.Need-enum-known-first (
   head-of-reads.Asked,
   head-of-reads.Learnt,
@@ -372,7 +348,6 @@ reduce-application-enum-known-first : (t : ℕ) → reduce-application-lts.Need-
 ) (reduce-application-at t) reduce-application.Post
 reduce-application-enum-known-first t c = search needs
 
--- src/lib.rt:73:9
 reduce-application-enum-told : (t : ℕ) → reduce-application-lts.Need-enum-told (
   head-of-reads.Asked,
   head-of-reads.Learnt,
@@ -385,7 +360,6 @@ reduce-application-enum-told : (t : ℕ) → reduce-application-lts.Need-enum-to
 ) (reduce-application-at t) reduce-application.Post
 reduce-application-enum-told t c = search needs
 
--- src/lib.rt:73:9
 reduce-application-returns : (t : ℕ) → reduce-application-lts.Need-returns (
   head-of-reads.Asked,
   head-of-reads.Learnt,
@@ -398,7 +372,6 @@ reduce-application-returns : (t : ℕ) → reduce-application-lts.Need-returns (
 ) (reduce-application-at t) reduce-application.Post
 reduce-application-returns t c = λ x e. too-long _ _ _
 
--- src/lib.rt:76:25
 reduce-application-argument-of-requires :
     (t : ℕ) → reduce-application-lts.Need-argument-of-requires (
       head-of-reads.Asked,
@@ -412,7 +385,6 @@ reduce-application-argument-of-requires :
     ) (reduce-application-at t) reduce-application.Post
 reduce-application-argument-of-requires t c κs = (reducible-tree _ (c .before .before .before .before .before .before .before .pre .1 .0), c .before .before .before .before .before .before .before .pre .1 .1)
 
--- src/lib.rt:76:9
 reduce-application-reduce-requires-2 : (t : ℕ) → reduce-application-lts.Need-reduce-requires-2 (
   head-of-reads.Asked,
   head-of-reads.Learnt,
@@ -425,7 +397,6 @@ reduce-application-reduce-requires-2 : (t : ℕ) → reduce-application-lts.Need
 ) (reduce-application-at t) reduce-application.Post
 reduce-application-reduce-requires-2 t c κs = (omega (arith, c .before .argument-of .ensures .0 .shorter), reducible-argument _ _ (c .before .before .before .before .before .before .before .before .before .pre .1 .0) (c .before .before .before .before .before .before .before .before .before .pre .1 .1) (c .before .argument-of .ensures .1))
 
--- src/lib.rt:77:25
 reduce-application-enum-known-second : (t : ℕ) → reduce-application-lts.Need-enum-known-second (
   head-of-reads.Asked,
   head-of-reads.Learnt,
@@ -438,7 +409,6 @@ reduce-application-enum-known-second : (t : ℕ) → reduce-application-lts.Need
 ) (reduce-application-at t) reduce-application.Post
 reduce-application-enum-known-second t c = search needs
 
--- src/lib.rt:78:9
 reduce-application-enum-told-2 : (t : ℕ) → reduce-application-lts.Need-enum-told-2 (
   head-of-reads.Asked,
   head-of-reads.Learnt,
@@ -451,7 +421,6 @@ reduce-application-enum-told-2 : (t : ℕ) → reduce-application-lts.Need-enum-
 ) (reduce-application-at t) reduce-application.Post
 reduce-application-enum-told-2 t c = search needs
 
--- src/lib.rt:78:9
 reduce-application-returns-2 : (t : ℕ) → reduce-application-lts.Need-returns-2 (
   head-of-reads.Asked,
   head-of-reads.Learnt,
@@ -464,7 +433,6 @@ reduce-application-returns-2 : (t : ℕ) → reduce-application-lts.Need-returns
 ) (reduce-application-at t) reduce-application.Post
 reduce-application-returns-2 t c = λ x e. too-long _ _ _
 
--- src/lib.rt:80:13
 reduce-application-mul-n : (t : ℕ) → reduce-application-lts.Need-mul-n (
   head-of-reads.Asked,
   head-of-reads.Learnt,
@@ -477,7 +445,6 @@ reduce-application-mul-n : (t : ℕ) → reduce-application-lts.Need-mul-n (
 ) (reduce-application-at t) reduce-application.Post
 reduce-application-mul-n t c = omega (arith, result-few _ _ _ _ _ (c .before .before .before .before .before .before .before .before .before .reduce .ensures) (c .before .before .before .before .before .before .before .first .given .1) (omega arith) (reducible-head _ _ (c .before .before .before .before .before .before .before .before .before .before .before .before .before .pre .1 .0) (c .before .before .before .before .before .before .before .before .before .before .before .before .before .pre .1 .1) (c .before .before .before .before .before .before .before .before .before .before .before .head-of .ensures .1)))
 
--- src/lib.rt:81:13
 reduce-application-mul-m : (t : ℕ) → reduce-application-lts.Need-mul-m (
   head-of-reads.Asked,
   head-of-reads.Learnt,
@@ -490,7 +457,6 @@ reduce-application-mul-m : (t : ℕ) → reduce-application-lts.Need-mul-m (
 ) (reduce-application-at t) reduce-application.Post
 reduce-application-mul-m t c = omega (arith, result-few _ _ _ _ _ (c .before .before .before .reduce2 .ensures) (c .before .second .given .1) (omega arith) (reducible-argument _ _ (c .before .before .before .before .before .before .before .before .before .before .before .before .before .pre .1 .0) (c .before .before .before .before .before .before .before .before .before .before .before .before .before .pre .1 .1) (c .before .before .before .before .before .argument-of .ensures .1)))
 
--- src/lib.rt:82:11
 reduce-application-sub-apply : (t : ℕ) → reduce-application-lts.Need-sub-apply (
   head-of-reads.Asked,
   head-of-reads.Learnt,
@@ -503,7 +469,6 @@ reduce-application-sub-apply : (t : ℕ) → reduce-application-lts.Need-sub-app
 ) (reduce-application-at t) reduce-application.Post
 reduce-application-sub-apply t c = search needs
 
--- src/lib.rt:82:11
 reduce-application-part-apply-start : (t : ℕ) → reduce-application-lts.Need-part-apply-start (
   head-of-reads.Asked,
   head-of-reads.Learnt,
@@ -516,7 +481,6 @@ reduce-application-part-apply-start : (t : ℕ) → reduce-application-lts.Need-
 ) (reduce-application-at t) reduce-application.Post
 reduce-application-part-apply-start t c = search needs
 
--- src/lib.rt:82:11
 reduce-application-part-apply-end : (t : ℕ) → reduce-application-lts.Need-part-apply-end (
   head-of-reads.Asked,
   head-of-reads.Learnt,
@@ -529,7 +493,6 @@ reduce-application-part-apply-end : (t : ℕ) → reduce-application-lts.Need-pa
 ) (reduce-application-at t) reduce-application.Post
 reduce-application-part-apply-end t c = result-within _ _ _ _ _ (c .before .before .before .before .before .before .before .before .before .before .reduce .ensures) (c .before .before .before .before .before .before .before .before .first .given .1) (omega arith) (reducible-head _ _ (c .before .before .before .before .before .before .before .before .before .before .before .before .before .before .pre .1 .0) (c .before .before .before .before .before .before .before .before .before .before .before .before .before .before .pre .1 .1) (c .before .before .before .before .before .before .before .before .before .before .before .before .head-of .ensures .1))
 
--- src/lib.rt:82:24
 reduce-application-sub-apply-2 : (t : ℕ) → reduce-application-lts.Need-sub-apply-2 (
   head-of-reads.Asked,
   head-of-reads.Learnt,
@@ -542,7 +505,6 @@ reduce-application-sub-apply-2 : (t : ℕ) → reduce-application-lts.Need-sub-a
 ) (reduce-application-at t) reduce-application.Post
 reduce-application-sub-apply-2 t c = search needs
 
--- src/lib.rt:82:24
 reduce-application-part-apply-start-2 : (t : ℕ) → reduce-application-lts.Need-part-apply-start-2 (
   head-of-reads.Asked,
   head-of-reads.Learnt,
@@ -555,7 +517,6 @@ reduce-application-part-apply-start-2 : (t : ℕ) → reduce-application-lts.Nee
 ) (reduce-application-at t) reduce-application.Post
 reduce-application-part-apply-start-2 t c = search needs
 
--- src/lib.rt:82:24
 reduce-application-part-apply-end-2 : (t : ℕ) → reduce-application-lts.Need-part-apply-end-2 (
   head-of-reads.Asked,
   head-of-reads.Learnt,
@@ -568,7 +529,6 @@ reduce-application-part-apply-end-2 : (t : ℕ) → reduce-application-lts.Need-
 ) (reduce-application-at t) reduce-application.Post
 reduce-application-part-apply-end-2 t c = result-within _ _ _ _ _ (c .before .before .before .before .before .before .reduce2 .ensures) (c .before .before .before .before .second .given .1) (omega arith) (reducible-argument _ _ (c .before .before .before .before .before .before .before .before .before .before .before .before .before .before .before .before .pre .1 .0) (c .before .before .before .before .before .before .before .before .before .before .before .before .before .before .before .before .pre .1 .1) (c .before .before .before .before .before .before .before .before .argument-of .ensures .1))
 
--- src/lib.rt:82:5
 reduce-application-apply-requires : (t : ℕ) → reduce-application-lts.Need-apply-requires (
   head-of-reads.Asked,
   head-of-reads.Learnt,
@@ -581,7 +541,6 @@ reduce-application-apply-requires : (t : ℕ) → reduce-application-lts.Need-ap
 ) (reduce-application-at t) reduce-application.Post
 reduce-application-apply-requires t c κs = parts-applicable _ (c .before .before .before .before .before .before .before .before .before .before .before .before .before .before .before .before .before .before .pre .1 .1) _ _ (c .before .before .before .before .before .before .before .before .before .before .before .before .before .before .before .before .head-of .ensures .1) (c .before .before .before .before .before .before .before .before .before .before .argument-of .ensures .1) _ _ _ (c .before .before .before .before .before .before .before .before .before .before .before .before .before .before .reduce .ensures) _ _ _ (c .before .before .before .before .before .before .before .before .reduce2 .ensures) _ _ (c .before .before .before .before .before .before .before .before .before .before .before .before .first .given .1) (c .before .before .before .before .before .before .second .given .1) (omega arith) (omega arith) (c .before .before .before .before .before .before .before .before .before .before .before .before .before .before .before .before .before .before .pre .1 .0)
 
--- src/lib.rt:66:1
 reduce-application-returns-3 : (t : ℕ) → reduce-application-lts.Need-returns-3 (
   head-of-reads.Asked,
   head-of-reads.Learnt,

@@ -3,41 +3,28 @@ use Rattle.contraction.proofs.Reducts.{applies-other, applies-flexible,
 use borrow.Author.Needs.{needs}
 use Rattle.contraction.proofs.apply.Statement.{statement}
 use Rattle.contraction.proofs.apply.Tie as tie
-use Rattle.contraction.proofs.apply.Reads as reads
-use Rattle.contraction.proofs.apply.Lts as lts
-use Rattle.abstractions.proofs.is_rigid.Reads as is-rigid-reads
-use Rattle.contraction.proofs.contract_redex.Reads as contract-redex-reads
-use Rattle.contraction.proofs.join.Reads as join-reads
 
--- src/lib.rt:56:8
 shared-slice-read-if1 : tie.Need-shared-slice-read-if1
 shared-slice-read-if1 c = search needs
 
--- src/lib.rt:57:9
 join-requires : tie.Need-join-requires
 join-requires c κs = search needs
 
--- src/lib.rt:57:9
 returns : tie.Need-returns
 returns c = applies-other _ _ _ _ _ (c .before .before .if1 .taken) (c .join .ensures)
 
--- src/lib.rt:59:8
 is-rigid-requires : tie.Need-is-rigid-requires
 is-rigid-requires c κs = argument-whole _ _ (c .before .before .before .before .before .pre)
 
--- src/lib.rt:60:9
 contract-redex-requires : tie.Need-contract-redex-requires
 contract-redex-requires c κs = (redex-applied _ _ (c .before .before .before .if1 .left) (c .before .before .before .before .before .before .before .before .pre), c .before .before .before .if1 .left)
 
--- src/lib.rt:60:9
 returns-2 : tie.Need-returns-2
 returns-2 c = applies-rigid _ _ _ _ _ (c .before .before .before .before .if1 .left) _ (c .before .before .before .is-rigid .ensures) (c .before .before .if2 .taken) (c .contract-redex .ensures)
 
--- src/lib.rt:62:5
 join-requires-2 : tie.Need-join-requires-2
 join-requires-2 c κs = search needs
 
--- src/lib.rt:52:1
 returns-3 : tie.Need-returns-3
 returns-3 c = applies-flexible _ _ _ _ _ (c .before .before .before .before .if1 .left) _ (c .before .before .before .is-rigid .ensures) (c .before .before .if2 .left) (c .join2 .ensures)
 

@@ -5,40 +5,28 @@ use Rattle.contraction.proofs.Reducts.{too-long, contracted}
 use borrow.Author.Needs.{needs}
 use Rattle.contraction.proofs.contract_redex.Statement.{statement}
 use Rattle.contraction.proofs.contract_redex.Tie as tie
-use Rattle.contraction.proofs.contract_redex.Reads as reads
-use Rattle.contraction.proofs.contract_redex.Lts as lts
-use Rattle.sweeping.proofs.count_uses.Reads as count-uses-reads
-use Rattle.sweeping.proofs.substitute_into.Reads as substitute-into-reads
 
--- src/lib.rt:26:9
 count-uses-requires : tie.Need-count-uses-requires
 count-uses-requires c κs = (redex-whole _ (c .before .before .pre .0 .head) (c .before .before .pre .0 .head-bytes) (c .before .before .pre .1), omega (arith, c .before .before .pre .0 .head-most))
 
--- src/lib.rt:28:17
 sub-bytes : tie.Need-sub-bytes
 sub-bytes c = search needs
 
--- src/lib.rt:28:50
 sub-bytes-2 : tie.Need-sub-bytes-2
 sub-bytes-2 c = search needs
 
--- src/lib.rt:28:36
 mul-bytes : tie.Need-mul-bytes
 mul-bytes c = omega (arith, uses-bytes _ _ _ _ (c .before .count-uses .ensures .few) (c .before .count-uses .ensures .ends .within) (c .before .before .before .before .pre .0 .head-most) (c .before .before .before .before .pre .0 .argument-most))
 
--- src/lib.rt:28:17
 add-bytes : tie.Need-add-bytes
 add-bytes c = omega (arith, c .before .before .before .before .pre .0 .head-most, uses-bytes _ _ _ _ (c .before .count-uses .ensures .few) (c .before .count-uses .ensures .ends .within) (c .before .before .before .before .pre .0 .head-most) (c .before .before .before .before .pre .0 .argument-most))
 
--- src/lib.rt:30:9
 returns : tie.Need-returns
 returns c = λ x y e g. too-long _ _ _
 
--- src/lib.rt:32:5
 substitute-into-requires : tie.Need-substitute-into-requires
 substitute-into-requires c κs = redex-substitution _ _ (c .before .before .before .before .before .before .pre .1) _ _ (c .before .before .before .count-uses .ensures) _ (c .before .before .before .before .before .before .pre .0) (omega (arith, c .before .if1 .left)) (omega (arith, c .before .if1 .left))
 
--- src/lib.rt:22:1
 returns-2 : tie.Need-returns-2
 returns-2 c = contracted _ _ (c .before .before .before .before .before .before .before .pre .1) _ _ (c .before .before .before .before .count-uses .ensures) _ _ _ _ (c .before .before .if1 .left) (c .substitute-into .ensures)
 

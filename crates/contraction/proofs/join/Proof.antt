@@ -3,40 +3,28 @@ use Rattle.contraction.proofs.Reducts.{too-long, joined}
 use borrow.Author.Needs.{needs}
 use Rattle.contraction.proofs.join.Statement.{statement}
 use Rattle.contraction.proofs.join.Tie as tie
-use Rattle.contraction.proofs.join.Reads as reads
-use Rattle.contraction.proofs.join.Lts as lts
-use Rattle.records.proofs.put_record.Reads as put-record-reads
-use Rattle.sweeping.proofs.copy_into.Reads as copy-into-reads
 
--- src/lib.rt:41:13
 add-n : tie.Need-add-n
 add-n c = search needs
 
--- src/lib.rt:41:13
 add-n-2 : tie.Need-add-n-2
 add-n-2 c = search needs
 
--- src/lib.rt:43:9
 returns : tie.Need-returns
 returns c = λ x y e g. too-long _ _ _
 
--- src/lib.rt:45:5
 put-record-requires : tie.Need-put-record-requires
 put-record-requires c κs = search needs
 
--- src/lib.rt:46:5
 copy-into-requires : tie.Need-copy-into-requires
 copy-into-requires c κs = search needs
 
--- src/lib.rt:47:33
 add-copy-into : tie.Need-add-copy-into
 add-copy-into c = search needs
 
--- src/lib.rt:47:5
 copy-into-requires-2 : tie.Need-copy-into-requires-2
 copy-into-requires-2 c κs = search needs
 
--- src/lib.rt:37:1
 returns-2 : tie.Need-returns-2
 returns-2 c = joined _ _ _ _ _ _ (c .before .before .before .before .before .before .if1 .left) (c .before .before .before .before .put-record .ensures) (c .before .before .copy-into .ensures) (c .copy-into2 .ensures)
 
