@@ -14,12 +14,11 @@ use Rattle.terms.specs.Table.{bytes, encode, IsTable}
 use Rattle.terms.proofs.Locals.{rigid}
 use Rattle.terms.proofs.Table.{encode-length}
 use Rattle.matching.proofs.Contraction.{applied, reduct, closed-redex, reduct-closed}
-use Rattle.records.specs.Parts.{Part, Tree, Whole}
+use Rattle.records.specs.Parts.{Part, Tree}
 use Rattle.records.proofs.Parts.{size-some, whole, kind-at, at-start, leaf-size, application-of, abstraction-of}
 use Rattle.sweeping.specs.declared.Length.{Length}
 use Rattle.sweeping.specs.declared.Length.the-variants.{Records, TooLong}
 use Rattle.sweeping.specs.Writers.{replace, Wrote, Used}
-use Rattle.sweeping.specs.Swept.{Applied}
 use Rattle.sweeping.proofs.Stores.{stored, written-then}
 use Rattle.sweeping.proofs.Contraction.{table-length, application-bytes, redex-size, redex-bytes}
 use Rattle.contraction.specs.Reduced.{patternBytes, Reduced, Contracts, Joins, Applicable, Applies, Reducible, Reduces}
@@ -75,28 +74,6 @@ module _ (f a out : List ℕ) (r : Length) (after : List ℕ) where
         let k : rigid y ≡ true = sym (test y (at-start a y g)) ∙ o in
         let i : applied x y ≡ contract (app x y) = rw (v .is, k) in
         rw i (w x y e g)
-
--- what is contracted
-pub redex-applied : (f a : List ℕ) → getD f 0 0 ≡ 1 → Applicable f a → Applied f a
-redex-applied f a z x =
-    let v = abstraction-of f (x .head) (x .head-bytes) z in
-    let c : Closed (x .depth) (app (lam (v .b)) (x .argument)) = subst (λ (t : Term). Closed (x .depth) (app t (x .argument))) (v .is) (x .closed) in
-    record {
-      head = x .head;
-      argument = x .argument;
-      head-bytes = x .head-bytes;
-      argument-bytes = x .argument-bytes;
-      head-least = x .head-least;
-      argument-least = x .argument-least;
-      head-most = omega (arith, x .head-most);
-      argument-most = omega (arith, x .argument-most);
-      depth = x .depth;
-      shallow = x .shallow;
-      closed = rw (v .is) (closed-redex (x .depth) (x .argument) (v .b) (c .1) (c .0));
-    }
-
-pub argument-whole : (f a : List ℕ) → Applicable f a → Whole a 0
-argument-whole f a x = whole a 0 (x .argument) (at-start a (x .argument) (x .argument-bytes))
 
 -- the parts of what is reducible
 module _ (l m : List ℕ) (x : Reducible l) where
@@ -184,17 +161,27 @@ module _ (l : List ℕ) (z : getD l 0 0 ≡ 0) (m j : List ℕ) (head : (f a : T
       let g = both (x .tree) (x .bytes) .1 in
       let c : Closed (x .depth) (app (v .f) (v .a)) = subst (Closed (x .depth)) (v .is) (x .closed) in
       record {
-        head = reduct (v .f);
-        argument = reduct (v .a);
-        head-bytes = f .bytes;
-        argument-bytes = g .bytes;
-        head-least = omega (arith, f .fills, f .some);
-        argument-least = omega (arith, g .fills, g .some);
+        head = whole (take (n * 4 - 0) (drop 0 p)) 0 (reduct (v .f)) (at-start (take (n * 4 - 0) (drop 0 p)) (reduct (v .f)) (f .bytes));
+        argument = whole (take (k * 4 - 0) (drop 0 b)) 0 (reduct (v .a)) (at-start (take (k * 4 - 0) (drop 0 b)) (reduct (v .a)) (g .bytes));
         head-most = omega (arith, f .fills, f .few);
         argument-most = omega (arith, g .fills, g .few);
-        depth = x .depth;
-        shallow = omega (arith, x .shallow);
-        closed = (reduct-closed (x .depth) (v .f) (c .0), reduct-closed (x .depth) (v .a) (c .1));
+        redex = λ s.
+            let t = abstraction-of (take (n * 4 - 0) (drop 0 p)) (reduct (v .f)) (f .bytes) s in
+            record {
+              head = reduct (v .f);
+              argument = reduct (v .a);
+              head-bytes = f .bytes;
+              argument-bytes = g .bytes;
+              head-least = omega (arith, f .fills, f .some);
+              argument-least = omega (arith, g .fills, g .some);
+              head-most = omega (arith, f .fills, f .few);
+              argument-most = omega (arith, g .fills, g .few);
+              depth = x .depth;
+              shallow = omega (arith, x .shallow);
+              closed = rw (t .is)
+                  (closed-redex (x .depth) (reduct (v .a)) (t .b) (reduct-closed (x .depth) (v .a) (c .1))
+                  (subst (Closed (x .depth)) (t .is) (reduct-closed (x .depth) (v .f) (c .0))));
+            };
       }
 
   pub reduces-application :

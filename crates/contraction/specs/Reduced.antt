@@ -11,13 +11,15 @@
 use mathlib.Core.Path.{_≡_}
 use mathlib.Core.List.{List}
 use Prim.Native.Nat.{ℕ, _+_, _*_, _≤_}
-use lib.ListN.{length}
+use lib.ListN.{length, getD}
 use lib.Seq.{sets}
 use Rattle.terms.specs.Figures.{numbers, patternRecords, sweptRecords}
 use Rattle.terms.specs.Term.{Term, app, size, Closed}
 use Rattle.terms.specs.Sweep.{contract}
 use Rattle.terms.specs.Table.{encode}
 use Rattle.matching.proofs.Contraction.{applied, reduct}
+use Rattle.records.specs.Parts.{Whole}
+use Rattle.sweeping.specs.Swept.{Applied}
 use Rattle.sweeping.specs.declared.Length.{Length}
 use Rattle.sweeping.specs.declared.Length.the-variants.{Records, TooLong}
 
@@ -35,17 +37,11 @@ abbrev pub Joins : List ℕ → List ℕ → List ℕ → Length → List ℕ �
 Joins f a out r after = (x y : Term) → f ≡ encode x → a ≡ encode y → Reduced (app x y) out r after
 
 pub record Applicable (f a : List ℕ) : Type 0 where
-  pub head : Term
-  pub argument : Term
-  pub head-bytes : f ≡ encode head
-  pub argument-bytes : a ≡ encode argument
-  pub head-least : 4 ≤ length f
-  pub argument-least : 4 ≤ length a
+  pub head : Whole f 0
+  pub argument : Whole a 0
   pub head-most : length f ≤ patternBytes
   pub argument-most : length a ≤ patternBytes
-  pub depth : ℕ
-  pub shallow : depth + sweptRecords ≤ numbers
-  pub closed : Closed depth (app head argument)
+  pub redex : getD f 0 0 ≡ 1 → Applied f a
 
 abbrev pub Applies : List ℕ → List ℕ → List ℕ → Length → List ℕ → Type 0
 Applies f a out r after = (x y : Term) → f ≡ encode x → a ≡ encode y → Reduced (applied x y) out r after

@@ -1,5 +1,5 @@
 -- `contraction::apply` meets its contract, by the two tests that tell whether a redex is contracted. Assumes nothing.
-use Rattle.contraction.proofs.Reducts.{applies-other, applies-flexible, applies-rigid, redex-applied, argument-whole}
+use Rattle.contraction.proofs.Reducts.{applies-other, applies-flexible, applies-rigid}
 use borrow.Author.Needs.{needs}
 use Rattle.contraction.proofs.apply.Statement.{statement}
 use Rattle.contraction.proofs.apply.Tie as tie
@@ -14,10 +14,10 @@ returns : tie.Need-returns
 returns c = applies-other _ _ _ _ _ (c .before .before .if1 .taken) (c .join .ensures)
 
 is-rigid-requires : tie.Need-is-rigid-requires
-is-rigid-requires c κs = argument-whole _ _ (c .before .before .before .before .before .pre)
+is-rigid-requires c κs = c .before .before .before .before .before .pre .argument
 
 contract-redex-requires : tie.Need-contract-redex-requires
-contract-redex-requires c κs = (redex-applied _ _ (c .before .before .before .if1 .left) (c .before .before .before .before .before .before .before .before .pre), c .before .before .before .if1 .left)
+contract-redex-requires c κs = (c .before .before .before .before .before .before .before .before .pre .redex (c .before .before .before .if1 .left), c .before .before .before .if1 .left)
 
 returns-2 : tie.Need-returns-2
 returns-2 c = applies-rigid _ _ _ _ _ (c .before .before .before .before .if1 .left) _ (c .before .before .before .is-rigid .ensures) (c .before .before .if2 .taken) (c .contract-redex .ensures)
