@@ -49,6 +49,12 @@ closed-fits d (var n) c h = tt
 pub table-length : (l : List ℕ) (t : Term) → l ≡ encode t → length l ≡ 4 * size t
 table-length l t e = ap length e ∙ encode-length t
 
+-- an application's record, its head and its argument, written one behind another
+pub application-bytes : (f a out p q r : List ℕ) → p ≡ sets out 0 (bytes 0 0 []) → q ≡ sets p 4 f → r ≡ sets q (4 + length f) a → (x y : Term) → f ≡ encode x → a ≡ encode y → r ≡ sets out 0 (encode (app x y))
+application-bytes f a out p q r u v w x y e g =
+    written-then (bytes 0 0 f) a out q r 0 (4 + length f) (written-then (bytes 0 0 []) f out p q 0 4 u v refl) w (omega arith)
+    ∙ ap₂ (λ (i j : List ℕ). sets out 0 (bytes 0 0 (i ++ j))) e g
+
 -- an application whose head is no abstraction
 not-abstraction : (l : List ℕ) (t : Term) → l ≡ encode t → ¬ (getD l 0 0 ≡ 1) → T (not (isAbstraction t))
 not-abstraction l (app f a) e n = tt
@@ -64,11 +70,9 @@ module _ (f a out : List ℕ) (n : ¬ (getD f 0 0 ≡ 1)) where
 
   pub applied-written : (p q r : List ℕ) → 4 + length f + length a ≤ sweptBytes → p ≡ sets out 0 (bytes 0 0 []) → q ≡ sets p 4 f → r ≡ sets q (4 + length f) a → Applies f a out (Records ((4 + length f + length a) / 4)) r
   applied-written p q r h u v w x y e g =
-      let b : r ≡ sets out 0 (bytes 0 0 (f ++ a)) =
-      written-then (bytes 0 0 f) a out q r 0 (4 + length f) (written-then (bytes 0 0 []) f out p q 0 4 u v refl) w (omega arith) in
       rw (contract-app x y (not-abstraction f x e n))
       (written (app x y) out r ((4 + length f + length a) / 4) (omega (arith, table-length f x e, table-length a y g)) (omega arith)
-      (b ∙ ap₂ (λ (i j : List ℕ). sets out 0 (bytes 0 0 (i ++ j))) e g))
+      (application-bytes f a out p q r u v w x y e g))
 
 -- an application whose head is an abstraction
 pub uses-bytes : (f a next n : ℕ) → 4 + 4 * n ≤ next → next ≤ f → f ≤ sweptBytes → a ≤ sweptBytes → n * (a - 4) ≤ sweptRecords * sweptBytes
@@ -96,7 +100,7 @@ module _ (f a : List ℕ) (z : getD f 0 0 ≡ 1) (next n : ℕ) (u : Used f 4 0 
   pub redex-too-long : (out : List ℕ) → sweptBytes < length f - 4 + n * (length a - 4) → Applies f a out TooLong out
   redex-too-long out h x y e g = too-long (contract (app x y)) out (omega (arith, redex-size x y e g))
 
-  pub redex-substitution : (out : List ℕ) → Applied f a → length out ≡ sweptBytes → length f - 4 + n * (length a - 4) ≤ sweptBytes → Substitution f 4 0 a out 0
+  pub redex-substitution : (out : List ℕ) → Applied f a → length f - 4 + n * (length a - 4) ≤ length out → length f - 4 + n * (length a - 4) ≤ sweptBytes → Substitution f 4 0 a out 0
   redex-substitution out x h m =
       let e = x .head-bytes in
       let g = x .argument-bytes in
@@ -113,12 +117,15 @@ module _ (f a : List ℕ) (z : getD f 0 0 ≡ 1) (next n : ℕ) (u : Used f 4 0 
             (omega (arith, table-length f (x .head) e, ap size (v .is), x .head-most)) (omega (arith, ap size q));
       }
 
+  pub redex-bytes : (out after : List ℕ) (to end : ℕ) → ((t : Term) → a ≡ encode t → Wrote (replace t) f 4 0 out 0 after to end) → (x y : Term) → f ≡ encode x → a ≡ encode y → after ≡ sets out 0 (encode (contract (app x y)))
+  redex-bytes out after to end w x y e g =
+      let v = abstraction f 0 x (at-start f x e) z in
+      w y g .bytes (v .b) (v .body) ∙ ap (λ (t : Term). sets out 0 (encode (contract (app t y)))) (sym (v .is))
+
   pub redex-written : (out after : List ℕ) (to end : ℕ) → length f - 4 + n * (length a - 4) ≤ sweptBytes → ((t : Term) → a ≡ encode t → Wrote (replace t) f 4 0 out 0 after to end) → Applies f a out (Records ((length f - 4 + n * (length a - 4)) / 4)) after
   redex-written out after to end m w x y e g =
       let s = redex-size x y e g in
-      let v = abstraction f 0 x (at-start f x e) z in
-      written (contract (app x y)) out after ((length f - 4 + n * (length a - 4)) / 4) (omega arith) (omega arith)
-      (w y g .bytes (v .b) (v .body) ∙ ap (λ (t : Term). sets out 0 (encode (contract (app t y)))) (sym (v .is)))
+      written (contract (app x y)) out after ((length f - 4 + n * (length a - 4)) / 4) (omega arith) (omega arith) (redex-bytes out after to end w x y e g)
 
 -- the test for an abstraction's contraction, step by step
 and-false : (x : Bool) → false ≡ (x && false)

@@ -38,9 +38,9 @@ pub struct Place {
 }
 
 // Where a part ends, and how often it uses a local.
-struct Uses {
-    next: usize,
-    count: usize,
+pub struct Uses {
+    pub next: usize,
+    pub count: usize,
 }
 
 // Whether two tables are equal.
@@ -135,7 +135,7 @@ fn lowered(n: usize, k: usize) -> usize
 
 // Writes the part of b at byte `at`, with e put for local k, into out from byte o on. A use becomes e shifted by k, the binders that stand
 // between it and the place that e was given for.
-fn substitute_into(b: &[u8], at: usize, k: usize, e: &[u8], out: &mut [u8], o: usize) -> Place
+pub fn substitute_into(b: &[u8], at: usize, k: usize, e: &[u8], out: &mut [u8], o: usize) -> Place
     requires { ⌜ Substitution (now b) at k (now e) (now out) o ⌝ }
     ensures { λ r. ⌜ ((x : Term) → now (e .entry) ≡ encode x → Wrote (replace x) (now (b .entry)) at k (now (out .entry)) o (now (out .exit)) (r .next) (r .end)) ⌝ }
 {
@@ -172,7 +172,7 @@ fn substitute_into(b: &[u8], at: usize, k: usize, e: &[u8], out: &mut [u8], o: u
 }
 
 // How often the part of b at byte `at` uses local k.
-fn count_uses(b: &[u8], at: usize, k: usize) -> Uses
+pub fn count_uses(b: &[u8], at: usize, k: usize) -> Uses
     requires { ⌜ Whole (now b) at × (k + length (now b) ≤ at + numbers) ⌝ }
     ensures { λ r. ⌜ Used (now (b .entry)) at k (r .next) (r .count) ⌝ }
 {

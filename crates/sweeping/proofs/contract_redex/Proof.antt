@@ -24,7 +24,7 @@ returns : tie.Need-returns
 returns c = redex-too-long _ _ (c .before .before .before .before .before .pre .1) _ _ (c .before .before .count-uses .ensures) _ (c .if1 .taken)
 
 substitute-into-requires : tie.Need-substitute-into-requires
-substitute-into-requires c κs = redex-substitution _ _ (c .before .before .before .before .before .before .pre .1) _ _ (c .before .before .before .count-uses .ensures) _ (c .before .before .before .before .before .before .pre .0) (omega arith) (c .before .if1 .left)
+substitute-into-requires c κs = redex-substitution _ _ (c .before .before .before .before .before .before .pre .1) _ _ (c .before .before .before .count-uses .ensures) _ (c .before .before .before .before .before .before .pre .0) (omega (arith, c .before .if1 .left)) (c .before .if1 .left)
 
 returns-2 : tie.Need-returns-2
 returns-2 c = redex-written _ _ (c .before .before .before .before .before .before .before .pre .1) _ _ (c .before .before .before .before .count-uses .ensures) _ _ _ _ (c .before .before .if1 .left) (c .substitute-into .ensures)

@@ -1,0 +1,42 @@
+-- `contraction::apply` meets its contract, by the two tests that tell whether a redex is contracted. Assumes nothing.
+use Rattle.contraction.proofs.Reducts.{applies-other, applies-flexible, applies-rigid}
+use borrow.Author.Needs.{needs}
+use Rattle.contraction.proofs.apply.Statement.{statement}
+use Rattle.contraction.proofs.apply.Tie as tie
+
+shared-slice-read-if1 : tie.Need-shared-slice-read-if1
+shared-slice-read-if1 c = search needs
+
+join-requires : tie.Need-join-requires
+join-requires c κs = search needs
+
+returns : tie.Need-returns
+returns c = applies-other _ _ _ _ _ (c .before .before .if1 .taken) (c .join .ensures)
+
+is-rigid-requires : tie.Need-is-rigid-requires
+is-rigid-requires c κs = c .before .before .before .before .before .pre .argument
+
+contract-redex-requires : tie.Need-contract-redex-requires
+contract-redex-requires c κs = (c .before .before .before .before .before .before .before .before .pre .redex (c .before .before .before .if1 .left), c .before .before .before .if1 .left)
+
+returns-2 : tie.Need-returns-2
+returns-2 c = applies-rigid _ _ _ _ _ (c .before .before .before .before .if1 .left) _ (c .before .before .before .is-rigid .ensures) (c .before .before .if2 .taken) (c .contract-redex .ensures)
+
+join-requires-2 : tie.Need-join-requires-2
+join-requires-2 c κs = search needs
+
+returns-3 : tie.Need-returns-3
+returns-3 c = applies-flexible _ _ _ _ _ (c .before .before .before .before .if1 .left) _ (c .before .before .before .is-rigid .ensures) (c .before .before .if2 .left) (c .join2 .ensures)
+
+pub apply-spec : {M : Type 1} → statement M
+apply-spec =
+    tie.close
+    (tie.spec
+    shared-slice-read-if1
+    join-requires
+    returns
+    is-rigid-requires
+    contract-redex-requires
+    returns-2
+    join-requires-2
+    returns-3)

@@ -1,0 +1,42 @@
+-- `contraction::join` meets its contract: the application's record, its head and its argument are written one behind another. Assumes nothing.
+use Rattle.contraction.proofs.Reducts.{too-long, joined}
+use borrow.Author.Needs.{needs}
+use Rattle.contraction.proofs.join.Statement.{statement}
+use Rattle.contraction.proofs.join.Tie as tie
+
+add-n : tie.Need-add-n
+add-n c = search needs
+
+add-n-2 : tie.Need-add-n-2
+add-n-2 c = search needs
+
+returns : tie.Need-returns
+returns c = λ x y e g. too-long _ _ _
+
+put-record-requires : tie.Need-put-record-requires
+put-record-requires c κs = search needs
+
+copy-into-requires : tie.Need-copy-into-requires
+copy-into-requires c κs = search needs
+
+add-copy-into : tie.Need-add-copy-into
+add-copy-into c = search needs
+
+copy-into-requires-2 : tie.Need-copy-into-requires-2
+copy-into-requires-2 c κs = search needs
+
+returns-2 : tie.Need-returns-2
+returns-2 c = joined _ _ _ _ _ _ (c .before .before .before .before .before .before .if1 .left) (c .before .before .before .before .put-record .ensures) (c .before .before .copy-into .ensures) (c .copy-into2 .ensures)
+
+pub join-spec : {M : Type 1} → statement M
+join-spec =
+    tie.close
+    (tie.spec
+    add-n
+    add-n-2
+    returns
+    put-record-requires
+    copy-into-requires
+    add-copy-into
+    copy-into-requires-2
+    returns-2)
