@@ -4,3 +4,4 @@ pub mod Sides
 pub mod Answers
 pub mod Searches
 pub mod Listed
+pub mod Reducts

@@ -4,9 +4,11 @@
 
 use crate::ListAnswer;
 use crate::Refusal;
+use contraction::PATTERN_BYTES;
 use listing::LINE;
 use listing::Tally;
 use records::RECORD;
+use sweeping::Length;
 ghost use mathlib.Core.Path.{_≡_};
 ghost use Prim.Native.Nat.{_≤_};
 ghost use Rattle.matcher.specs.Steps.{Listable, Enumerated, Copies, Copied};
@@ -84,8 +86,8 @@ fn few_lines(lent: usize) -> usize
     SHORT_LINES / LINE
 }
 
-// Writes the full listing, or refuses if it has no room.
-pub fn enumerate(
+// Writes the full listing, or refuses if it has no room: a short one is found at once.
+fn enumerate_short(
     pattern: &[u8],
     recipe: &[u8],
     lines: &mut [u8],
@@ -116,4 +118,25 @@ pub fn enumerate(
         return ListAnswer::Refused(Refusal::ValueRoom);
     }
     ListAnswer::Lines(copy_lines(found, &short_lines, &short_values, lines, values, work))
+}
+
+// Writes the full listing, or refuses if it has no room. What is searched is the pattern's reduct, whose redexes with a rigid argument are
+// contracted: it has the same full listing, and the search doesn't have to guess where such an argument stood. A reduct that is too long for a
+// pattern isn't needed.
+pub fn enumerate(
+    pattern: &[u8],
+    recipe: &[u8],
+    lines: &mut [u8],
+    values: &mut [u8],
+    work: &mut [u8],
+) -> ListAnswer
+    requires { ⌜ Listable (now pattern) (now recipe) (now lines) (now values) (now work) ⌝ }
+    ensures { λ r. ⌜ Enumerated (now (pattern .entry)) (now (recipe .entry)) (now (lines .entry)) (now (values .entry)) r (now (lines .exit)) (now (values .exit)) ⌝ }
+{
+    let mut reduct = [0u8; PATTERN_BYTES];
+    let length = contraction::reduce(pattern, &mut reduct);
+    let Length::Records(n) = length else {
+        return enumerate_short(pattern, recipe, lines, values, work);
+    };
+    enumerate_short(&reduct[0..n * RECORD], recipe, lines, values, work)
 }

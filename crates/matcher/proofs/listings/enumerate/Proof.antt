@@ -1,25 +1,23 @@
--- `matcher::listings::enumerate` meets its contract: what the first search has written, if it has found no more than it has room for, are the
--- lines of the one full listing. Assumes nothing.
+-- `matcher::listings::enumerate` meets its contract: the reduct is a pattern with the same full listing. Where it is too long the pattern itself
+-- is searched. Assumes nothing.
 use native.Mathlib.Omega.{arith}
-use Rattle.matcher.proofs.Searches.{no-records, room, copies, written-copied, enumerated-written, listable-kept}
+use Rattle.contraction.proofs.Reducts.{reducible, result}
+use Rattle.matcher.proofs.Reducts.{listable, enumerated}
 use borrow.Author.Needs.{needs}
 use Rattle.matcher.proofs.listings.enumerate.Statement.{statement}
 use Rattle.matcher.proofs.listings.enumerate.Tie as tie
 
-few-lines-requires : tie.Need-few-lines-requires
-few-lines-requires c κs = search needs
+reduce-requires : tie.Need-reduce-requires
+reduce-requires c κs = reducible _ (c .before .before .before .before .before .before .pre .pattern-checked .tree) (c .before .before .before .before .before .before .pre .pattern-checked .table) (c .before .before .before .before .before .before .pre .pattern-checked .most)
 
-slice-aggregate-collect : tie.Need-slice-aggregate-collect
-slice-aggregate-collect c = search needs
+enum-known-length : tie.Need-enum-known-length
+enum-known-length c = search needs
 
-slice-aggregate-collect-2 : tie.Need-slice-aggregate-collect-2
-slice-aggregate-collect-2 c = search needs
+enum-told : tie.Need-enum-told
+enum-told c = search needs
 
-collect-requires : tie.Need-collect-requires
-collect-requires c κs = record { pattern = c .before .before .before .before .before .before .before .before .before .pre .pattern-checked; recipe = c .before .before .before .before .before .before .before .before .before .pre .recipe-checked; lines = omega arith; values = omega arith; limited = omega (arith, c .before .before .before .few-lines .ensures); area = c .before .before .before .before .before .before .before .before .before .pre .area }
-
-enumerate-long-requires : tie.Need-enumerate-long-requires
-enumerate-long-requires c κs = listable-kept _ _ _ _ _ (c .before .before .before .before .before .before .before .before .before .before .before .before .before .before .before .before .before .before .before .pre) _ (c .before .before .before .before .before .before .before .before .before .collect .kept .1 .1 .1 .1 .1 .0)
+enumerate-short-requires : tie.Need-enumerate-short-requires
+enumerate-short-requires c κs = search needs
 
 same-length : tie.Need-same-length
 same-length c = search needs
@@ -33,8 +31,20 @@ same-length-3 c = search needs
 returns : tie.Need-returns
 returns c = search needs
 
-enumerate-long-requires-2 : tie.Need-enumerate-long-requires-2
-enumerate-long-requires-2 c κs = listable-kept _ _ _ _ _ (c .before .before .before .before .before .before .before .before .before .before .before .before .before .before .before .before .before .before .before .before .before .pre) _ (c .before .before .before .before .before .before .before .before .before .before .before .collect .kept .1 .1 .1 .1 .1 .0)
+mul-enumerate-short : tie.Need-mul-enumerate-short
+mul-enumerate-short c = omega (arith, result _ _ _ _ _ (c .before .before .before .reduce .ensures (c .before .before .before .before .before .before .before .before .before .before .pre .pattern-checked .tree) (c .before .before .before .before .before .before .before .before .before .before .pre .pattern-checked .table .0)) (c .before .length .given .1) (omega arith) .few)
+
+sub-enumerate-short : tie.Need-sub-enumerate-short
+sub-enumerate-short c = search needs
+
+part-enumerate-short-start : tie.Need-part-enumerate-short-start
+part-enumerate-short-start c = search needs
+
+part-enumerate-short-end : tie.Need-part-enumerate-short-end
+part-enumerate-short-end c = result _ _ _ _ _ (c .before .before .before .before .reduce .ensures (c .before .before .before .before .before .before .before .before .before .before .before .pre .pattern-checked .tree) (c .before .before .before .before .before .before .before .before .before .before .before .pre .pattern-checked .table .0)) (c .before .before .length .given .1) (omega arith) .within
+
+enumerate-short-requires-2 : tie.Need-enumerate-short-requires-2
+enumerate-short-requires-2 c κs = let o = result _ _ _ _ _ (c .before .before .before .before .before .before .before .before .reduce .ensures (c .before .before .before .before .before .before .before .before .before .before .before .before .before .before .before .pre .pattern-checked .tree) (c .before .before .before .before .before .before .before .before .before .before .before .before .before .before .before .pre .pattern-checked .table .0)) (c .before .before .before .before .before .before .length .given .1) (omega arith) in listable _ _ (c .before .before .before .before .before .before .before .before .before .before .before .before .before .before .before .pre .pattern-checked) (o .bytes) (omega (arith, o .fills, o .few)) _ _ _ _ (c .before .before .before .before .before .before .before .before .before .before .before .before .before .before .before .pre)
 
 same-length-4 : tie.Need-same-length-4
 same-length-4 c = search needs
@@ -46,59 +56,26 @@ same-length-6 : tie.Need-same-length-6
 same-length-6 c = search needs
 
 returns-2 : tie.Need-returns-2
-returns-2 c = search needs
-
-same-length-7 : tie.Need-same-length-7
-same-length-7 c = search needs
-
-returns-3 : tie.Need-returns-3
-returns-3 c = no-records _ _ (c .before .before .before .before .before .before .before .before .before .before .before .before .before .before .before .before .before .before .before .before .pre .pattern-checked) (c .before .before .before .before .before .before .before .before .before .before .before .before .before .before .before .before .before .before .before .before .pre .recipe-checked) _ _ _ _ _ _ (c .before .before .before .before .before .before .before .before .before .before .collect .ensures) (c .before .before .before .before .if1 .left) _ _ (c .before .before .before .before .before .before .before .before .before .before .before .before .before .before .few-lines .ensures .0) (c .if3 .taken)
-
-slice-aggregate-copy-lines : tie.Need-slice-aggregate-copy-lines
-slice-aggregate-copy-lines c = search needs
-
-slice-aggregate-copy-lines-2 : tie.Need-slice-aggregate-copy-lines-2
-slice-aggregate-copy-lines-2 c = search needs
-
-copy-lines-requires : tie.Need-copy-lines-requires
-copy-lines-requires c κs = copies _ _ (c .before .before .before .before .before .before .before .before .before .before .before .before .before .before .before .before .before .before .before .before .before .before .before .before .before .pre .pattern-checked) (c .before .before .before .before .before .before .before .before .before .before .before .before .before .before .before .before .before .before .before .before .before .before .before .before .before .pre .recipe-checked) _ _ _ _ _ _ (c .before .before .before .before .before .before .before .before .before .before .before .before .before .before .before .collect .ensures) (c .before .before .before .before .before .before .before .before .before .if1 .left) (omega (arith, c .before .before .before .before .before .before .before .before .before .before .before .before .before .before .before .before .before .before .before .few-lines .ensures)) (omega arith) _ _ _ (omega (arith, c .before .before .before .before .before .before .before .before .before .before .before .before .before .before .before .before .before .before .before .few-lines .ensures)) (omega arith) (listable-kept _ _ _ _ _ (c .before .before .before .before .before .before .before .before .before .before .before .before .before .before .before .before .before .before .before .before .before .before .before .before .before .pre) _ (c .before .before .before .before .before .before .before .before .before .before .before .before .before .before .before .collect .kept .1 .1 .1 .1 .1 .0))
-
-same-length-8 : tie.Need-same-length-8
-same-length-8 c = search needs
-
-same-length-9 : tie.Need-same-length-9
-same-length-9 c = search needs
-
-same-length-10 : tie.Need-same-length-10
-same-length-10 c = search needs
-
-returns-4 : tie.Need-returns-4
-returns-4 c = enumerated-written _ _ _ _ _ _ _ (written-copied _ _ (c .before .before .before .before .before .before .before .before .before .before .before .before .before .before .before .before .before .before .before .before .before .before .before .before .before .before .before .before .before .before .before .before .pre .pattern-checked) (c .before .before .before .before .before .before .before .before .before .before .before .before .before .before .before .before .before .before .before .before .before .before .before .before .before .before .before .before .before .before .before .before .pre .recipe-checked) _ _ _ _ _ _ (c .before .before .before .before .before .before .before .before .before .before .before .before .before .before .before .before .before .before .before .before .before .before .collect .ensures) (c .before .before .before .before .before .before .before .before .before .before .before .before .before .before .before .before .if1 .left) _ _ (room _ _ (c .before .before .before .before .before .before .before .before .before .before .before .before .before .before .before .before .before .before .before .before .before .before .before .before .before .before .before .before .before .before .before .before .pre .pattern-checked) (c .before .before .before .before .before .before .before .before .before .before .before .before .before .before .before .before .before .before .before .before .before .before .before .before .before .before .before .before .before .before .before .before .pre .recipe-checked) _ _ _ _ _ _ (c .before .before .before .before .before .before .before .before .before .before .before .before .before .before .before .before .before .before .before .before .before .before .collect .ensures) (c .before .before .before .before .before .before .before .before .before .before .before .before .before .before .before .before .if1 .left) _ _ (c .before .before .before .before .before .before .before .before .before .before .before .before .before .before .before .before .before .before .before .before .before .before .before .before .before .before .few-lines .ensures .0) (c .before .before .before .before .before .before .before .before .before .before .before .before .if3 .left)) (omega (arith, c .before .before .before .before .before .before .before .before .before .before .before .before .before .before .before .before .before .before .before .before .before .before .before .before .before .before .few-lines .ensures)) (omega arith) _ (c .before .before .before .before .before .before .copy-lines .ensures .0) _ _ (c .before .before .before .before .before .before .copy-lines .ensures .1))
+returns-2 c = let o = result _ _ _ _ _ (c .before .before .before .before .before .before .before .before .before .before .before .before .before .before .before .reduce .ensures (c .before .before .before .before .before .before .before .before .before .before .before .before .before .before .before .before .before .before .before .before .before .before .pre .pattern-checked .tree) (c .before .before .before .before .before .before .before .before .before .before .before .before .before .before .before .before .before .before .before .before .before .before .pre .pattern-checked .table .0)) (c .before .before .before .before .before .before .before .before .before .before .before .before .before .length .given .1) (omega arith) in enumerated _ _ (c .before .before .before .before .before .before .before .before .before .before .before .before .before .before .before .before .before .before .before .before .before .before .pre .pattern-checked) (o .bytes) _ _ _ _ _ _ (c .before .before .before .before .before .before .enumerate-short2 .ensures)
 
 pub enumerate-spec : {M : Type 1} → statement M
 enumerate-spec =
     tie.close
     (tie.spec
-    few-lines-requires
-    slice-aggregate-collect
-    slice-aggregate-collect-2
-    collect-requires
-    enumerate-long-requires
+    reduce-requires
+    enum-known-length
+    enum-told
+    enumerate-short-requires
     same-length
     same-length-2
     same-length-3
     returns
-    enumerate-long-requires-2
+    mul-enumerate-short
+    sub-enumerate-short
+    part-enumerate-short-start
+    part-enumerate-short-end
+    enumerate-short-requires-2
     same-length-4
     same-length-5
     same-length-6
-    returns-2
-    same-length-7
-    returns-3
-    slice-aggregate-copy-lines
-    slice-aggregate-copy-lines-2
-    copy-lines-requires
-    same-length-8
-    same-length-9
-    same-length-10
-    returns-4)
+    returns-2)
