@@ -1,17 +1,23 @@
 //! Benchmark of the proved matcher. `run.sh` compiles and runs it.
 //!
-//!     bench CASES [--limit MILLISECONDS] [--case NAME]
+//!     bench CASES [--limit MILLISECONDS] [--hard [--show COUNT]] [--case NAME] [--part NAME --from NUMBER]
 //!
-//! CASES is the folder of cases; the limit is what one search of (a), (b) or (c) may take (2000). `--case` is for the child processes.
+//! CASES is the folder of cases; the limit is what one search of (a), (b) or (c) may take (2000). With `--hard` only the tables of hard and of random cases
+//! are printed, and with `--show` some of the random cases that were stopped. `--case`, `--part` and `--from` are for the child processes.
 
 mod cases;
 mod families;
+mod full_size;
+mod generate;
 mod growth;
+mod hard;
 mod library;
+mod limited;
 mod listing;
 mod measure;
 mod operations;
 mod plain;
+mod random;
 mod terms;
 mod timing;
 mod tuned;
@@ -26,10 +32,22 @@ struct Arguments {
     folder: PathBuf,
     limit: Duration,
     case: Option<String>,
+    is_hard: bool,
+    show: usize,
+    part: Option<String>,
+    from: usize,
 }
 
 fn main() {
     let arguments = read_arguments();
+    if let Some(part) = arguments.part {
+        run_part(&part, arguments.from);
+        return;
+    }
+    if arguments.is_hard {
+        print_noise("before");
+        end_with(hard::print() & full_size::print(arguments.show));
+    }
     let cases = cases::load(&arguments.folder);
     if let Some(name) = arguments.case {
         let case = cases.iter().find(|case| case.name == name).expect("a case of that name");
@@ -45,19 +63,36 @@ fn main() {
     all_right &= growth::print_long_listings(arguments.limit);
     println!();
     print_noise("after");
+    end_with(all_right);
+}
+
+fn end_with(all_right: bool) -> ! {
     println!("\n{}", if all_right { "no answer wrong or different" } else { "SOME ANSWERS WRONG OR DIFFERENT" });
     exit(if all_right { 0 } else { 1 });
+}
+
+/// What a child process of the hard or random cases does.
+fn run_part(part: &str, from: usize) {
+    match part {
+        hard::PART => limited::run_child(hard::tasks(from), hard::LIMIT),
+        full_size::PART => limited::run_child(full_size::tasks(from), full_size::LIMIT),
+        _ => panic!("no part {part}"),
+    }
 }
 
 fn read_arguments() -> Arguments {
     let mut words = env::args().skip(1);
     let folder = PathBuf::from(words.next().expect("the folder of cases"));
-    let mut arguments = Arguments { folder, limit: Duration::from_millis(2000), case: None };
+    let mut arguments = Arguments { folder, limit: Duration::from_millis(2000), case: None, is_hard: false, show: 0, part: None, from: 0 };
     while let Some(word) = words.next() {
-        let figure = words.next().expect("something behind the option");
+        let mut value = || words.next().expect("something behind the option");
         match word.as_str() {
-            "--limit" => arguments.limit = Duration::from_millis(figure.parse().expect("milliseconds")),
-            "--case" => arguments.case = Some(figure),
+            "--limit" => arguments.limit = Duration::from_millis(value().parse().expect("milliseconds")),
+            "--hard" => arguments.is_hard = true,
+            "--show" => arguments.show = value().parse().expect("a number of cases"),
+            "--case" => arguments.case = Some(value()),
+            "--part" => arguments.part = Some(value()),
+            "--from" => arguments.from = value().parse().expect("a number"),
             _ => panic!("no option {word}"),
         }
     }

@@ -51,6 +51,18 @@ pub fn parse(text: &str) -> Vec<Record> {
         .collect()
 }
 
+/// Writes document 01's notation.
+pub fn text(term: &[Record]) -> String {
+    let word = |&record: &Record| match kind(record) {
+        APPLICATION => "@".to_string(),
+        ABSTRACTION => "\\".to_string(),
+        LOCAL => format!("#{}", number(record)),
+        CONSTANT => format!("k{}", number(record)),
+        _ => format!("p{}", number(record)),
+    };
+    term.iter().map(word).collect::<Vec<String>>().join(" ")
+}
+
 /// The place behind the part that starts at `at`.
 pub fn end(term: &[Record], at: usize) -> usize {
     let mut open = 1;
@@ -177,6 +189,15 @@ fn sweep_part(pattern: &[Record], at: usize, values: &Values, out: &mut Vec<Reco
             at + 1
         }
     }
+}
+
+/// Whether no part of the term is a redex.
+pub fn is_normal(term: &[Record]) -> bool {
+    (0..term.len()).all(|at| match kind(term[at]) {
+        APPLICATION => kind(term[at + 1]) != ABSTRACTION,
+        ABSTRACTION => eta_reduct(&term[at + 1..end(term, at)]).is_none(),
+        _ => true,
+    })
 }
 
 /// If the body is `M #0`, M doesn't use that local and M is no abstraction: M, moved out.
