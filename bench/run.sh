@@ -1,5 +1,5 @@
 #!/bin/sh
-# Compiles the benchmark with the static library and runs it. Arguments go to the benchmark (`--limit MILLISECONDS`).
+# Compiles the benchmark with the static library and runs it. Arguments go to the benchmark (`--limit MILLISECONDS`; `--hard`, `--show COUNT`).
 # LIBRARY names the folder of libexports.a; without it, the repository's own target/staticlib.
 set -eu
 bench=$(cd "$(dirname "$0")" && pwd)

@@ -1,4 +1,4 @@
-//! Patterns with which a plain search has no end, against recipes with n copies of one leaf. What list must answer is known from how the recipe is made.
+//! Patterns with which a plain search takes too long, against recipes with n copies of one leaf. What list must answer is known from how the recipe is made.
 
 use crate::limited::{outcomes, Known, Outcome, Task};
 use crate::terms::parse;
@@ -20,7 +20,8 @@ struct Case {
 /// Prints the table; yes if no answer was wrong.
 pub fn print() -> bool {
     println!("\n## Hard families\n");
-    println!("Recipes with n copies of one leaf; milliseconds of the library's list. `limit`: not ended within {} s.\n", LIMIT.as_secs());
+    println!("Recipes with n copies of one leaf; milliseconds of the library's list. `limit`: not ended within {} s of processor time.", LIMIT.as_secs());
+    println!("A pattern that stands twice has first a recipe that it matches, then one that differs from it in the last leaf.\n");
     println!("{:<34} {:>3} {:>10} {:>12}", "pattern", "n", "answer", "ms");
     let cases = cases();
     let found = outcomes(PART, cases.len());

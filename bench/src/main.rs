@@ -46,7 +46,10 @@ fn main() {
     }
     if arguments.is_hard {
         print_noise("before");
-        end_with(hard::print() & full_size::print(arguments.show));
+        let all_right = hard::print() & full_size::print(arguments.show);
+        println!();
+        print_noise("after");
+        end_with(all_right);
     }
     let cases = cases::load(&arguments.folder);
     if let Some(name) = arguments.case {
