@@ -2,7 +2,7 @@
 --   progress s            falls at each step: the room above `top`, and where that stays the same the place of the first easy goal
 --   Move k P W s a Q W′ s′ a′   the next state's assignments are those of Q in the state before, which may lack k bytes
 --   Failed k P W s a Q W′   Q has no assignment
---   Stepped, Branched     what the answer of a step says
+--   Stepped, Branched, Decided     what the answer of a step says
 use mathlib.Core.Path.{_≡_}
 use mathlib.Core.Logic.{_↔_}
 use mathlib.Core.List.{List}
@@ -19,6 +19,7 @@ use Rattle.assignments.specs.declared.Entry.the-variants.{Assigned}
 use Rattle.agenda.specs.declared.Agenda.{Agenda}
 use Rattle.agenda.specs.declared.Step.{Step}
 use Rattle.agenda.specs.declared.Branch.{Branch}
+use Rattle.agenda.specs.declared.Decision.{Decision}
 use Rattle.agenda.specs.State.{State, Sat, Bounds, relinking}
 
 abbrev pub progress : Agenda → ℕ
@@ -54,3 +55,8 @@ Stepped P W s a W′ (Step.Assign b) = (b .variable < variables) × Move 0 P W s
 unfoldable pub Branched : List ℕ → List ℕ → Agenda → List Entry → Question → List ℕ → Branch → Type 0
 Branched P W s a Q W′ Branch.Failed = Failed relinking P W s a Q W′
 Branched P W s a Q W′ (Branch.Next s′) = Move relinking P W s a Q W′ s′ a
+
+unfoldable pub Decided : ℕ → List ℕ → List ℕ → Agenda → List Entry → List ℕ → Decision → Type 0
+Decided k P W s a W′ Decision.Failed = Failed k P W s a Sat W′
+Decided k P W s a W′ (Decision.Next s′) = Move k P W s a Sat W′ s′ a
+Decided k P W s a W′ Decision.Open = W′ ≡ W

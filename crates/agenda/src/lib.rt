@@ -9,8 +9,10 @@
 
 pub mod alternatives;
 pub mod builds;
+pub mod ground;
 mod locals;
 pub mod order;
+pub mod repeated;
 pub mod steps;
 
 use assignments::Entry;
@@ -60,6 +62,13 @@ pub struct Ways {
     pub rigid: bool,
     pub lacking: bool,
     pub depths: [u8; VALUE_RECORDS],
+}
+
+// What a test of goals put off comes to: no assignment satisfies them, or the agenda that is left, or that the test doesn't apply.
+pub enum Decision {
+    Failed,
+    Next(Agenda),
+    Open,
 }
 
 // What a goal to build comes to: as one alternative, or that the bodies are to be gone through, one for each choice among so many copies.
