@@ -1,0 +1,62 @@
+-- What writing the skeleton of a part of a pattern needs, and what it leaves.
+--   GivenValues s a φ p    the entries a, with the value table s, give each variable i of p that is assigned the value φ i
+--   Outlinable l s a       a part of a pattern, as a table, with the values of its assigned variables
+--   Outline s a t x        every swept form of t, filled so, fits the skeleton x
+--   Outlined l s a out n after   the skeleton of the part with the table l was written into out from byte 0 on, n records
+--   Comparable c s t       a skeleton, as a table, and a term that stands in s from byte t on
+--   MayBe c s t r          unless r, the term that stands in s from byte t on doesn't fit the skeleton with the table c
+use mathlib.Core.Path.{_≡_}
+use mathlib.Core.Bool.{Bool, true, false}
+use mathlib.Core.List.{List}
+use Prim.Native.Nat.{ℕ, _+_, _*_, _≤_, _<_}
+use lib.ListN.{length, getD}
+use lib.Seq.{sets}
+use Rattle.terms.specs.Figures.{variables, numbers, sweptRecords}
+use Rattle.terms.specs.Term.{Term, size, Closed, Below, Occurs}
+use Rattle.terms.specs.Sweep.{sweep, fill}
+use Rattle.terms.specs.Table.{encode}
+use Rattle.matching.proofs.Skeletons.{Fits}
+use Rattle.records.specs.Parts.{Part, Whole}
+use Rattle.assignments.specs.Entries.{Given}
+use Rattle.assignments.specs.declared.Span.{Span}
+use Rattle.assignments.specs.declared.Entry.{Entry}
+use Rattle.assignments.specs.declared.Entry.the-variants.{Open, Assigned}
+
+abbrev pub GivenValues : List ℕ → List Entry → (ℕ → Term) → Term → Type 0
+GivenValues s a φ p = (i : ℕ) (x : Span) → Occurs i p → getD a i Open ≡ Assigned x → Given s a i (φ i)
+
+pub record Outlinable (l s : List ℕ) (a : List Entry) : Type 0 where
+  pub tree : Term
+  pub bytes : l ≡ encode tree
+  pub least : 4 ≤ length l
+  pub depth : ℕ
+  pub shallow : depth + size tree + sweptRecords ≤ numbers
+  pub closed : Closed depth tree
+  pub below : Below variables tree
+  pub φ : ℕ → Term
+  pub gives : GivenValues s a φ tree
+
+abbrev pub Outline : List ℕ → List Entry → Term → Term → Type 0
+Outline s a t x = (φ : ℕ → Term) → GivenValues s a φ t → Fits x (sweep (fill φ t))
+
+pub record Written (s : List ℕ) (a : List Entry) (t : Term) (out : List ℕ) (n : ℕ) (after : List ℕ) : Type 0 where
+  pub skeleton : Term
+  pub bytes : after ≡ sets out 0 (encode skeleton)
+  pub sized : n ≡ size skeleton
+  pub closed : (d : ℕ) → Closed d t → Closed d skeleton
+  pub outline : Outline s a t skeleton
+
+pub record Outlined (l s : List ℕ) (a : List Entry) (out : List ℕ) (n : ℕ) (after : List ℕ) : Type 0 where
+  pub written : (t : Term) → l ≡ encode t → Written s a t out n after
+  pub some : 1 ≤ n
+  pub few : n ≤ sweptRecords
+
+pub record Comparable (c s : List ℕ) (t : ℕ) : Type 0 where
+  pub skeleton : Whole c 0
+  pub least : 4 ≤ length c
+  pub term : Whole s t
+  pub within : t + 4 ≤ length s
+
+unfoldable pub MayBe : List ℕ → List ℕ → ℕ → Bool → Type 0
+MayBe c s t true = Unit {0}
+MayBe c s t false = (x y : Term) → Part c 0 x → Part s t y → ¬ Fits x y
