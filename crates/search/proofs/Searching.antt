@@ -65,6 +65,14 @@ module _ (k : ℕ) (P W : List ℕ) (s : Agenda) (a : List Entry) (Q : Question)
     answer = λ gs hs l x. tallied-none P limit (Q gs hs l) (outcome L X done) (b .counts .upto) (d .none gs hs l x);
   }
 
+-- an answer that leaves the work area as it was
+module _ (k : ℕ) (P W : List ℕ) (s : Agenda) (a : List Entry) (limit : ℕ) (L X : List ℕ) (done : Tally) (W₁ : List ℕ) (e : W₁ ≡ W) where
+  pub begins-open : Begins k P W s a limit L X done → Begins k P W₁ s a limit L X done
+  begins-open b = subst (λ (Y : List ℕ). Begins k P Y s a limit L X done) (sym e) b
+
+  pub searched-open : (Q : Question) (W₂ L₂ X₂ : List ℕ) (r : Tally) → Searched k Q P W₁ s a limit L X done W₂ L₂ X₂ r → Searched k Q P W s a limit L X done W₂ L₂ X₂ r
+  searched-open Q W₂ L₂ X₂ r y = subst (λ (Y : List ℕ). Searched k Q P Y s a limit L X done W₂ L₂ X₂ r) e y
+
 -- no goal is left
 none-left : (K : Goal → Type 0) (P W : List ℕ) (top : ℕ) (gs : List Goal) → Chain K P W top 0 gs → gs ≡ []
 none-left K P W top [] c = refl
@@ -335,7 +343,7 @@ pub planned-searched :
     → ((gs hs : List Goal) (l : Line) → State relinking P W s a gs hs l → Copies n hs)
     → Searched relinking (Choices c 0) P W₁ s a limit L X done W₂ L₂ X₂ r → Searched relinking Sat P W s a limit L X done W₂ L₂ X₂ r
 planned-searched P W s a limit L X done c n W₁ W₂ L₂ X₂ r e w y =
-    searched-bodies P W s a limit L X done c n W₂ L₂ X₂ r w (subst (λ (Y : List ℕ). Searched relinking (Choices c 0) P Y s a limit L X done W₂ L₂ X₂ r) e y)
+    searched-bodies P W s a limit L X done c n W₂ L₂ X₂ r w (searched-open relinking P W s a limit L X done W₁ e (Choices c 0) W₂ L₂ X₂ r y)
 
 -- another goal first
 module _ (P W : List ℕ) (s : Agenda) (a : List Entry) (limit : ℕ) (L X : List ℕ) (done : Tally) (W₁ : List ℕ) (s₁ : Agenda) (f : Forwarded P W s a W₁ s₁) where

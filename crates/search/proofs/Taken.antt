@@ -12,9 +12,10 @@ use Rattle.agenda.specs.declared.Agenda.{Agenda}
 use Rattle.agenda.specs.declared.Binding.{Binding}
 use Rattle.agenda.specs.declared.Step.{Step}
 use Rattle.agenda.specs.declared.Branch.{Branch}
+use Rattle.agenda.specs.declared.Decision.{Decision}
 use Rattle.agenda.specs.declared.Plan.{Plan}
 use Rattle.agenda.specs.State.{State, Sat, relinking}
-use Rattle.agenda.specs.Moves.{Question, Move, Failed, Stepped, Branched}
+use Rattle.agenda.specs.Moves.{Question, Move, Failed, Stepped, Branched, Decided}
 use Rattle.agenda.specs.Branches.{Copies, Planned}
 
 module _ (P W : List ℕ) (s : Agenda) (a : List Entry) (W₁ : List ℕ) where
@@ -34,6 +35,16 @@ module _ (P W : List ℕ) (s : Agenda) (a : List Entry) (W₁ : List ℕ) where
 
     pub branched-next : (s₁ : Agenda) → r ≡ Branch.Next s₁ → Move relinking P W s a Q W₁ s₁ a
     branched-next s₁ e = unfold Branched in subst (Branched P W s a Q W₁) e x
+
+  module _ (k : ℕ) (r : Decision) (x : Decided k P W s a W₁ r) where
+    pub decided-failed : r ≡ Decision.Failed → Failed k P W s a Sat W₁
+    decided-failed e = unfold Decided in subst (Decided k P W s a W₁) e x
+
+    pub decided-next : (s₁ : Agenda) → r ≡ Decision.Next s₁ → Move k P W s a Sat W₁ s₁ a
+    decided-next s₁ e = unfold Decided in subst (Decided k P W s a W₁) e x
+
+    pub decided-open : r ≡ Decision.Open → W₁ ≡ W
+    decided-open e = unfold Decided in subst (Decided k P W s a W₁) e x
 
   module _ (r : Plan) (x : Planned P W s a W₁ r) where
     pub planned-failed : r ≡ Plan.Failed → Failed relinking P W s a Sat W₁

@@ -1,13 +1,16 @@
 // The search: every match of a pattern and a recipe, line by line.
 //
-// Easy goals are taken first. When none is left, the cheapest of those put off is taken: an application in each of its ways in turn, a goal to
-// build with each choice among the copies of its argument. The functions call each other in one cycle; each call finds less room above the
-// agenda, or an earlier goal at its head, so that the search ends. The crate promises that the lines it has found are exactly the lines of some
-// list that is sound, covers every assignment and names each once, for these goals and these entries, stored one after the other; or that such
-// a list has more lines than the limit. It rests on `agenda` for single steps and on `listing` for what becomes of a found line.
+// Easy goals are taken first. When none is left, two goals put off that give the value of their variable become one easy goal. When there are
+// no such two, the cheapest of those put off is taken: it is decided if it has no open variable; else an application is taken in each of its
+// ways in turn, a goal to build with each choice among the copies of its argument. The functions call each other in one cycle; each call finds
+// less room above the agenda, or an earlier goal at its head, so that the search ends. The crate promises that the lines it has found are
+// exactly the lines of some list that is sound, covers every assignment and names each once, for these goals and these entries, stored one
+// after the other; or that such a list has more lines than the limit. It rests on `agenda` for single steps and on `listing` for what becomes
+// of a found line.
 
 use agenda::Agenda;
 use agenda::Branch;
+use agenda::Decision;
 use agenda::ITEM;
 use agenda::Item;
 use agenda::Plan;
@@ -203,8 +206,29 @@ fn build(
     }
 }
 
-// No easy goal is left: the cheapest of those put off.
-fn postponed(
+// Goes through the alternatives of the first goal put off.
+fn branch(
+    p: &[u8],
+    work: &mut [u8],
+    s: Agenda,
+    a: [Entry; 8],
+    limit: usize,
+    lines: &mut [u8],
+    values: &mut [u8],
+    done: Tally,
+) -> Tally
+    requires { ⌜ Begins relinking (now p) (now work) s a limit (now lines) (now values) done × (s .easy ≡ 0) × (0 < s .hard) ⌝ }
+    ensures { λ r. ⌜ Searched relinking Sat (now (p .entry)) (now (work .entry)) s a limit (now (lines .entry)) (now (values .entry)) done (now (work .exit)) (now (lines .exit)) (now (values .exit)) r ⌝ }
+{
+    let first = s.hard;
+    if work[first + 1] == Item::MATCH {
+        return flexible(p, work, s, a, limit, lines, values, done);
+    }
+    build(p, work, s, a, limit, lines, values, done)
+}
+
+// The cheapest of the goals put off: one without open variables is decided, any other branches.
+fn cheapest(
     p: &[u8],
     work: &mut [u8],
     s: Agenda,
@@ -218,11 +242,46 @@ fn postponed(
     ensures { λ r. ⌜ Searched 0 Sat (now (p .entry)) (now (work .entry)) s a limit (now (lines .entry)) (now (values .entry)) done (now (work .exit)) (now (lines .exit)) (now (values .exit)) r ⌝ }
 {
     let t = agenda::order::bring_forward(p, work, s, a);
-    let first = t.hard;
-    if work[first + 1] == Item::MATCH {
-        return flexible(p, work, t, a, limit, lines, values, done);
+    let decided = agenda::ground::decide(p, work, t, a);
+    match decided {
+        Decision::Failed => {
+            return done;
+        }
+        Decision::Next(next) => {
+            return search(p, work, next, a, limit, lines, values, done);
+        }
+        Decision::Open => {
+            return branch(p, work, t, a, limit, lines, values, done);
+        }
     }
-    build(p, work, t, a, limit, lines, values, done)
+}
+
+// No easy goal is left: two goals of one variable give its value, or the cheapest goal is taken.
+fn postponed(
+    p: &[u8],
+    work: &mut [u8],
+    s: Agenda,
+    a: [Entry; 8],
+    limit: usize,
+    lines: &mut [u8],
+    values: &mut [u8],
+    done: Tally,
+) -> Tally
+    requires { ⌜ Begins 0 (now p) (now work) s a limit (now lines) (now values) done × (s .easy ≡ 0) × (0 < s .hard) ⌝ }
+    ensures { λ r. ⌜ Searched 0 Sat (now (p .entry)) (now (work .entry)) s a limit (now (lines .entry)) (now (values .entry)) done (now (work .exit)) (now (lines .exit)) (now (values .exit)) r ⌝ }
+{
+    let forced = agenda::repeated::force(p, work, s, a);
+    match forced {
+        Decision::Failed => {
+            return done;
+        }
+        Decision::Next(next) => {
+            return search(p, work, next, a, limit, lines, values, done);
+        }
+        Decision::Open => {
+            return cheapest(p, work, s, a, limit, lines, values, done);
+        }
+    }
 }
 
 // All lines for the goals and the entries, counted from `done` on and written where they fit; it stops when there are more than `limit`.

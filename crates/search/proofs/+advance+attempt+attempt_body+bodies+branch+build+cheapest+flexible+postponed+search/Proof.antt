@@ -6,47 +6,55 @@ use mathlib.Core.Path.{refl, _∙_}
 use native.Mathlib.Omega.{arith}
 use lib.ListN.{length-set}
 use Rattle.agenda.specs.Moves.{progress}
-use Rattle.search.proofs.Taken.{stepped-failed, stepped-left, stepped-assign, branched-failed, branched-next, planned-failed, planned-next, planned-bodies}
-use Rattle.search.proofs.Searching.{begins-move, searched-move, searched-failed, finds, searched-found, Going, going-start, begins-going, going-next, going-end, going-stop, searched-last, searched-stop, choosing-next, searched-both, begins-forwarded, searched-forwarded, begins-kept, matches-kept, counted-kept, builds-kept, planned-begins, planned-searched}
+use Rattle.search.proofs.Taken.{stepped-failed, stepped-left, stepped-assign, branched-failed, branched-next, decided-failed, decided-next, decided-open, planned-failed, planned-next, planned-bodies}
+use Rattle.search.proofs.Searching.{begins-move, searched-move, searched-failed, finds, searched-found, begins-open, searched-open, Going, going-start, begins-going, going-next, going-end, going-stop, searched-last, searched-stop, choosing-next, searched-both, begins-forwarded, searched-forwarded, begins-kept, matches-kept, counted-kept, builds-kept, planned-begins, planned-searched}
 use borrow.Author.Needs.{needs}
 use Prim.Native.Nat.{ℕ, _<_}
 use borrow.Fn.Kinds.{In}
 use borrow.Fn.PlainCycle.{Measures, is, falls, and}
 use Rattle.search.proofs.advance.Reads as advance
 use Rattle.search.proofs.advance.Kinds as advance-kinds
-use Rattle.search.proofs.+advance+attempt+attempt_body+bodies+build+flexible+postponed+search.Lts-advance as advance-lts
+use Rattle.search.proofs.+advance+attempt+attempt_body+bodies+branch+build+cheapest+flexible+postponed+search.Lts-advance as advance-lts
 use Rattle.search.proofs.attempt.Reads as attempt
 use Rattle.search.proofs.attempt.Kinds as attempt-kinds
-use Rattle.search.proofs.+advance+attempt+attempt_body+bodies+build+flexible+postponed+search.Lts-attempt as attempt-lts
+use Rattle.search.proofs.+advance+attempt+attempt_body+bodies+branch+build+cheapest+flexible+postponed+search.Lts-attempt as attempt-lts
 use Rattle.search.proofs.attempt_body.Reads as attempt-body
 use Rattle.search.proofs.attempt_body.Kinds as attempt-body-kinds
-use Rattle.search.proofs.+advance+attempt+attempt_body+bodies+build+flexible+postponed+search.Lts-attempt_body as attempt-body-lts
+use Rattle.search.proofs.+advance+attempt+attempt_body+bodies+branch+build+cheapest+flexible+postponed+search.Lts-attempt_body as attempt-body-lts
 use Rattle.search.proofs.bodies.Reads as bodies
 use Rattle.search.proofs.bodies.Kinds as bodies-kinds
-use Rattle.search.proofs.+advance+attempt+attempt_body+bodies+build+flexible+postponed+search.Lts-bodies as bodies-lts
+use Rattle.search.proofs.+advance+attempt+attempt_body+bodies+branch+build+cheapest+flexible+postponed+search.Lts-bodies as bodies-lts
+use Rattle.search.proofs.branch.Reads as branch
+use Rattle.search.proofs.branch.Kinds as branch-kinds
+use Rattle.search.proofs.+advance+attempt+attempt_body+bodies+branch+build+cheapest+flexible+postponed+search.Lts-branch as branch-lts
 use Rattle.search.proofs.build.Reads as build
 use Rattle.search.proofs.build.Kinds as build-kinds
-use Rattle.search.proofs.+advance+attempt+attempt_body+bodies+build+flexible+postponed+search.Lts-build as build-lts
+use Rattle.search.proofs.+advance+attempt+attempt_body+bodies+branch+build+cheapest+flexible+postponed+search.Lts-build as build-lts
+use Rattle.search.proofs.cheapest.Reads as cheapest
+use Rattle.search.proofs.cheapest.Kinds as cheapest-kinds
+use Rattle.search.proofs.+advance+attempt+attempt_body+bodies+branch+build+cheapest+flexible+postponed+search.Lts-cheapest as cheapest-lts
 use Rattle.search.proofs.flexible.Reads as flexible
 use Rattle.search.proofs.flexible.Kinds as flexible-kinds
-use Rattle.search.proofs.+advance+attempt+attempt_body+bodies+build+flexible+postponed+search.Lts-flexible as flexible-lts
+use Rattle.search.proofs.+advance+attempt+attempt_body+bodies+branch+build+cheapest+flexible+postponed+search.Lts-flexible as flexible-lts
 use Rattle.search.proofs.postponed.Reads as postponed
 use Rattle.search.proofs.postponed.Kinds as postponed-kinds
-use Rattle.search.proofs.+advance+attempt+attempt_body+bodies+build+flexible+postponed+search.Lts-postponed as postponed-lts
+use Rattle.search.proofs.+advance+attempt+attempt_body+bodies+branch+build+cheapest+flexible+postponed+search.Lts-postponed as postponed-lts
 use Rattle.search.proofs.search.Reads as search′
 use Rattle.search.proofs.search.Kinds as search-kinds
-use Rattle.search.proofs.+advance+attempt+attempt_body+bodies+build+flexible+postponed+search.Lts-search as search-lts
+use Rattle.search.proofs.+advance+attempt+attempt_body+bodies+branch+build+cheapest+flexible+postponed+search.Lts-search as search-lts
 use Rattle.agenda.proofs.alternatives.way.Reads as way-reads
 use Rattle.agenda.proofs.alternatives.ways.Reads as ways-reads
 use Rattle.agenda.proofs.builds.body.Reads as body-reads
 use Rattle.agenda.proofs.builds.plan.Reads as plan-reads
+use Rattle.agenda.proofs.ground.decide.Reads as decide-reads
 use Rattle.agenda.proofs.order.bring_forward.Reads as bring-forward-reads
+use Rattle.agenda.proofs.repeated.force.Reads as force-reads
 use Rattle.agenda.proofs.steps.step.Reads as step-reads
 use Rattle.listing.proofs.found.Reads as found-reads
-use Rattle.search.proofs.+advance+attempt+attempt_body+bodies+build+flexible+postponed+search.{
+use Rattle.search.proofs.+advance+attempt+attempt_body+bodies+branch+build+cheapest+flexible+postponed+search.{
   statement,
 }
-use Rattle.search.proofs.+advance+attempt+attempt_body+bodies+build+flexible+postponed+search.Tie.{
+use Rattle.search.proofs.+advance+attempt+attempt_body+bodies+branch+build+cheapest+flexible+postponed+search.Tie.{
   close,
 }
 
@@ -62,11 +70,17 @@ abbrev μ-attempt-body : Measures 4 attempt-body-kinds.ps ℕ
 abbrev μ-bodies : Measures 4 bodies-kinds.ps ℕ
 μ-bodies κs a = 1000 * progress (a .1 .1 .0) + 600 + (160 - (a .1 .1 .1 .1 .1 .0))
 
+abbrev μ-branch : Measures 4 branch-kinds.ps ℕ
+μ-branch κs a = 1000 * progress (a .1 .1 .0) + 896
+
 abbrev μ-build : Measures 4 build-kinds.ps ℕ
-μ-build κs a = 1000 * progress (a .1 .1 .0) + 897
+μ-build κs a = 1000 * progress (a .1 .1 .0) + 895
+
+abbrev μ-cheapest : Measures 4 cheapest-kinds.ps ℕ
+μ-cheapest κs a = 1000 * progress (a .1 .1 .0) + 897
 
 abbrev μ-flexible : Measures 4 flexible-kinds.ps ℕ
-μ-flexible κs a = 1000 * progress (a .1 .1 .0) + 897
+μ-flexible κs a = 1000 * progress (a .1 .1 .0) + 895
 
 abbrev μ-postponed : Measures 4 postponed-kinds.ps ℕ
 μ-postponed κs a = 1000 * progress (a .1 .1 .0) + 898
@@ -104,11 +118,24 @@ bodies-at t = and 4 bodies-kinds.ps (is 4 bodies-kinds.ps μ-bodies t) bodies.Pr
 abbrev bodies-below : ℕ → In 4 bodies-kinds.ps
 bodies-below t = and 4 bodies-kinds.ps (falls 4 bodies-kinds.ps _<_ μ-bodies t) bodies.Pre
 
+abbrev branch-at : ℕ → In 4 branch-kinds.ps
+branch-at t = and 4 branch-kinds.ps (is 4 branch-kinds.ps μ-branch t) branch.Pre
+
+abbrev branch-below : ℕ → In 4 branch-kinds.ps
+branch-below t = and 4 branch-kinds.ps (falls 4 branch-kinds.ps _<_ μ-branch t) branch.Pre
+
 abbrev build-at : ℕ → In 4 build-kinds.ps
 build-at t = and 4 build-kinds.ps (is 4 build-kinds.ps μ-build t) build.Pre
 
 abbrev build-below : ℕ → In 4 build-kinds.ps
 build-below t = and 4 build-kinds.ps (falls 4 build-kinds.ps _<_ μ-build t) build.Pre
+
+abbrev cheapest-at : ℕ → In 4 cheapest-kinds.ps
+cheapest-at t = and 4 cheapest-kinds.ps (is 4 cheapest-kinds.ps μ-cheapest t) cheapest.Pre
+
+abbrev cheapest-below : ℕ → In 4 cheapest-kinds.ps
+cheapest-below t =
+    and 4 cheapest-kinds.ps (falls 4 cheapest-kinds.ps _<_ μ-cheapest t) cheapest.Pre
 
 abbrev flexible-at : ℕ → In 4 flexible-kinds.ps
 flexible-at t = and 4 flexible-kinds.ps (is 4 flexible-kinds.ps μ-flexible t) flexible.Pre
@@ -586,6 +613,102 @@ bodies-returns-3 : (t : ℕ) → bodies-lts.Need-returns-3 (
 ) (bodies-at t) bodies.Post
 bodies-returns-3 t c = searched-both _ _ _ _ _ _ _ _ _ _ _ (c .before .before .before .before .before .before .before .before .before .before .before .before .before .before .before .before .before .before .before .before .before .before .before .before .before .before .before .pre .1 .2) (c .before .before .before .before .before .before .before .before .before .before .before .before .before .before .before .before .before .before .before .before .before .before .if1 .left) _ _ _ _ (c .before .before .before .before .before .before .before .before .before .before .before .before .before .before .before .before .before .before .bodies .ensures) (c .before .before .before .before .before .before .before .before .before .before .before .before .before .before .before .before .before .before .before .before .before .before .before .before .before .before .before .pre .1 .0) (omega arith) (c .before .before .before .before .before .before .before .before .before .before .if2 .left) _ _ _ _ (c .before .before .before .before .before .before .bodies2 .ensures)
 
+branch-add-if1 : (t : ℕ) → branch-lts.Need-add-if1 (
+  flexible-below t,
+  flexible.Post,
+  build-below t,
+  build.Post,
+) (branch-at t) branch.Post
+branch-add-if1 t c = omega (arith, c .before .before .before .before .pre .1 .0 .ready .bounds .hard-room, c .before .before .before .before .pre .1 .0 .ready .bounds .top)
+
+branch-slice-read-if1 : (t : ℕ) → branch-lts.Need-slice-read-if1 (
+  flexible-below t,
+  flexible.Post,
+  build-below t,
+  build.Post,
+) (branch-at t) branch.Post
+branch-slice-read-if1 t c = search needs
+
+branch-flexible-requires : (t : ℕ) → branch-lts.Need-flexible-requires (
+  flexible-below t,
+  flexible.Post,
+  build-below t,
+  build.Post,
+) (branch-at t) branch.Post
+branch-flexible-requires t c κs = (omega arith, (c .before .before .before .before .before .before .before .before .before .pre .1 .0, record { ready = c .before .before .before .before .before .before .before .before .before .pre .1 .0 .ready; some-hard = c .before .before .before .before .before .before .before .before .before .pre .1 .2; kind = c .before .before .before .if1 .taken }))
+
+branch-same-length : (t : ℕ) → branch-lts.Need-same-length (
+  flexible-below t,
+  flexible.Post,
+  build-below t,
+  build.Post,
+) (branch-at t) branch.Post
+branch-same-length t c = search needs
+
+branch-same-length-2 : (t : ℕ) → branch-lts.Need-same-length-2 (
+  flexible-below t,
+  flexible.Post,
+  build-below t,
+  build.Post,
+) (branch-at t) branch.Post
+branch-same-length-2 t c = search needs
+
+branch-same-length-3 : (t : ℕ) → branch-lts.Need-same-length-3 (
+  flexible-below t,
+  flexible.Post,
+  build-below t,
+  build.Post,
+) (branch-at t) branch.Post
+branch-same-length-3 t c = search needs
+
+branch-returns : (t : ℕ) → branch-lts.Need-returns (
+  flexible-below t,
+  flexible.Post,
+  build-below t,
+  build.Post,
+) (branch-at t) branch.Post
+branch-returns t c = search needs
+
+branch-build-requires : (t : ℕ) → branch-lts.Need-build-requires (
+  flexible-below t,
+  flexible.Post,
+  build-below t,
+  build.Post,
+) (branch-at t) branch.Post
+branch-build-requires t c κs = (omega arith, (c .before .before .before .before .before .before .before .before .before .pre .1 .0, record { none-easy = c .before .before .before .before .before .before .before .before .before .pre .1 .1; some-hard = c .before .before .before .before .before .before .before .before .before .pre .1 .2; kind = c .before .before .before .if1 .left }))
+
+branch-same-length-4 : (t : ℕ) → branch-lts.Need-same-length-4 (
+  flexible-below t,
+  flexible.Post,
+  build-below t,
+  build.Post,
+) (branch-at t) branch.Post
+branch-same-length-4 t c = search needs
+
+branch-same-length-5 : (t : ℕ) → branch-lts.Need-same-length-5 (
+  flexible-below t,
+  flexible.Post,
+  build-below t,
+  build.Post,
+) (branch-at t) branch.Post
+branch-same-length-5 t c = search needs
+
+branch-same-length-6 : (t : ℕ) → branch-lts.Need-same-length-6 (
+  flexible-below t,
+  flexible.Post,
+  build-below t,
+  build.Post,
+) (branch-at t) branch.Post
+branch-same-length-6 t c = search needs
+
+branch-returns-2 : (t : ℕ) → branch-lts.Need-returns-2 (
+  flexible-below t,
+  flexible.Post,
+  build-below t,
+  build.Post,
+) (branch-at t) branch.Post
+branch-returns-2 t c = search needs
+
 build-plan-requires : (t : ℕ) → build-lts.Need-plan-requires (
   plan-reads.Asked,
   plan-reads.Learnt,
@@ -746,6 +869,210 @@ build-returns-3 : (t : ℕ) → build-lts.Need-returns-3 (
 ) (build-at t) build.Post
 build-returns-3 t c = let m = planned-bodies _ _ _ _ _ _ (c .before .before .before .before .before .before .before .before .before .before .before .before .before .before .before .plan .ensures) _ (c .before .before .before .before .before .before .before .before .before .before .before .planned2 .given .1) in planned-searched _ _ _ _ _ _ _ _ _ _ _ _ _ _ _ (m .0) (m .2) (c .before .before .before .before .before .before .bodies .ensures)
 
+cheapest-bring-forward-requires : (t : ℕ) → cheapest-lts.Need-bring-forward-requires (
+  bring-forward-reads.Asked,
+  bring-forward-reads.Learnt,
+  decide-reads.Asked,
+  decide-reads.Learnt,
+  search-below t,
+  search′.Post,
+  branch-below t,
+  branch.Post,
+) (cheapest-at t) cheapest.Post
+cheapest-bring-forward-requires t c κs = (c .before .before .before .before .before .pre .1 .0 .ready, c .before .before .before .before .before .pre .1 .1, c .before .before .before .before .before .pre .1 .2)
+
+cheapest-decide-requires : (t : ℕ) → cheapest-lts.Need-decide-requires (
+  bring-forward-reads.Asked,
+  bring-forward-reads.Learnt,
+  decide-reads.Asked,
+  decide-reads.Learnt,
+  search-below t,
+  search′.Post,
+  branch-below t,
+  branch.Post,
+) (cheapest-at t) cheapest.Post
+cheapest-decide-requires t c κs = let f = c .before .before .before .bring-forward .ensures in let b = begins-forwarded _ _ _ _ _ _ _ _ _ _ f (c .before .before .before .before .before .before .before .before .before .pre .1 .0) in (b .ready, f .some-hard)
+
+cheapest-enum-told : (t : ℕ) → cheapest-lts.Need-enum-told (
+  bring-forward-reads.Asked,
+  bring-forward-reads.Learnt,
+  decide-reads.Asked,
+  decide-reads.Learnt,
+  search-below t,
+  search′.Post,
+  branch-below t,
+  branch.Post,
+) (cheapest-at t) cheapest.Post
+cheapest-enum-told t c = search needs
+
+cheapest-same-length : (t : ℕ) → cheapest-lts.Need-same-length (
+  bring-forward-reads.Asked,
+  bring-forward-reads.Learnt,
+  decide-reads.Asked,
+  decide-reads.Learnt,
+  search-below t,
+  search′.Post,
+  branch-below t,
+  branch.Post,
+) (cheapest-at t) cheapest.Post
+cheapest-same-length t c = search needs
+
+cheapest-returns : (t : ℕ) → cheapest-lts.Need-returns (
+  bring-forward-reads.Asked,
+  bring-forward-reads.Learnt,
+  decide-reads.Asked,
+  decide-reads.Learnt,
+  search-below t,
+  search′.Post,
+  branch-below t,
+  branch.Post,
+) (cheapest-at t) cheapest.Post
+cheapest-returns t c = let f = c .before .before .before .before .before .before .before .before .bring-forward .ensures in searched-forwarded _ _ _ _ _ _ _ _ _ _ f _ _ _ _ (searched-failed _ _ _ _ _ _ _ _ _ _ _ (decided-failed _ _ _ _ _ _ _ (c .before .before .before .before .decide .ensures) (c .enum-told .given .1)) (begins-forwarded _ _ _ _ _ _ _ _ _ _ f (c .before .before .before .before .before .before .before .before .before .before .before .before .before .before .pre .1 .0)))
+
+cheapest-enum-known-decided : (t : ℕ) → cheapest-lts.Need-enum-known-decided (
+  bring-forward-reads.Asked,
+  bring-forward-reads.Learnt,
+  decide-reads.Asked,
+  decide-reads.Learnt,
+  search-below t,
+  search′.Post,
+  branch-below t,
+  branch.Post,
+) (cheapest-at t) cheapest.Post
+cheapest-enum-known-decided t c = search needs
+
+cheapest-search-requires : (t : ℕ) → cheapest-lts.Need-search-requires (
+  bring-forward-reads.Asked,
+  bring-forward-reads.Learnt,
+  decide-reads.Asked,
+  decide-reads.Learnt,
+  search-below t,
+  search′.Post,
+  branch-below t,
+  branch.Post,
+) (cheapest-at t) cheapest.Post
+cheapest-search-requires t c κs = let f = c .before .before .before .before .before .before .before .before .before .before .before .before .bring-forward .ensures in let m = decided-next _ _ _ _ _ _ _ (c .before .before .before .before .before .before .before .before .decide .ensures) _ (c .before .before .before .before .decided .given .1) in (omega (arith, m .falls, f .level), begins-move _ _ _ _ _ _ _ _ _ _ _ _ _ m (begins-forwarded _ _ _ _ _ _ _ _ _ _ f (c .before .before .before .before .before .before .before .before .before .before .before .before .before .before .before .before .before .before .pre .1 .0)))
+
+cheapest-same-length-2 : (t : ℕ) → cheapest-lts.Need-same-length-2 (
+  bring-forward-reads.Asked,
+  bring-forward-reads.Learnt,
+  decide-reads.Asked,
+  decide-reads.Learnt,
+  search-below t,
+  search′.Post,
+  branch-below t,
+  branch.Post,
+) (cheapest-at t) cheapest.Post
+cheapest-same-length-2 t c = search needs
+
+cheapest-same-length-3 : (t : ℕ) → cheapest-lts.Need-same-length-3 (
+  bring-forward-reads.Asked,
+  bring-forward-reads.Learnt,
+  decide-reads.Asked,
+  decide-reads.Learnt,
+  search-below t,
+  search′.Post,
+  branch-below t,
+  branch.Post,
+) (cheapest-at t) cheapest.Post
+cheapest-same-length-3 t c = search needs
+
+cheapest-same-length-4 : (t : ℕ) → cheapest-lts.Need-same-length-4 (
+  bring-forward-reads.Asked,
+  bring-forward-reads.Learnt,
+  decide-reads.Asked,
+  decide-reads.Learnt,
+  search-below t,
+  search′.Post,
+  branch-below t,
+  branch.Post,
+) (cheapest-at t) cheapest.Post
+cheapest-same-length-4 t c = search needs
+
+cheapest-returns-2 : (t : ℕ) → cheapest-lts.Need-returns-2 (
+  bring-forward-reads.Asked,
+  bring-forward-reads.Learnt,
+  decide-reads.Asked,
+  decide-reads.Learnt,
+  search-below t,
+  search′.Post,
+  branch-below t,
+  branch.Post,
+) (cheapest-at t) cheapest.Post
+cheapest-returns-2 t c = let f = c .before .before .before .before .before .before .before .before .before .before .before .before .before .before .before .before .before .before .before .bring-forward .ensures in let m = decided-next _ _ _ _ _ _ _ (c .before .before .before .before .before .before .before .before .before .before .before .before .before .before .before .decide .ensures) _ (c .before .before .before .before .before .before .before .before .before .before .before .decided .given .1) in searched-forwarded _ _ _ _ _ _ _ _ _ _ f _ _ _ _ (searched-move _ _ _ _ _ _ _ _ _ _ _ _ _ _ _ _ _ m (c .before .before .before .before .before .before .search .ensures))
+
+cheapest-enum-told-2 : (t : ℕ) → cheapest-lts.Need-enum-told-2 (
+  bring-forward-reads.Asked,
+  bring-forward-reads.Learnt,
+  decide-reads.Asked,
+  decide-reads.Learnt,
+  search-below t,
+  search′.Post,
+  branch-below t,
+  branch.Post,
+) (cheapest-at t) cheapest.Post
+cheapest-enum-told-2 t c = search needs
+
+cheapest-branch-requires : (t : ℕ) → cheapest-lts.Need-branch-requires (
+  bring-forward-reads.Asked,
+  bring-forward-reads.Learnt,
+  decide-reads.Asked,
+  decide-reads.Learnt,
+  search-below t,
+  search′.Post,
+  branch-below t,
+  branch.Post,
+) (cheapest-at t) cheapest.Post
+cheapest-branch-requires t c κs = let f = c .before .before .before .before .before .before .before .before .before .before .before .bring-forward .ensures in let e = decided-open _ _ _ _ _ _ _ (c .before .before .before .before .before .before .before .decide .ensures) (c .before .before .before .enum-told2 .given .1) in (omega (arith, f .level), (begins-open _ _ _ _ _ _ _ _ _ _ e (begins-forwarded _ _ _ _ _ _ _ _ _ _ f (c .before .before .before .before .before .before .before .before .before .before .before .before .before .before .before .before .before .pre .1 .0)), f .none-easy, f .some-hard))
+
+cheapest-same-length-5 : (t : ℕ) → cheapest-lts.Need-same-length-5 (
+  bring-forward-reads.Asked,
+  bring-forward-reads.Learnt,
+  decide-reads.Asked,
+  decide-reads.Learnt,
+  search-below t,
+  search′.Post,
+  branch-below t,
+  branch.Post,
+) (cheapest-at t) cheapest.Post
+cheapest-same-length-5 t c = search needs
+
+cheapest-same-length-6 : (t : ℕ) → cheapest-lts.Need-same-length-6 (
+  bring-forward-reads.Asked,
+  bring-forward-reads.Learnt,
+  decide-reads.Asked,
+  decide-reads.Learnt,
+  search-below t,
+  search′.Post,
+  branch-below t,
+  branch.Post,
+) (cheapest-at t) cheapest.Post
+cheapest-same-length-6 t c = search needs
+
+cheapest-same-length-7 : (t : ℕ) → cheapest-lts.Need-same-length-7 (
+  bring-forward-reads.Asked,
+  bring-forward-reads.Learnt,
+  decide-reads.Asked,
+  decide-reads.Learnt,
+  search-below t,
+  search′.Post,
+  branch-below t,
+  branch.Post,
+) (cheapest-at t) cheapest.Post
+cheapest-same-length-7 t c = search needs
+
+cheapest-returns-3 : (t : ℕ) → cheapest-lts.Need-returns-3 (
+  bring-forward-reads.Asked,
+  bring-forward-reads.Learnt,
+  decide-reads.Asked,
+  decide-reads.Learnt,
+  search-below t,
+  search′.Post,
+  branch-below t,
+  branch.Post,
+) (cheapest-at t) cheapest.Post
+cheapest-returns-3 t c = let f = c .before .before .before .before .before .before .before .before .before .before .before .before .before .before .before .before .before .before .bring-forward .ensures in let e = decided-open _ _ _ _ _ _ _ (c .before .before .before .before .before .before .before .before .before .before .before .before .before .before .decide .ensures) (c .before .before .before .before .before .before .before .before .before .before .enum-told2 .given .1) in searched-forwarded _ _ _ _ _ _ _ _ _ _ f _ _ _ _ (searched-open _ _ _ _ _ _ _ _ _ _ e _ _ _ _ _ (c .before .before .before .before .before .before .branch .ensures))
+
 abbrev flexible-Inv-loop : flexible-lts.InvT-loop
 flexible-Inv-loop p work₀ s a limit lines₀ values₀ w found₀ i₀ work lines values found i = Going p work₀ s a limit lines₀ values₀ found₀ (w .count) i work lines values found
 
@@ -864,135 +1191,165 @@ flexible-returns-2 : (t : ℕ) → flexible-lts.Need-returns-2 (
 ) (flexible-at t) flexible.Post flexible-Inv-loop flexible-μ-loop
 flexible-returns-2 t c = going-end _ _ _ _ _ _ _ _ _ (c .before .before .before .before .before .before .before .before .before .pre .1 .0) _ _ _ _ _ (c .before .before .loop .inv) (c .before .before .before .ways .ensures .ways) (c .if1 .left)
 
-postponed-bring-forward-requires : (t : ℕ) → postponed-lts.Need-bring-forward-requires (
-  bring-forward-reads.Asked,
-  bring-forward-reads.Learnt,
-  flexible-below t,
-  flexible.Post,
-  build-below t,
-  build.Post,
+postponed-force-requires : (t : ℕ) → postponed-lts.Need-force-requires (
+  force-reads.Asked,
+  force-reads.Learnt,
+  search-below t,
+  search′.Post,
+  cheapest-below t,
+  cheapest.Post,
 ) (postponed-at t) postponed.Post
-postponed-bring-forward-requires t c κs = (c .before .before .before .before .before .pre .1 .0 .ready, c .before .before .before .before .before .pre .1 .1, c .before .before .before .before .before .pre .1 .2)
+postponed-force-requires t c κs = (c .before .before .before .before .before .pre .1 .0 .ready, c .before .before .before .before .before .pre .1 .1)
 
-postponed-add-if1 : (t : ℕ) → postponed-lts.Need-add-if1 (
-  bring-forward-reads.Asked,
-  bring-forward-reads.Learnt,
-  flexible-below t,
-  flexible.Post,
-  build-below t,
-  build.Post,
+postponed-enum-told : (t : ℕ) → postponed-lts.Need-enum-told (
+  force-reads.Asked,
+  force-reads.Learnt,
+  search-below t,
+  search′.Post,
+  cheapest-below t,
+  cheapest.Post,
 ) (postponed-at t) postponed.Post
-postponed-add-if1 t c = omega (arith, c .before .before .bring-forward .ensures .bounds .hard-room, c .before .before .bring-forward .ensures .bounds .top)
-
-postponed-slice-read-if1 : (t : ℕ) → postponed-lts.Need-slice-read-if1 (
-  bring-forward-reads.Asked,
-  bring-forward-reads.Learnt,
-  flexible-below t,
-  flexible.Post,
-  build-below t,
-  build.Post,
-) (postponed-at t) postponed.Post
-postponed-slice-read-if1 t c = search needs
-
-postponed-flexible-requires : (t : ℕ) → postponed-lts.Need-flexible-requires (
-  bring-forward-reads.Asked,
-  bring-forward-reads.Learnt,
-  flexible-below t,
-  flexible.Post,
-  build-below t,
-  build.Post,
-) (postponed-at t) postponed.Post
-postponed-flexible-requires t c κs = let f = c .before .before .before .before .before .before .before .bring-forward .ensures in let b = begins-forwarded _ _ _ _ _ _ _ _ _ _ f (c .before .before .before .before .before .before .before .before .before .before .before .before .before .pre .1 .0) in (omega (arith, f .level), (b, record { ready = b .ready; some-hard = f .some-hard; kind = c .before .before .before .if1 .taken }))
+postponed-enum-told t c = search needs
 
 postponed-same-length : (t : ℕ) → postponed-lts.Need-same-length (
-  bring-forward-reads.Asked,
-  bring-forward-reads.Learnt,
-  flexible-below t,
-  flexible.Post,
-  build-below t,
-  build.Post,
+  force-reads.Asked,
+  force-reads.Learnt,
+  search-below t,
+  search′.Post,
+  cheapest-below t,
+  cheapest.Post,
 ) (postponed-at t) postponed.Post
 postponed-same-length t c = search needs
 
+postponed-returns : (t : ℕ) → postponed-lts.Need-returns (
+  force-reads.Asked,
+  force-reads.Learnt,
+  search-below t,
+  search′.Post,
+  cheapest-below t,
+  cheapest.Post,
+) (postponed-at t) postponed.Post
+postponed-returns t c = searched-failed _ _ _ _ _ _ _ _ _ _ _ (decided-failed _ _ _ _ _ _ _ (c .before .before .before .before .force .ensures) (c .enum-told .given .1)) (c .before .before .before .before .before .before .before .before .before .before .pre .1 .0)
+
+postponed-enum-known-forced : (t : ℕ) → postponed-lts.Need-enum-known-forced (
+  force-reads.Asked,
+  force-reads.Learnt,
+  search-below t,
+  search′.Post,
+  cheapest-below t,
+  cheapest.Post,
+) (postponed-at t) postponed.Post
+postponed-enum-known-forced t c = search needs
+
+postponed-search-requires : (t : ℕ) → postponed-lts.Need-search-requires (
+  force-reads.Asked,
+  force-reads.Learnt,
+  search-below t,
+  search′.Post,
+  cheapest-below t,
+  cheapest.Post,
+) (postponed-at t) postponed.Post
+postponed-search-requires t c κs = let m = decided-next _ _ _ _ _ _ _ (c .before .before .before .before .before .before .before .before .force .ensures) _ (c .before .before .before .before .forced .given .1) in (omega (arith, m .falls), begins-move _ _ _ _ _ _ _ _ _ _ _ _ _ m (c .before .before .before .before .before .before .before .before .before .before .before .before .before .before .pre .1 .0))
+
 postponed-same-length-2 : (t : ℕ) → postponed-lts.Need-same-length-2 (
-  bring-forward-reads.Asked,
-  bring-forward-reads.Learnt,
-  flexible-below t,
-  flexible.Post,
-  build-below t,
-  build.Post,
+  force-reads.Asked,
+  force-reads.Learnt,
+  search-below t,
+  search′.Post,
+  cheapest-below t,
+  cheapest.Post,
 ) (postponed-at t) postponed.Post
 postponed-same-length-2 t c = search needs
 
 postponed-same-length-3 : (t : ℕ) → postponed-lts.Need-same-length-3 (
-  bring-forward-reads.Asked,
-  bring-forward-reads.Learnt,
-  flexible-below t,
-  flexible.Post,
-  build-below t,
-  build.Post,
+  force-reads.Asked,
+  force-reads.Learnt,
+  search-below t,
+  search′.Post,
+  cheapest-below t,
+  cheapest.Post,
 ) (postponed-at t) postponed.Post
 postponed-same-length-3 t c = search needs
 
-postponed-returns : (t : ℕ) → postponed-lts.Need-returns (
-  bring-forward-reads.Asked,
-  bring-forward-reads.Learnt,
-  flexible-below t,
-  flexible.Post,
-  build-below t,
-  build.Post,
-) (postponed-at t) postponed.Post
-postponed-returns t c = searched-forwarded _ _ _ _ _ _ _ _ _ _ (c .before .before .before .before .before .before .before .before .before .before .before .before .before .before .bring-forward .ensures) _ _ _ _ (c .before .before .before .before .before .before .flexible .ensures)
-
-postponed-build-requires : (t : ℕ) → postponed-lts.Need-build-requires (
-  bring-forward-reads.Asked,
-  bring-forward-reads.Learnt,
-  flexible-below t,
-  flexible.Post,
-  build-below t,
-  build.Post,
-) (postponed-at t) postponed.Post
-postponed-build-requires t c κs = let f = c .before .before .before .before .before .before .before .bring-forward .ensures in (omega (arith, f .level), (begins-forwarded _ _ _ _ _ _ _ _ _ _ f (c .before .before .before .before .before .before .before .before .before .before .before .before .before .pre .1 .0), record { none-easy = f .none-easy; some-hard = f .some-hard; kind = c .before .before .before .if1 .left }))
-
 postponed-same-length-4 : (t : ℕ) → postponed-lts.Need-same-length-4 (
-  bring-forward-reads.Asked,
-  bring-forward-reads.Learnt,
-  flexible-below t,
-  flexible.Post,
-  build-below t,
-  build.Post,
+  force-reads.Asked,
+  force-reads.Learnt,
+  search-below t,
+  search′.Post,
+  cheapest-below t,
+  cheapest.Post,
 ) (postponed-at t) postponed.Post
 postponed-same-length-4 t c = search needs
 
+postponed-returns-2 : (t : ℕ) → postponed-lts.Need-returns-2 (
+  force-reads.Asked,
+  force-reads.Learnt,
+  search-below t,
+  search′.Post,
+  cheapest-below t,
+  cheapest.Post,
+) (postponed-at t) postponed.Post
+postponed-returns-2 t c = let m = decided-next _ _ _ _ _ _ _ (c .before .before .before .before .before .before .before .before .before .before .before .before .before .before .before .force .ensures) _ (c .before .before .before .before .before .before .before .before .before .before .before .forced .given .1) in searched-move _ _ _ _ _ _ _ _ _ _ _ _ _ _ _ _ _ m (c .before .before .before .before .before .before .search .ensures)
+
+postponed-enum-told-2 : (t : ℕ) → postponed-lts.Need-enum-told-2 (
+  force-reads.Asked,
+  force-reads.Learnt,
+  search-below t,
+  search′.Post,
+  cheapest-below t,
+  cheapest.Post,
+) (postponed-at t) postponed.Post
+postponed-enum-told-2 t c = search needs
+
+postponed-cheapest-requires : (t : ℕ) → postponed-lts.Need-cheapest-requires (
+  force-reads.Asked,
+  force-reads.Learnt,
+  search-below t,
+  search′.Post,
+  cheapest-below t,
+  cheapest.Post,
+) (postponed-at t) postponed.Post
+postponed-cheapest-requires t c κs = let e = decided-open _ _ _ _ _ _ _ (c .before .before .before .before .before .before .before .force .ensures) (c .before .before .before .enum-told2 .given .1) in (omega arith, (begins-open _ _ _ _ _ _ _ _ _ _ e (c .before .before .before .before .before .before .before .before .before .before .before .before .before .pre .1 .0), c .before .before .before .before .before .before .before .before .before .before .before .before .before .pre .1 .1, c .before .before .before .before .before .before .before .before .before .before .before .before .before .pre .1 .2))
+
 postponed-same-length-5 : (t : ℕ) → postponed-lts.Need-same-length-5 (
-  bring-forward-reads.Asked,
-  bring-forward-reads.Learnt,
-  flexible-below t,
-  flexible.Post,
-  build-below t,
-  build.Post,
+  force-reads.Asked,
+  force-reads.Learnt,
+  search-below t,
+  search′.Post,
+  cheapest-below t,
+  cheapest.Post,
 ) (postponed-at t) postponed.Post
 postponed-same-length-5 t c = search needs
 
 postponed-same-length-6 : (t : ℕ) → postponed-lts.Need-same-length-6 (
-  bring-forward-reads.Asked,
-  bring-forward-reads.Learnt,
-  flexible-below t,
-  flexible.Post,
-  build-below t,
-  build.Post,
+  force-reads.Asked,
+  force-reads.Learnt,
+  search-below t,
+  search′.Post,
+  cheapest-below t,
+  cheapest.Post,
 ) (postponed-at t) postponed.Post
 postponed-same-length-6 t c = search needs
 
-postponed-returns-2 : (t : ℕ) → postponed-lts.Need-returns-2 (
-  bring-forward-reads.Asked,
-  bring-forward-reads.Learnt,
-  flexible-below t,
-  flexible.Post,
-  build-below t,
-  build.Post,
+postponed-same-length-7 : (t : ℕ) → postponed-lts.Need-same-length-7 (
+  force-reads.Asked,
+  force-reads.Learnt,
+  search-below t,
+  search′.Post,
+  cheapest-below t,
+  cheapest.Post,
 ) (postponed-at t) postponed.Post
-postponed-returns-2 t c = searched-forwarded _ _ _ _ _ _ _ _ _ _ (c .before .before .before .before .before .before .before .before .before .before .before .before .before .before .bring-forward .ensures) _ _ _ _ (c .before .before .before .before .before .before .build .ensures)
+postponed-same-length-7 t c = search needs
+
+postponed-returns-3 : (t : ℕ) → postponed-lts.Need-returns-3 (
+  force-reads.Asked,
+  force-reads.Learnt,
+  search-below t,
+  search′.Post,
+  cheapest-below t,
+  cheapest.Post,
+) (postponed-at t) postponed.Post
+postponed-returns-3 t c = let e = decided-open _ _ _ _ _ _ _ (c .before .before .before .before .before .before .before .before .before .before .before .before .before .before .force .ensures) (c .before .before .before .before .before .before .before .before .before .before .enum-told2 .given .1) in searched-open _ _ _ _ _ _ _ _ _ _ e _ _ _ _ _ (c .before .before .before .before .before .before .cheapest .ensures)
 
 search-advance-requires : (t : ℕ) → search-lts.Need-advance-requires (
   advance-below t,
@@ -1144,15 +1501,17 @@ search-returns-3 : (t : ℕ) → search-lts.Need-returns-3 (
 ) (search-at t) search′.Post
 search-returns-3 t c = searched-found _ _ _ _ _ _ _ _ (c .before .before .before .before .before .before .before .before .before .before .before .before .before .before .before .before .pre .1) _ _ _ (omega (arith, c .before .before .before .before .before .before .before .before .before .before .if1 .left)) (omega (arith, c .before .before .before .before .before .before .before .before .if2 .left)) (c .before .before .before .before .found .ensures)
 
-pub +advance+attempt+attempt-body+bodies+build+flexible+postponed+search-spec :
+pub +advance+attempt+attempt-body+bodies+branch+build+cheapest+flexible+postponed+search-spec :
     {M : Type 1} → statement M
-+advance+attempt+attempt-body+bodies+build+flexible+postponed+search-spec =
++advance+attempt+attempt-body+bodies+branch+build+cheapest+flexible+postponed+search-spec =
     close
     μ-advance
     μ-attempt
     μ-attempt-body
     μ-bodies
+    μ-branch
     μ-build
+    μ-cheapest
     μ-flexible
     μ-postponed
     μ-search
@@ -1233,6 +1592,22 @@ pub +advance+attempt+attempt-body+bodies+build+flexible+postponed+search-spec :
     (bodies-same-length-8 t)
     (bodies-same-length-9 t)
     (bodies-returns-3 t))
+    (λ t. branch-lts.spec
+    (flexible-below t, flexible.Post, build-below t, build.Post)
+    (branch-at t)
+    branch.Post
+    (branch-add-if1 t)
+    (branch-slice-read-if1 t)
+    (branch-flexible-requires t)
+    (branch-same-length t)
+    (branch-same-length-2 t)
+    (branch-same-length-3 t)
+    (branch-returns t)
+    (branch-build-requires t)
+    (branch-same-length-4 t)
+    (branch-same-length-5 t)
+    (branch-same-length-6 t)
+    (branch-returns-2 t))
     (λ t. build-lts.spec (
       plan-reads.Asked,
       plan-reads.Learnt,
@@ -1259,6 +1634,35 @@ pub +advance+attempt+attempt-body+bodies+build+flexible+postponed+search-spec :
     (build-same-length-6 t)
     (build-same-length-7 t)
     (build-returns-3 t))
+    (λ t. cheapest-lts.spec (
+      bring-forward-reads.Asked,
+      bring-forward-reads.Learnt,
+      decide-reads.Asked,
+      decide-reads.Learnt,
+      search-below t,
+      search′.Post,
+      branch-below t,
+      branch.Post,
+    )
+    (cheapest-at t)
+    cheapest.Post
+    (cheapest-bring-forward-requires t)
+    (cheapest-decide-requires t)
+    (cheapest-enum-told t)
+    (cheapest-same-length t)
+    (cheapest-returns t)
+    (cheapest-enum-known-decided t)
+    (cheapest-search-requires t)
+    (cheapest-same-length-2 t)
+    (cheapest-same-length-3 t)
+    (cheapest-same-length-4 t)
+    (cheapest-returns-2 t)
+    (cheapest-enum-told-2 t)
+    (cheapest-branch-requires t)
+    (cheapest-same-length-5 t)
+    (cheapest-same-length-6 t)
+    (cheapest-same-length-7 t)
+    (cheapest-returns-3 t))
     (λ t. flexible-lts.spec
     (ways-reads.Asked, ways-reads.Learnt, attempt-below t, attempt.Post)
     (flexible-at t)
@@ -1280,28 +1684,31 @@ pub +advance+attempt+attempt-body+bodies+build+flexible+postponed+search-spec :
     (flexible-same-length-6 t)
     (flexible-returns-2 t))
     (λ t. postponed-lts.spec (
-      bring-forward-reads.Asked,
-      bring-forward-reads.Learnt,
-      flexible-below t,
-      flexible.Post,
-      build-below t,
-      build.Post,
+      force-reads.Asked,
+      force-reads.Learnt,
+      search-below t,
+      search′.Post,
+      cheapest-below t,
+      cheapest.Post,
     )
     (postponed-at t)
     postponed.Post
-    (postponed-bring-forward-requires t)
-    (postponed-add-if1 t)
-    (postponed-slice-read-if1 t)
-    (postponed-flexible-requires t)
+    (postponed-force-requires t)
+    (postponed-enum-told t)
     (postponed-same-length t)
+    (postponed-returns t)
+    (postponed-enum-known-forced t)
+    (postponed-search-requires t)
     (postponed-same-length-2 t)
     (postponed-same-length-3 t)
-    (postponed-returns t)
-    (postponed-build-requires t)
     (postponed-same-length-4 t)
+    (postponed-returns-2 t)
+    (postponed-enum-told-2 t)
+    (postponed-cheapest-requires t)
     (postponed-same-length-5 t)
     (postponed-same-length-6 t)
-    (postponed-returns-2 t))
+    (postponed-same-length-7 t)
+    (postponed-returns-3 t))
     λ t. search-lts.spec (
       advance-below t,
       advance.Post,
