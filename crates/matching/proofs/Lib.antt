@@ -21,3 +21,4 @@ pub mod Tables
 pub mod Cases
 pub mod Contraction
 pub mod Repeated
+pub mod Ground
