@@ -11,3 +11,4 @@ pub mod Heads
 pub mod Building
 pub mod Planning
 pub mod Ordering
+pub mod Deciding

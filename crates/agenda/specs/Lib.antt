@@ -7,3 +7,4 @@ pub mod Applications
 pub mod Builds
 pub mod Opening
 pub mod Locals
+pub mod Ground

@@ -97,7 +97,7 @@ pub fn head_entry(p: &[u8], at: usize, a: [Entry; 8]) -> Entry
 }
 
 // Whether the value at byte v is an abstraction that uses its local and comes to the target with the argument put in.
-fn is_solved(work: &[u8], v: usize, argument: usize, target: usize) -> bool
+pub fn is_solved(work: &[u8], v: usize, argument: usize, target: usize) -> bool
     requires { ⌜ Solving (now work) v argument target ⌝ }
     ensures { λ r. ⌜ Solved (now (work .entry)) v argument target r ⌝ }
 {

@@ -2,15 +2,97 @@
 
 use crate::Agenda;
 use crate::Decision;
+use crate::Item;
 use assignments::Entry;
-ghost use Prim.Native.Nat.{_<_};
+use records::Ask;
+use records::Kind;
+use records::PATTERN_RECORDS;
+use records::RECORD;
+use records::Walk;
+use sweeping::Length;
+use sweeping::SWEPT_BYTES;
+ghost use Prim.Native.Nat.{_+_, _*_, _<_, _≤_};
+ghost use lib.ListN.{length};
+ghost use Rattle.records.specs.Tests.{Says, Tells};
 ghost use Rattle.agenda.specs.State.{Ready, relinking};
 ghost use Rattle.agenda.specs.Moves.{Decided};
+ghost use Rattle.agenda.specs.Ground.{HasEntries, OpenAt, AllAssigned, Comparing, Compared};
 
-// Decides the first goal put off, if its part has no open variable and the sweep of the part isn't too long.
+// Whether the k-th record of the part is an open variable.
+fn is_open(part: &[u8], k: usize, a: [Entry; 8]) -> bool
+    requires { ⌜ HasEntries (now part) × (4 * k + 4 ≤ length (now part)) ⌝ }
+    ensures { λ r. ⌜ Says r (OpenAt (now (part .entry)) a k) ⌝ }
+{
+    let at = RECORD * k;
+    if part[at] != Kind::VARIABLE.code {
+        return false;
+    }
+    let i = records::number_at(part, at);
+    let e = a[i];
+    match e {
+        Entry::Open => true,
+        Entry::Assigned(_) => false,
+    }
+}
+
+// Whether each variable of the part is assigned.
+pub fn is_ground(part: &[u8], a: [Entry; 8]) -> bool
+    requires { ⌜ HasEntries (now part) ⌝ }
+    ensures { λ r. ⌜ Tells (now (part .entry)) (AllAssigned a) r ⌝ }
+{
+    let n = part.len() / RECORD;
+    let mut k = 0;
+    while k < n {
+        if is_open(part, k, a) {
+            return false;
+        }
+        k += 1;
+    }
+    true
+}
+
+// Whether the swept part meets the goal: it is the target, or it solves the goal to build. Above the top of the agenda the work area may change.
+fn is_met(work: &mut [u8], s: Agenda, goal: Item, swept: &[u8]) -> bool
+    requires { ⌜ Comparing (now work) s goal (now swept) ⌝ }
+    ensures { λ r. ⌜ Compared (now (work .entry)) s goal (now (swept .entry)) (now (work .exit)) r ⌝ }
+{
+    let target = goal.target;
+    if goal.kind == Item::MATCH {
+        let end = records::end_at(work, target);
+        return sweeping::same_bytes(swept, &work[target..end]);
+    }
+    sweeping::copy_into(swept, work, s.top);
+    crate::builds::is_solved(work, s.top, goal.argument, target)
+}
+
+// Decides the first goal put off, if its part has no open variable and the sweep of the part isn't too long. The locals of a part are few, so
+// that those of its swept form have numbers that a record holds; that is asked for on the way to the part's end.
 pub fn decide(p: &[u8], work: &mut [u8], s: Agenda, a: [Entry; 8]) -> Decision
     requires { ⌜ Ready relinking (now p) (now work) s a × (0 < s .hard) ⌝ }
     ensures { λ r. ⌜ Decided relinking (now (p .entry)) (now (work .entry)) s a (now (work .exit)) r ⌝ }
 {
-    Decision::Open
+    let goal = crate::item_at(work, s.hard);
+    let part = goal.part;
+    let walk = records::ask_at(p, part, Ask::Below, PATTERN_RECORDS);
+    let Walk::Upto(end) = walk else {
+        return Decision::Open;
+    };
+    if !is_ground(&p[part..end], a) {
+        return Decision::Open;
+    }
+    let mut swept = [0u8; SWEPT_BYTES];
+    let length = sweeping::sweep_part(&p[part..end], work, a, &mut swept);
+    let Length::Records(n) = length else {
+        return Decision::Open;
+    };
+    let n = n * RECORD;
+    if is_met(work, s, goal, &swept[0..n]) {
+        // a record's room is left free, so that the agenda's top rises at each step
+        return Decision::Next(Agenda {
+            top: s.top + RECORD,
+            easy: s.easy,
+            hard: goal.next,
+        });
+    }
+    Decision::Failed
 }

@@ -22,3 +22,4 @@ pub mod Cases
 pub mod Contraction
 pub mod Repeated
 pub mod Skeletons
+pub mod Ground
