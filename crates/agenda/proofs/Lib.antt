@@ -7,7 +7,7 @@ pub mod Applications
 pub mod Missing
 pub mod Agreement
 pub mod Arguments
-pub mod Heads
+pub mod Solutions
 pub mod Building
 pub mod Planning
 pub mod Ordering

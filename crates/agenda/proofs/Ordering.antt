@@ -3,27 +3,30 @@
 use mathlib.Core.Path.{_≡_, refl, sym, ap, _∙_, subst}
 use mathlib.Core.Logic.{_↔_}
 use mathlib.Core.List.{List, [], _∷_}
-use Prim.Native.Nat.{ℕ, suc, _+_, _-_, _*_, _%_, _<_, _≤_}
+use Prim.Native.Nat.{ℕ, suc, _+_, _-_, _*_, _/_, _%_, _<_, _≤_}
 use native.Mathlib.Omega.{arith}
-use lib.ListN.{length}
+use lib.ListN.{length, getD, take, drop}
 use lib.Seq.{sets}
 use Rattle.terms.specs.Figures.{variables, patternRecords, tableBytes}
-use Rattle.terms.specs.Term.{Term, size, Below}
+use Rattle.terms.specs.Term.{Term, app, lam, loc, con, var, size, Below}
 use Rattle.matching.proofs.Goals.{Goal, Goal.match, Goal.build, Meets, All}
-use Rattle.records.specs.Parts.{Part, Whole}
-use Rattle.records.proofs.Parts.{whole}
+use Rattle.records.specs.Parts.{Part, Whole, Ends}
+use Rattle.records.proofs.Parts.{whole, kind-at, whole-head, whole-argument}
 use Rattle.assignments.specs.declared.Entry.{Entry}
 use Rattle.abstractions.specs.Bodies.{Counting}
+use Rattle.abstractions.proofs.Occurrences.{part-at}
 use Rattle.agenda.specs.declared.Agenda.{Agenda}
 use Rattle.agenda.specs.declared.Item.{Item}
 use Rattle.agenda.specs.Items.{itemBytes, ItemAt, Fits}
-use Rattle.agenda.specs.State.{nextAt, GoalAt, Easy, Hard, Node, Chain, weight, weights, Ready}
+use Rattle.agenda.specs.State.{patternAt, nextAt, GoalAt, Easy, Hard, Node, Chain, weight, weights, Ready}
 use Rattle.agenda.specs.Branches.{Forwarded}
-use Rattle.agenda.specs.Builds.{Heads}
+use Rattle.agenda.specs.Ground.{HasEntries}
 use Rattle.agenda.specs.Locals.{Locals}
-use Rattle.agenda.specs.Ordering.{Reaches, Reaches.here, Reaches.further, linked, Weighs, Ranks, Drops, Dropped}
+use Rattle.agenda.specs.Ordering.{Reaches, Reaches.here, Reaches.further, linked, Branches, Weighs, Ranks, Drops, Dropped}
+use Rattle.matching.proofs.Occurrences.{partAt}
 use Rattle.matching.proofs.Targets.{closed-more}
 use Rattle.agenda.proofs.Frame.{Kept, target-kept, chain-kept, holds-kept, kept-sets, kept-then, length-stored, item-stored, chain-match, chain-build}
+use Rattle.agenda.proofs.Leaves.{part-bytes}
 
 -- the goal at the front of a list, and the list behind it
 pub record First (K : Goal → Type 0) (P W : List ℕ) (top at : ℕ) (gs : List Goal) : Type 0 where
@@ -170,9 +173,6 @@ module _ {W : List ℕ} {top at i : ℕ} {r : Item} (d : Drops W top at i) (x : 
       }
 
 -- the parts of a goal whose cost is asked
-heads : (P : List ℕ) (at : ℕ) (t : Term) → Part P at t → Below variables t → Heads P at
-heads P at t x b = record { tree = t; part = x; below = b; least = omega (arith, x .some, x .within) }
-
 module _ {P W : List ℕ} {at : ℕ} {r : Item} (x : Weighs P W at) (y : ItemAt W at r) where
   pub weighs-target : Whole W (r .target)
   weighs-target = cases (x .goal) (x .stands)
@@ -181,12 +181,35 @@ module _ {P W : List ℕ} {at : ℕ} {r : Item} (x : Weighs P W at) (y : ItemAt 
       cases (match p t) z = rw (y .target) (whole W _ t (z .target .part))
       cases (build f t e) z = rw (y .target) (whole W _ t (z .target .part))
 
-  pub weighs-head : Heads P (r .part)
-  weighs-head = cases (x .goal) (x .stands)
+  pub weighs-part : Whole P (r .part)
+  weighs-part = cases (x .goal) (x .stands)
     where
-      cases : (g : Goal) → GoalAt P W (x .top) at g → Heads P (r .part)
-      cases (match p t) z = rw (y .part) (heads P _ p (z .part) (z .suits .0 .0))
-      cases (build f t e) z = rw (y .part) (heads P _ f (z .part) (z .suits .0 .0))
+      cases : (g : Goal) → GoalAt P W (x .top) at g → Whole P (r .part)
+      cases (match p t) z = rw (y .part) (whole P _ p (z .part))
+      cases (build f t e) z = rw (y .part) (whole P _ f (z .part))
+
+  pub weighs-entries : (end : ℕ) → Ends P (r .part) end → HasEntries (take (end - r .part) (drop (r .part) P))
+  weighs-entries end m = cases (x .goal) (x .stands)
+    where
+      has : (p : Term) → Part P (patternAt W at) p → Below variables p → HasEntries (take (end - r .part) (drop (r .part) P))
+      has p z b =
+          let v : Part P (r .part) p = rw (y .part) z in
+          record { tree = p; bytes = part-bytes P (r .part) (end - r .part) p v (omega (arith, m .exact p v)); below = b }
+
+      cases : (g : Goal) → GoalAt P W (x .top) at g → HasEntries (take (end - r .part) (drop (r .part) P))
+      cases (match p t) z = has p (z .part) (z .suits .0 .0)
+      cases (build f t e) z = has f (z .part) (z .suits .0 .0)
+
+  pub weighs-branches : r .kind ≡ 0 → Branches P (r .part) W (r .target)
+  weighs-branches n = record { part = weighs-part; kind = cases (x .goal) (x .stands) (x .hard); target = weighs-target; most = x .most }
+    where
+      cases : (g : Goal) → GoalAt P W (x .top) at g → Hard g → getD P (r .part) 0 ≡ 0
+      cases (match (app f a) t) z h = rw (y .part) (kind-at P (patternAt W at) (app f a) (z .part))
+      cases (match (lam b) t) z h = absurd h
+      cases (match (loc i) t) z h = absurd h
+      cases (match (con i) t) z h = absurd h
+      cases (match (var i) t) z h = absurd h
+      cases (build f t e) z h = absurd (omega (arith, y .kind, z .kind))
 
   pub weighs-copies : ¬ (r .kind ≡ 0) → Counting W (r .target) 0 (r .argument)
   weighs-copies n = cases (x .goal) (x .stands)
@@ -220,13 +243,27 @@ module _ {P W : List ℕ} {at : ℕ} {r : Item} (x : Weighs P W at) (y : ItemAt 
             };
           }
 
+-- the candidates of an application
+module _ {P W : List ℕ} {i j : ℕ} (x : Branches P i W j) where
+  pub branches-head : Whole P (i + 4)
+  branches-head = whole-head P i (x .part) (x .kind)
+
+  pub branches-argument : {h : ℕ} → Ends P (i + 4) h → Whole P h
+  branches-argument {h} e = whole-argument P i h (x .part) (x .kind) e
+
+  pub branches-part : {end : ℕ} (k : ℕ) → Ends W j end → k < (end - j) / 4 → Whole W (j + 4 * k)
+  branches-part k e h =
+      let t = x .target .tree in
+      let p = x .target .part in
+      whole W (j + 4 * k) (partAt 0 t k .1) (part-at W j 0 t k p (omega (arith, e .exact t p)))
+
 -- the steps of a walk over a list
 module _ {P W : List ℕ} {at : ℕ} (x : Ranks P W at) where
   front : First Hard P W (x .top) at (x .goals)
   front = first Hard P W (x .top) at (x .goals) (x .chain) (x .some)
 
   pub ranks-weighs : Weighs P W at
-  ranks-weighs = record { top = x .top; goal = front .goal; stands = front .node .goal; within = x .within; most = x .most; short = x .short }
+  ranks-weighs = record { top = x .top; goal = front .goal; stands = front .node .goal; hard = front .node .kind; within = x .within; most = x .most; short = x .short }
 
   pub ranks-next : {r : Item} → ItemAt W at r → ¬ (r .next ≡ 0) → Ranks P W (r .next)
   ranks-next {r} y n =

@@ -5,9 +5,6 @@
 --   afterItem s r at       the agenda when an easy goal was written at byte `at`, and the goal r was dropped from those put off
 --   Pushes W s r b         there is room for the abstraction over the body with the table b, and for a goal
 --   Pushed W s r b X s′    that abstraction was written at the top, and then the goal that the part of r sweeps to it
---   headEntry a f          the entry of the variable f; any other term has none, which is as good as open
---   Heads P at             a term stands in P from byte `at` on, and its variables have entries
---   HeadEntry P at a r     r is the entry of the term that stands in P from byte `at` on
 --   Solves x e t           the term x is an abstraction that uses its local, and comes to t with e put in
 --   Solving W v e t        terms stand in W from bytes v, e and t on
 --   Solved W v e t r       r says whether the term at byte v of W solves those at bytes e and t
@@ -17,15 +14,13 @@ use mathlib.Core.List.{List}
 use Prim.Native.Nat.{ℕ, _+_, _<_, _≤_}
 use lib.ListN.{length, getD}
 use lib.Seq.{sets}
-use Rattle.terms.specs.Figures.{variables, tableBytes}
-use Rattle.terms.specs.Term.{Term, app, lam, loc, con, var, substitute, uses, Below}
+use Rattle.terms.specs.Figures.{tableBytes}
+use Rattle.terms.specs.Term.{Term, lam, substitute, uses}
 use Rattle.terms.specs.Table.{bytes}
 use Rattle.matching.proofs.Bodies.{Some}
 use Rattle.records.specs.Parts.{Part, Whole}
 use Rattle.records.specs.Tests.{Says}
 use Rattle.abstractions.specs.Bodies.{chosenIn}
-use Rattle.assignments.specs.declared.Entry.{Entry}
-use Rattle.assignments.specs.declared.Entry.the-variants.{Open}
 use Rattle.agenda.specs.declared.Agenda.{Agenda}
 use Rattle.agenda.specs.declared.Item.{Item}
 use Rattle.agenda.specs.Items.{itemBytes}
@@ -53,23 +48,6 @@ pub record Pushes (W : List ℕ) (s : Agenda) (r : Item) (b : List ℕ) : Type 0
 pub record Pushed (W : List ℕ) (s : Agenda) (r : Item) (b : List ℕ) (X : List ℕ) (s′ : Agenda) : Type 0 where
   pub stored : X ≡ sets (sets W (s .top) (bytes 1 0 b)) (s .top + 4 + length b) (itemBytes (targetItem r (s .top) (s .easy)))
   pub agenda : s′ ≡ afterItem s r (s .top + 4 + length b)
-
--- a head that is known
-abbrev pub headEntry : List Entry → Term → Entry
-headEntry a (app f x) = Open
-headEntry a (lam b) = Open
-headEntry a (loc n) = Open
-headEntry a (con n) = Open
-headEntry a (var i) = getD a i Open
-
-pub record Heads (P : List ℕ) (at : ℕ) : Type 0 where
-  pub tree : Term
-  pub part : Part P at tree
-  pub below : Below variables tree
-  pub least : at + 4 ≤ length P
-
-pub record HeadEntry (P : List ℕ) (at : ℕ) (a : List Entry) (r : Entry) : Type 0 where
-  pub is : (f : Term) → Part P at f → r ≡ headEntry a f
 
 abbrev pub Solves : Term → Term → Term → Type 0
 Solves x e t = (b : Term) × (x ≡ lam b) × (substitute 0 e b ≡ t) × (uses 0 b ≡ true)

@@ -1,7 +1,8 @@
 -- The goals put off, as a list that is walked over and linked anew.
 --   Reaches W at i           a list that begins at byte `at` comes to the goal at byte i
 --   linked x n               the goal x with another one next
---   Weighs P W at            a goal stands in W at byte `at`
+--   Branches P i W j         an application stands in P at byte i, and a term in W at byte j
+--   Weighs P W at            a goal that may be put off stands in W at byte `at`
 --   Ranks P W at             a list of goals put off begins at byte `at`, and has one at least
 --   Drops W top at i         the goals of a list from byte `at` on can be written anew at `top`, without the one at byte i
 --   Without P X top list end g gs hs   the list at byte `list` of X, below byte `end`, has the goals hs, which are those of gs but for g
@@ -10,10 +11,11 @@ use mathlib.Core.Path.{_≡_}
 use mathlib.Core.Logic.{_↔_}
 use mathlib.Core.List.{List}
 use Prim.Native.Nat.{ℕ, _+_, _*_, _%_, _<_, _≤_}
-use lib.ListN.{length, take}
+use lib.ListN.{length, getD, take}
 use Rattle.terms.specs.Figures.{patternRecords, tableBytes}
 use Rattle.terms.specs.Term.{Term}
 use Rattle.matching.proofs.Goals.{Goal, Meets, All}
+use Rattle.records.specs.Parts.{Whole}
 use Rattle.agenda.specs.declared.Item.{Item}
 use Rattle.agenda.specs.State.{nextAt, GoalAt, Hard, Node, Chain, weight, weights}
 
@@ -24,10 +26,17 @@ pub data Reaches : List ℕ → ℕ → ℕ → Type 0 where
 abbrev pub linked : Item → ℕ → Item
 linked x n = record { part = x .part; kind = x .kind; target = x .target; next = n; argument = x .argument }
 
+pub record Branches (P : List ℕ) (i : ℕ) (W : List ℕ) (j : ℕ) : Type 0 where
+  pub part : Whole P i
+  pub kind : getD P i 0 ≡ 0
+  pub target : Whole W j
+  pub most : length W ≤ tableBytes
+
 pub record Weighs (P W : List ℕ) (at : ℕ) : Type 0 where
   pub top : ℕ
   pub goal : Goal
   pub stands : GoalAt P W top at goal
+  pub hard : Hard goal
   pub within : at + 8 ≤ length W
   pub most : length W ≤ tableBytes
   pub short : length P ≤ 4 * patternRecords

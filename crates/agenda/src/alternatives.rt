@@ -148,7 +148,7 @@ fn misses_local(p: &[u8], i: usize, work: &[u8], j: usize, e: usize) -> bool
 
 // Whether the part of p at byte i, where it has a rigid head, may sweep to the part of work at byte j, moved out of some binders. Down to
 // the head their records are of the same kinds, and the constant is the same; a local may have another number below the binders.
-fn heads_agree(p: &[u8], i: usize, work: &[u8], j: usize) -> bool
+pub fn heads_agree(p: &[u8], i: usize, work: &[u8], j: usize) -> bool
     requires { ⌜ Whole (now p) i × Whole (now work) j ⌝ }
     ensures { λ r. ⌜ Agree (now (p .entry)) i (now (work .entry)) j r ⌝ }
 {

@@ -16,7 +16,7 @@ ghost use lib.ListN.{length};
 ghost use Rattle.agenda.specs.State.{Ready, relinking};
 ghost use Rattle.agenda.specs.Branches.{Chosen, Planned};
 ghost use Rattle.agenda.specs.Moves.{Branched};
-ghost use Rattle.agenda.specs.Builds.{Builds, AnyChosen, Pushes, Pushed, Heads, HeadEntry, Solving, Solved};
+ghost use Rattle.agenda.specs.Builds.{Builds, AnyChosen, Pushes, Pushed, Solving, Solved};
 
 // The bytes of the longest target.
 pub const TARGET_BYTES: usize = 640;
@@ -84,19 +84,7 @@ pub fn body(
     Branch::Next(push_abstraction(work, s, goal, &b[0..n]))
 }
 
-// The entry of the head at byte `at` of the pattern, if it is a variable.
-pub fn head_entry(p: &[u8], at: usize, a: [Entry; 8]) -> Entry
-    requires { ⌜ Heads (now p) at ⌝ }
-    ensures { λ r. ⌜ HeadEntry (now (p .entry)) at a r ⌝ }
-{
-    if p[at] == Kind::VARIABLE.code {
-        let i = records::number_at(p, at);
-        return a[i];
-    }
-    Entry::Open
-}
-
-// Whether the value at byte v is an abstraction that uses its local and comes to the target with the argument put in.
+// Whether the term at byte v is an abstraction that uses its local and comes to the target with the argument put in.
 pub fn is_solved(work: &[u8], v: usize, argument: usize, target: usize) -> bool
     requires { ⌜ Solving (now work) v argument target ⌝ }
     ensures { λ r. ⌜ Solved (now (work .entry)) v argument target r ⌝ }
@@ -115,26 +103,13 @@ pub fn is_solved(work: &[u8], v: usize, argument: usize, target: usize) -> bool
     }
 }
 
-// What the goal comes to. A head that is assigned is met by its value or not at all. A swept head uses no local that the head doesn't use:
-// where the argument uses such a one no body keeps a copy of the argument, so that one body is left. Any other head has a body for each
-// choice among the copies.
+// What the goal comes to. A swept head uses no local that the head doesn't use: where the argument uses such a one no body keeps a copy of the
+// argument, so that one body is left. Any other head has a body for each choice among the copies.
 pub fn plan(p: &[u8], work: &mut [u8], s: Agenda, a: [Entry; 8]) -> Plan
     requires { ⌜ Ready relinking (now p) (now work) s a × Builds (now work) s ⌝ }
     ensures { λ r. ⌜ Planned (now (p .entry)) (now (work .entry)) s a (now (work .exit)) r ⌝ }
 {
     let goal = crate::item_at(work, s.hard);
-    let entry = head_entry(p, goal.part, a);
-    if let Entry::Assigned(span) = entry {
-        if is_solved(work, span.first * RECORD, goal.argument, goal.target) {
-            // a record's room is left free, so that the agenda's top rises at each step
-            return Plan::Next(Agenda {
-                top: s.top + RECORD,
-                easy: s.easy,
-                hard: goal.next,
-            });
-        }
-        return Plan::Failed;
-    }
     if crate::locals::lacks_local(p, goal.part, work, goal.argument) {
         let every = [1u8; VALUE_RECORDS];
         let branch = body(p, work, s, a, every);

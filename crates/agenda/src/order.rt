@@ -7,10 +7,11 @@ use crate::Item;
 use assignments::Entry;
 use records::RECORD;
 ghost use mathlib.Core.Path.{_≡_};
-ghost use Prim.Native.Nat.{_<_};
+ghost use Prim.Native.Nat.{_<_, _≤_};
+ghost use Rattle.records.specs.Parts.{Whole};
 ghost use Rattle.agenda.specs.State.{Ready};
 ghost use Rattle.agenda.specs.Branches.{Forwarded};
-ghost use Rattle.agenda.specs.Ordering.{Reaches, Weighs, Ranks, Drops, Dropped, linked as linkedTo};
+ghost use Rattle.agenda.specs.Ordering.{Reaches, Branches, Weighs, Ranks, Drops, Dropped, linked as linkedTo};
 
 // The cost of a goal to build whose argument has very many copies.
 const MOST_BODIES: usize = 4095;
@@ -30,26 +31,55 @@ fn bodies(copies: usize) -> usize {
     n
 }
 
-// In how many ways the goal at byte `at` goes on, about. A goal to build has its bodies: where the head is assigned none has to be gone
-// through, and where it lacks a local of the argument one is left. An application has the two ways that need no target for its argument,
-// and one for each record of its own target.
+// 1 if the part of p at byte `argument` may sweep to the part of work at byte `at`, moved out of binders, and 0 if it can't.
+fn candidate(p: &[u8], argument: usize, work: &[u8], at: usize) -> usize
+    requires { ⌜ Whole (now p) argument × Whole (now work) at ⌝ }
+    ensures { λ r. ⌜ r ≤ 1 ⌝ }
+{
+    if crate::alternatives::heads_agree(p, argument, work, at) {
+        return 1;
+    }
+    0
+}
+
+// In how many ways the application at byte `part` of p comes to the target, about: the two that need no target for its argument, and one for
+// each part of the target that the argument may sweep to. A flexible argument may sweep to any.
+fn candidates(p: &[u8], part: usize, work: &[u8], target: usize) -> usize
+    requires { ⌜ Branches (now p) part (now work) target ⌝ }
+{
+    let argument = records::end_at(p, part + RECORD);
+    let end = records::end_at(work, target);
+    let n = (end - target) / RECORD;
+    if !abstractions::is_rigid(p, argument) {
+        return 2 + n;
+    }
+    let mut count = 2;
+    let mut k = 0;
+    while k < n {
+        count += candidate(p, argument, work, target + RECORD * k);
+        k += 1;
+    }
+    count
+}
+
+// In how many ways the goal at byte `at` goes on, about. A goal without open variables is decided, and an application has its candidates. A
+// goal to build has its bodies: where the head lacks a local of the argument one is left.
 fn cost(p: &[u8], work: &[u8], at: usize, a: [Entry; 8]) -> usize
     requires { ⌜ Weighs (now p) (now work) at ⌝ }
 {
     let item = crate::item_at(work, at);
-    let target = item.target;
-    if item.kind == Item::MATCH {
-        let end = records::end_at(work, target);
-        return 2 + (end - target) / RECORD;
-    }
-    let head = crate::builds::head_entry(p, item.part, a);
-    if let Entry::Assigned(_) = head {
+    let part = item.part;
+    let end = records::end_at(p, part);
+    if crate::ground::is_ground(&p[part..end], a) {
         return 0;
     }
-    if crate::locals::lacks_local(p, item.part, work, item.argument) {
+    if item.kind == Item::MATCH {
+        return candidates(p, part, work, item.target);
+    }
+    if crate::locals::lacks_local(p, part, work, item.argument) {
         return 1;
     }
-    let copies = abstractions::copies(work, target, 0, item.argument);
+    let copies = abstractions::copies(work, item.target, 0, item.argument);
     bodies(copies.count)
 }
 

@@ -21,7 +21,7 @@ use Rattle.terms.proofs.Substitute.{by-substitute, substitute-unused, substitut
 use Rattle.matching.specs.Abstractions.{same}
 use Rattle.terms.proofs.Locals.{rigid, rigid-sweep, unused-sweep}
 use Rattle.matching.proofs.Decide.{either, either-yes, either-no}
-use Rattle.matching.proofs.Step.{lam-inj, Split, Split.parts, Split.body, constant, match-variable, match-application}
+use Rattle.matching.proofs.Step.{Split, Split.parts, Split.body, constant, match-application}
 use Rattle.matching.proofs.Splits.{candidates, in-candidates}
 use Rattle.matching.proofs.Lines.{Values}
 use Rattle.matching.proofs.Lists.{Predicate, Lists, lists-same}
@@ -165,13 +165,3 @@ build-local φ v f t e j (b, s, p, _) u c = go (uses j e) refl
     go : (x : Bool) → uses j e ≡ x → x ≡ true
     go true q = refl
     go false q = absurd (subst T (sym u ∙ ap (uses j) (sym p) ∙ unused-substitute j j 0 e b (omega arith) (sym (ap (uses j) s) ∙ unused-sweep φ v j f c) q) tt)
-
--- cut 5, the known head: where the head is a variable that is assigned, its value decides
-pub known-body : (φ : ℕ → Term) → Values φ → (i : ℕ) (t e b : Term) → φ i ≡ lam b → Build (var i) t e φ ↔ ((substitute 0 e b ≡ t) × (uses 0 b ≡ true))
-known-body φ v i t e b p = (
-  λ x. let q : x .0 ≡ b = lam-inj (x .0) b (sym (match-variable φ i (lam (x .0)) (v i) .0 (x .1)) ∙ p) in (rw q at (x .2), rw q at (x .3)),
-  λ x. (b, match-variable φ i (lam b) (v i) .1 p, x .0, x .1),
-)
-
-pub known-other : (φ : ℕ → Term) → Values φ → (i : ℕ) (t e : Term) → isAbstraction (φ i) ≡ false → ¬ Build (var i) t e φ
-known-other φ v i t e n x = subst T (ap isAbstraction (sym (match-variable φ i (lam (x .0)) (v i) .0 (x .1))) ∙ n) tt

@@ -1,7 +1,7 @@
 -- `agenda::builds::is_solved` meets its contract. The value's first record, the walk over its body and the walk over body and target decide
 -- one condition each. Assumes nothing.
 use native.Mathlib.Omega.{arith}
-use Rattle.agenda.proofs.Heads.{solved-other, body-whole, substituting, solved-unused, solved-yes, solved-no}
+use Rattle.agenda.proofs.Solutions.{solved-other, body-whole, substituting, solved-unused, solved-yes, solved-no}
 use borrow.Author.Needs.{needs}
 use Rattle.agenda.proofs.builds.is_solved.Statement.{statement}
 use Rattle.agenda.proofs.builds.is_solved.Tie as tie

@@ -1,5 +1,5 @@
 -- `agenda::order::cost` is safe. The goal's part, its target and, of a goal to build, the argument's target are terms that stand where the goal says. Assumes nothing.
-use Rattle.agenda.proofs.Ordering.{weighs-target, weighs-head, weighs-locals, weighs-copies}
+use Rattle.agenda.proofs.Ordering.{weighs-part, weighs-entries, weighs-branches, weighs-locals, weighs-copies}
 use borrow.Author.Needs.{needs}
 use Rattle.agenda.proofs.order.cost.Statement.{statement}
 use Rattle.agenda.proofs.order.cost.Tie as tie
@@ -8,37 +8,37 @@ item-at-requires : tie.Need-item-at-requires
 item-at-requires c κs = search needs
 
 end-at-requires : tie.Need-end-at-requires
-end-at-requires c κs = weighs-target (c .before .before .before .before .before .pre) (c .before .before .item-at .ensures .0)
+end-at-requires c κs = weighs-part (c .before .before .before .pre) (c .item-at .ensures .0)
 
-sub-result : tie.Need-sub-result
-sub-result c = search needs
+sub-is-ground : tie.Need-sub-is-ground
+sub-is-ground c = search needs
 
-add-result : tie.Need-add-result
-add-result c = search needs
+part-is-ground-start : tie.Need-part-is-ground-start
+part-is-ground-start c = search needs
+
+part-is-ground-end : tie.Need-part-is-ground-end
+part-is-ground-end c = search needs
+
+is-ground-requires : tie.Need-is-ground-requires
+is-ground-requires c κs = weighs-entries (c .before .before .before .before .before .pre) (c .before .before .item-at .ensures .0) _ (c .before .end-at .ensures)
 
 returns : tie.Need-returns
 returns c = search needs
 
-head-entry-requires : tie.Need-head-entry-requires
-head-entry-requires c κs = weighs-head (c .before .before .before .before .before .pre) (c .before .before .item-at .ensures .0)
-
-enum-told : tie.Need-enum-told
-enum-told c = search needs
+candidates-requires : tie.Need-candidates-requires
+candidates-requires c κs = weighs-branches (c .before .before .before .before .before .before .before .before .before .pre) (c .before .before .before .before .before .before .item-at .ensures .0) (c .if2 .taken)
 
 returns-2 : tie.Need-returns-2
 returns-2 c = search needs
 
-enum-told-2 : tie.Need-enum-told-2
-enum-told-2 c = search needs
-
 lacks-local-requires : tie.Need-lacks-local-requires
-lacks-local-requires c κs = weighs-locals (c .before .before .before .before .before .before .before .before .pre) (c .before .before .before .before .before .item-at .ensures .0) (c .before .before .before .if1 .left)
+lacks-local-requires c κs = weighs-locals (c .before .before .before .before .before .before .before .before .before .pre) (c .before .before .before .before .before .before .item-at .ensures .0) (c .if2 .left)
 
 returns-3 : tie.Need-returns-3
 returns-3 c = search needs
 
 copies-requires : tie.Need-copies-requires
-copies-requires c κs = weighs-copies (c .before .before .before .before .before .before .before .before .before .before .pre) (c .before .before .before .before .before .before .before .item-at .ensures .0) (c .before .before .before .before .before .if1 .left)
+copies-requires c κs = weighs-copies (c .before .before .before .before .before .before .before .before .before .before .before .pre) (c .before .before .before .before .before .before .before .before .item-at .ensures .0) (c .before .before .if2 .left)
 
 bodies-requires : tie.Need-bodies-requires
 bodies-requires c κs = search needs
@@ -52,13 +52,13 @@ cost-spec =
     (tie.spec
     item-at-requires
     end-at-requires
-    sub-result
-    add-result
+    sub-is-ground
+    part-is-ground-start
+    part-is-ground-end
+    is-ground-requires
     returns
-    head-entry-requires
-    enum-told
+    candidates-requires
     returns-2
-    enum-told-2
     lacks-local-requires
     returns-3
     copies-requires
