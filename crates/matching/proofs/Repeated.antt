@@ -24,7 +24,7 @@ use Rattle.terms.specs.Term.{Term, app, lam, loc, con, var, Normal, Closed, Gro
 use Rattle.terms.specs.Sweep.{sweep, contract, fill}
 use Rattle.terms.specs.Listing.{In}
 use Rattle.terms.proofs.Tests.{by-ltb, by-eqb}
-use Rattle.terms.proofs.Shift.{shift-unshift, normal-shift}
+use Rattle.terms.proofs.Shift.{shift-unshift, normal-shift, size-shift}
 use Rattle.terms.proofs.Substitute.{substitute-shift, substitute-high, normal-substitute}
 use Rattle.terms.proofs.Sweep.{sweep-normal}
 use Rattle.terms.proofs.Contracted.{Abstracted, Abstracted.out, Abstracted.kept, abstracted}
@@ -64,7 +64,7 @@ normal-contract b h = go (abstracted b)
     go (out m p u l w) = let g : Normal (app m (loc 0)) = rw p at h in rw w (rw (normal-shift 1 0 (unshift 1 0 m)) at (rw (← shift-unshift 0 m u) at (g .1)))
     go (kept o w) = rw w (lam-normal b (rw o tt) h)
 
-closed-contract : (n : ℕ) (b : Term) → Closed (suc n) b → Closed n (contract (lam b))
+pub closed-contract : (n : ℕ) (b : Term) → Closed (suc n) b → Closed n (contract (lam b))
 closed-contract n b h = go (abstracted b)
   where
     go : Abstracted b → Closed n (contract (lam b))
@@ -79,6 +79,17 @@ ground-contract b h = go (abstracted b)
     go : Abstracted b → Ground (contract (lam b))
     go (out m p u l w) = let g : Ground (app m (loc 0)) = rw p at h in rw w (rw (ground-shift 1 0 (unshift 1 0 m)) at (rw (← shift-unshift 0 m u) at (g .0)))
     go (kept o w) = rw w h
+
+size-contract : (b : Term) → size (contract (lam b)) ≤ suc (size b)
+size-contract b = go (abstracted b)
+  where
+    go : Abstracted b → size (contract (lam b)) ≤ suc (size b)
+    go (out m p u l w) = omega (arith, ap size w, ap size p, ap size (shift-unshift 0 m u), size-shift 1 0 (unshift 1 0 m))
+    go (kept o w) = omega (arith, ap size w)
+
+pub size-enclose : (n : ℕ) (b : Term) → size (enclose n b) ≤ size b + n
+size-enclose zero b = omega arith
+size-enclose (suc n) b = omega (arith, size-enclose n (contract (lam b)), size-contract b)
 
 normal-enclose : (n : ℕ) (b : Term) → Normal b → Normal (enclose n b)
 normal-enclose zero b h = h
@@ -301,6 +312,11 @@ constant-stays : (d : ℕ) (ps : List (ℕ × ℕ)) (m : ℕ) → Apart ps → a
 constant-stays d [] m h = rw (eq-eqb m m refl)
 constant-stays d (p ∷ ps) m h = rw (unlike m m p (λ q r. h .0 (sym q ∙ r))) (constant-stays (suc d) ps m (h .2))
 
+pub constants-other : (d : ℕ) (ps : List (ℕ × ℕ)) (m n : ℕ) → ¬ In (m, n) ps → atConstants d ps m n ≡ cond (eqb m n) (some (con m)) none
+constants-other d [] m n h = refl
+constants-other d (p ∷ ps) m n h =
+    rw (unlike m n p (λ x y. h (inl (ap₂ (λ i j. (i, j)) x y)))) (constants-other (suc d) ps m n (λ i. h (inr i)))
+
 -- a local that a constant replaced
 record Replaced (d k : ℕ) (ps : List (ℕ × ℕ)) : Type 0 where
   pair : ℕ × ℕ
@@ -471,10 +487,11 @@ module _ (ps : List (ℕ × ℕ)) (t u b : Term) (e : join 0 ps t u ≡ some b) 
   pub enclose-normal : Normal t → Normal (enclose (length ps) b)
   enclose-normal h = normal-enclose (length ps) b (join-normal h)
 
+  pub join-closed : (m : ℕ) → Closed m t → Closed (m + length ps) b
+  join-closed m h = closed-replace m (m + length ps) 0 (firsts ps) b (omega (arith, length-firsts ps)) (omega arith) (rw (join-sound ps 0 t u b e .0) h)
+
   pub enclose-closed : (m : ℕ) → Closed m t → Closed m (enclose (length ps) b)
-  enclose-closed m h =
-      let c = closed-replace m (m + length ps) 0 (firsts ps) b (omega (arith, length-firsts ps)) (omega arith) (rw (join-sound ps 0 t u b e .0) h) in
-      closed-enclose m (length ps) (m + length ps) b refl c
+  enclose-closed m h = closed-enclose m (length ps) (m + length ps) b refl (join-closed m h)
 
   pub enclose-ground : Ground t → Ground (enclose (length ps) b)
   enclose-ground h = ground-enclose (length ps) b (ground-replace 0 (firsts ps) b (rw (join-sound ps 0 t u b e .0) h))
