@@ -14,7 +14,7 @@ use mathlib.Core.Bool.{Bool, true, false, cond, _&&_}
 use mathlib.Core.Option.{Option, none, some, IsSome}
 use mathlib.Core.List.{List, [], _∷_}
 use mathlib.Core.Logic.{inl, inr, _↔_}
-use Prim.Native.Nat.{ℕ, zero, suc, _+_, _-_, _≤_, _<_}
+use Prim.Native.Nat.{ℕ, zero, suc, _+_, _-_, _*_, _≤_, _<_}
 use native.Mathlib.Omega.{arith}
 use native.Mathlib.Decide.{decLt, ℕ-discrete}
 use lib.Dec.{T, ltb, eqb}
@@ -27,16 +27,25 @@ use Rattle.terms.proofs.Tests.{by-ltb, by-eqb}
 use Rattle.terms.proofs.Shift.{shift-unshift, normal-shift, size-shift}
 use Rattle.terms.proofs.Substitute.{substitute-shift, substitute-high, normal-substitute}
 use Rattle.terms.proofs.Sweep.{sweep-normal}
+use Rattle.terms.proofs.Table.{kind, number}
 use Rattle.terms.proofs.Contracted.{Abstracted, Abstracted.out, Abstracted.kept, abstracted}
 use Rattle.matching.proofs.Step.{bodyTarget, contract-to, lam-normal, bodyTarget-normal}
 use Rattle.matching.proofs.Lists.{Predicate}
 use Rattle.matching.proofs.Lister.{Sweeps}
-use Rattle.matching.proofs.Goals.{Goal, Goal.match, All}
+use Rattle.matching.proofs.Goals.{Goal, Goal.match, All, Suits}
 use Rattle.matching.proofs.Targets.{shift-closed, ground-shift}
 
 abbrev pub spine : Term → List ℕ → Term
 spine f [] = f
 spine f (c ∷ cs) = app (spine f cs) (con c)
+
+pub size-spine : (f : Term) (cs : List ℕ) → size (spine f cs) ≡ size f + 2 * length cs
+size-spine f [] = omega arith
+size-spine f (c ∷ cs) = omega (arith, size-spine f cs)
+
+pub suits-spine : (n : ℕ) (S : ℕ → Type 0) (f : Term) (cs : List ℕ) → Suits n S (spine f cs) → Suits n S f
+suits-spine n S f [] x = x
+suits-spine n S f (c ∷ cs) x = suits-spine n S f cs (x .0 .0, λ i o. x .1 i (inl o))
 
 -- a value and the body below its abstractions
 abbrev pub bodies : ℕ → Term → Term
@@ -80,7 +89,7 @@ ground-contract b h = go (abstracted b)
     go (out m p u l w) = let g : Ground (app m (loc 0)) = rw p at h in rw w (rw (ground-shift 1 0 (unshift 1 0 m)) at (rw (← shift-unshift 0 m u) at (g .0)))
     go (kept o w) = rw w h
 
-size-contract : (b : Term) → size (contract (lam b)) ≤ suc (size b)
+pub size-contract : (b : Term) → size (contract (lam b)) ≤ suc (size b)
 size-contract b = go (abstracted b)
   where
     go : Abstracted b → size (contract (lam b)) ≤ suc (size b)
@@ -304,6 +313,63 @@ join d ps (var m) (loc n) = none
 join d ps (var m) (con n) = none
 join d ps (var m) (var n) = cond (eqb m n) (some (var m)) none
 
+-- by the kinds of the first records
+pub join-kinds : (d : ℕ) (ps : List (ℕ × ℕ)) (t u : Term) → ¬ (kind t ≡ kind u) → join d ps t u ≡ none
+join-kinds d ps (app f a) (app g b) h = absurd (h refl)
+join-kinds d ps (app f a) (lam u) h = refl
+join-kinds d ps (app f a) (loc n) h = refl
+join-kinds d ps (app f a) (con n) h = refl
+join-kinds d ps (app f a) (var n) h = refl
+join-kinds d ps (lam t) (app g b) h = refl
+join-kinds d ps (lam t) (lam u) h = absurd (h refl)
+join-kinds d ps (lam t) (loc n) h = refl
+join-kinds d ps (lam t) (con n) h = refl
+join-kinds d ps (lam t) (var n) h = refl
+join-kinds d ps (loc m) (app g b) h = refl
+join-kinds d ps (loc m) (lam u) h = refl
+join-kinds d ps (loc m) (loc n) h = absurd (h refl)
+join-kinds d ps (loc m) (con n) h = refl
+join-kinds d ps (loc m) (var n) h = refl
+join-kinds d ps (con m) (app g b) h = refl
+join-kinds d ps (con m) (lam u) h = refl
+join-kinds d ps (con m) (loc n) h = refl
+join-kinds d ps (con m) (con n) h = absurd (h refl)
+join-kinds d ps (con m) (var n) h = refl
+join-kinds d ps (var m) (app g b) h = refl
+join-kinds d ps (var m) (lam u) h = refl
+join-kinds d ps (var m) (loc n) h = refl
+join-kinds d ps (var m) (con n) h = refl
+join-kinds d ps (var m) (var n) h = absurd (h refl)
+
+pub join-leaf :
+    (d l : ℕ) (ps : List (ℕ × ℕ)) (t u : Term) → length ps ≡ l → kind t ≡ kind u → ¬ (kind t ≡ 0) → ¬ (kind t ≡ 1) → ¬ (kind t ≡ 3)
+    → join d ps t u ≡ cond (eqb (number t) (number u)) (some (shift l d t)) none
+join-leaf d l ps (app f a) (app g b) e k x y z = absurd (x refl)
+join-leaf d l ps (app f a) (lam u) e k x y z = absurd (x refl)
+join-leaf d l ps (app f a) (loc n) e k x y z = absurd (x refl)
+join-leaf d l ps (app f a) (con n) e k x y z = absurd (x refl)
+join-leaf d l ps (app f a) (var n) e k x y z = absurd (x refl)
+join-leaf d l ps (lam t) (app g b) e k x y z = absurd (y refl)
+join-leaf d l ps (lam t) (lam u) e k x y z = absurd (y refl)
+join-leaf d l ps (lam t) (loc n) e k x y z = absurd (y refl)
+join-leaf d l ps (lam t) (con n) e k x y z = absurd (y refl)
+join-leaf d l ps (lam t) (var n) e k x y z = absurd (y refl)
+join-leaf d l ps (loc m) (app g b) e k x y z = absurd (omega arith)
+join-leaf d l ps (loc m) (lam u) e k x y z = absurd (omega arith)
+join-leaf d l ps (loc m) (loc n) e k x y z = ap (λ i. cond (eqb m n) (some (cond (ltb m d) (loc m) (loc (m + i)))) none) e
+join-leaf d l ps (loc m) (con n) e k x y z = absurd (omega arith)
+join-leaf d l ps (loc m) (var n) e k x y z = absurd (omega arith)
+join-leaf d l ps (con m) (app g b) e k x y z = absurd (z refl)
+join-leaf d l ps (con m) (lam u) e k x y z = absurd (z refl)
+join-leaf d l ps (con m) (loc n) e k x y z = absurd (z refl)
+join-leaf d l ps (con m) (con n) e k x y z = absurd (z refl)
+join-leaf d l ps (con m) (var n) e k x y z = absurd (z refl)
+join-leaf d l ps (var m) (app g b) e k x y z = absurd (omega arith)
+join-leaf d l ps (var m) (lam u) e k x y z = absurd (omega arith)
+join-leaf d l ps (var m) (loc n) e k x y z = absurd (omega arith)
+join-leaf d l ps (var m) (con n) e k x y z = absurd (omega arith)
+join-leaf d l ps (var m) (var n) e k x y z = refl
+
 -- a constant of the body stays
 unlike : (m n : ℕ) (p : ℕ × ℕ) → (m ≡ p .0 → n ≡ p .1 → ⊥) → eqb m (p .0) && eqb n (p .1) ≡ false
 unlike m n p h = by-eqb (λ s. s && eqb n (p .1) ≡ false) m (p .0) (λ q. ne-eqb n (p .1) (h q)) (λ q. refl)
@@ -352,11 +418,11 @@ pick-above d m k [] e h = ap loc (omega arith)
 pick-above d m zero (c ∷ cs) e h = absurd (omega arith)
 pick-above d m (suc k) (c ∷ cs) e h = pick-above d (m - 1) k cs (omega arith) (omega arith) ∙ ap loc (omega arith)
 
-length-firsts : (ps : List (ℕ × ℕ)) → length (firsts ps) ≡ length ps
+pub length-firsts : (ps : List (ℕ × ℕ)) → length (firsts ps) ≡ length ps
 length-firsts [] = refl
 length-firsts (p ∷ ps) = ap suc (length-firsts ps)
 
-length-seconds : (ps : List (ℕ × ℕ)) → length (seconds ps) ≡ length ps
+pub length-seconds : (ps : List (ℕ × ℕ)) → length (seconds ps) ≡ length ps
 length-seconds [] = refl
 length-seconds (p ∷ ps) = ap suc (length-seconds ps)
 
