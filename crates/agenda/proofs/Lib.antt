@@ -11,3 +11,6 @@ pub mod Heads
 pub mod Building
 pub mod Planning
 pub mod Ordering
+pub mod Spines
+pub mod Joins
+pub mod Forcing

@@ -7,3 +7,6 @@ pub mod Applications
 pub mod Builds
 pub mod Opening
 pub mod Locals
+pub mod Pairs
+pub mod Joins
+pub mod Repeated
