@@ -48,7 +48,7 @@ module _ (W X : List ℕ) (top : ℕ) (k : Kept W X top) where
   pub byte-kept : (i : ℕ) → i < top → getD X i 0 ≡ getD W i 0
   byte-kept i h = sym (getD-take top X i 0 h) ∙ ap (λ (l : List ℕ). getD l i 0) (k .same) ∙ getD-take top W i 0 h
 
-  word-kept : (i : ℕ) → i + 2 ≤ top → wordAt X i ≡ wordAt W i
+  pub word-kept : (i : ℕ) → i + 2 ≤ top → wordAt X i ≡ wordAt W i
   word-kept i h = ap₂ (λ (x y : ℕ). x * 256 + y) (byte-kept i (omega arith)) (byte-kept (i + 1) (omega arith))
 
   pub next-kept : (at : ℕ) → at + 8 ≤ top → nextAt X at ≡ nextAt W at

@@ -43,14 +43,14 @@ use Rattle.agenda.specs.Opening.{Opens, Plain, Names, SameRecord}
 use Rattle.agenda.proofs.Opening.{Opened, opened, dead, dropped}
 
 -- a constant and a variable, by its record
-constant-at : (l : List ℕ) (at n : ℕ) (t : Term) → Part l at t → getD l at 0 ≡ 3 → n ≡ numberAt l at → t ≡ con n
+pub constant-at : (l : List ℕ) (at n : ℕ) (t : Term) → Part l at t → getD l at 0 ≡ 3 → n ≡ numberAt l at → t ≡ con n
 constant-at l at n (app f a) x k e = absurd (omega (arith, kind-at l at (app f a) x))
 constant-at l at n (lam b) x k e = absurd (omega (arith, kind-at l at (lam b) x))
 constant-at l at n (loc m) x k e = absurd (omega (arith, kind-at l at (loc m) x))
 constant-at l at n (con m) x k e = ap con (sym (e ∙ number-at l at (con m) x))
 constant-at l at n (var m) x k e = absurd (omega (arith, kind-at l at (var m) x))
 
-variable-at : (l : List ℕ) (at n : ℕ) (t : Term) → Part l at t → getD l at 0 ≡ 4 → n ≡ numberAt l at → t ≡ var n
+pub variable-at : (l : List ℕ) (at n : ℕ) (t : Term) → Part l at t → getD l at 0 ≡ 4 → n ≡ numberAt l at → t ≡ var n
 variable-at l at n (app f a) x k e = absurd (omega (arith, kind-at l at (app f a) x))
 variable-at l at n (lam b) x k e = absurd (omega (arith, kind-at l at (lam b) x))
 variable-at l at n (loc m) x k e = absurd (omega (arith, kind-at l at (loc m) x))

@@ -12,3 +12,6 @@ pub mod Building
 pub mod Planning
 pub mod Ordering
 pub mod Deciding
+pub mod Spines
+pub mod Joins
+pub mod Forcing

@@ -25,7 +25,7 @@ use Rattle.agenda.specs.Locals.{Locals}
 use Rattle.agenda.specs.Ordering.{Reaches, Reaches.here, Reaches.further, linked, Branches, Weighs, Ranks, Drops, Dropped}
 use Rattle.matching.proofs.Occurrences.{partAt}
 use Rattle.matching.proofs.Targets.{closed-more}
-use Rattle.agenda.proofs.Frame.{Kept, target-kept, chain-kept, holds-kept, kept-sets, kept-then, length-stored, item-stored, chain-match, chain-build}
+use Rattle.agenda.proofs.Frame.{Kept, next-kept, target-kept, chain-kept, holds-kept, kept-sets, kept-then, length-stored, item-stored, chain-match, chain-build}
 use Rattle.agenda.proofs.Leaves.{part-bytes}
 
 -- the goal at the front of a list, and the list behind it
@@ -51,6 +51,15 @@ reaches-some W at i (further h r) = h
 pub reaches-next : (W : List ℕ) (at i : ℕ) → Reaches W at i → ¬ (at ≡ i) → Reaches W (nextAt W at) i
 reaches-next W at i (here h e) n = absurd (n e)
 reaches-next W at i (further h r) n = r
+
+-- a list that stands below `top` comes to the same goals where the bytes below are kept
+pub reaches-kept :
+    (W X : List ℕ) (top : ℕ) → Kept W X top → (P : List ℕ) (K : Goal → Type 0) (at i : ℕ) (gs : List Goal) → Chain K P W top at gs → Reaches W at i → Reaches X at i
+reaches-kept W X top k P K at i [] c (here h e) = here h e
+reaches-kept W X top k P K at i [] c (further h r) = absurd (omega (arith, c))
+reaches-kept W X top k P K at i (g ∷ gs) c (here h e) = here h e
+reaches-kept W X top k P K at i (g ∷ gs) c (further h r) =
+    further h (subst (λ (j : ℕ). Reaches X j i) (sym (next-kept W X top k at (c .0 .room))) (reaches-kept W X top k P K (nextAt W at) i gs (c .1) r))
 
 ranks :
     (P W : List ℕ) (top at : ℕ) (gs : List Goal) → Chain Hard P W top at gs → 0 < at → top ≤ length W → length W ≤ tableBytes → length P ≤ 4 * patternRecords → Ranks P W at
@@ -86,11 +95,12 @@ module _ {W X Y : List ℕ} {top at j i list end : ℕ} {r q : Item} (x : ItemAt
   below-kept : Kept W Y top
   below-kept = kept-then W X Y top end (y .higher) (record { same = y .kept; from = omega (arith, y .higher); to = omega (arith, y .higher, y .whole) }) list-kept
 
+  stands : ItemAt Y end (linked r list)
+  stands = item-stored X Y end (linked r list) stored (omega (arith, y .whole)) (omega (arith, x .part)) (omega (arith, x .target)) (y .list-even) (omega (arith, x .argument))
+
   in-front : (P : List ℕ) (g : Goal) (gs : List Goal) → Node Hard P W top at g → Chain Hard P X end list gs → Chain Hard P Y (end + 8) end (g ∷ gs)
   in-front P g gs n c =
-      let z : ItemAt Y end (linked r list) =
-      item-stored X Y end (linked r list) stored (omega (arith, y .whole)) (omega (arith, x .part)) (omega (arith, x .target)) (y .list-even) (omega (arith, x .argument)) in
-      anew P W Y top at end list r g gs below-kept (y .higher) n x z (omega (arith, y .below)) (y .even) (chain-kept X Y end list-kept (end + 8) (omega arith) P Hard list gs c)
+      anew P W Y top at end list r g gs below-kept (y .higher) n x stands (omega (arith, y .below)) (y .even) (chain-kept X Y end list-kept (end + 8) (omega arith) P Hard list gs c)
 
 -- the steps of a walk that drops a goal
 module _ {W : List ℕ} {top at i : ℕ} {r : Item} (d : Drops W top at i) (x : ItemAt W at r) where
@@ -108,6 +118,7 @@ module _ {W : List ℕ} {top at i : ℕ} {r : Item} (d : Drops W top at i) (x : 
             same = all-first gs (f .goal) (f .rest) (f .is);
           },
         );
+    later = λ P gs c y j h. rw (x .next) (subst (λ (k : ℕ). Reaches W (nextAt W k) j) (sym e) h);
     kept = refl;
     whole = refl;
     higher = omega arith;
@@ -164,6 +175,13 @@ module _ {W : List ℕ} {top at i : ℕ} {r : Item} (d : Drops W top at i) (x : 
                     (λ j. let n = m .0 (a .0 j .1) in (n .0, (a .0 j .0, n .1)), λ j. a .1 (j .1 .0, m .1 (j .0, j .1 .1)));
               },
             );
+        later = λ P gs c u j h.
+            let f = first Hard P W top at gs c (reaches-some W at i u) in
+            let t : Chain Hard P W top (r .next) (f .rest) = rw (x .next) (f .chain) in
+            let b = y .go P (f .rest) t next-reached in
+            let k = reaches-kept X Y end (list-kept x y (d .whole) anew-room e s) P Hard list j (b .1) (b .3 .chain) (y .later P (f .rest) t next-reached j h) in
+            let n : 0 < end = omega (arith, y .below) in
+            further n (subst (λ (n : ℕ). Reaches Y n j) (stands x y (d .whole) anew-room e s .next) k);
         kept = below-kept x y (d .whole) anew-room e s .same;
         whole = length-stored (itemBytes q) X Y end s ∙ y .whole;
         higher = omega (arith, y .higher);
@@ -284,11 +302,11 @@ reached P W top at i (g ∷ gs) c (here h e) = (g, subst (λ (j : ℕ). Node Har
 reached P W top at i (g ∷ gs) c (further h r) = reached P W top (nextAt W at) i gs (c .1) r
 
 -- a goal put off has a weight of 2,000 or more, so that there are few
-weight-least : (P W : List ℕ) (top at : ℕ) (g : Goal) → GoalAt P W top at g → 2000 ≤ weight g
+pub weight-least : (P W : List ℕ) (top at : ℕ) (g : Goal) → GoalAt P W top at g → 2000 ≤ weight g
 weight-least P W top at (match p t) x = omega (arith, x .part .some)
 weight-least P W top at (build f t e) x = omega (arith, x .part .some)
 
-few-goals : (P W : List ℕ) (top at : ℕ) (gs : List Goal) → Chain Hard P W top at gs → 2000 * length gs ≤ weights 0 gs
+pub few-goals : (P W : List ℕ) (top at : ℕ) (gs : List Goal) → Chain Hard P W top at gs → 2000 * length gs ≤ weights 0 gs
 few-goals P W top at [] c = omega arith
 few-goals P W top at (g ∷ gs) c = omega (arith, weight-least P W top at g (c .0 .goal), few-goals P W top (nextAt W at) gs (c .1))
 

@@ -8,3 +8,6 @@ pub mod Builds
 pub mod Opening
 pub mod Locals
 pub mod Ground
+pub mod Pairs
+pub mod Joins
+pub mod Repeated

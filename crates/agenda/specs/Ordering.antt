@@ -73,6 +73,8 @@ pub record Dropped (W : List ℕ) (top at i : ℕ) (X : List ℕ) (list end : �
   pub go :
       (P : List ℕ) (gs : List Goal) → Chain Hard P W top at gs → Reaches W at i
       → (g : Goal) × (hs : List Goal) × Node Hard P W top i g × Without P X top list end g gs hs
+  -- what stands behind the dropped goal is reached still
+  pub later : (P : List ℕ) (gs : List Goal) → Chain Hard P W top at gs → Reaches W at i → (j : ℕ) → Reaches W (nextAt W i) j → Reaches X list j
   pub kept : take top X ≡ take top W
   pub whole : length X ≡ length W
   pub higher : top ≤ end

@@ -24,7 +24,7 @@ ghost use Rattle.agenda.specs.Branches.{Way};
 ghost use Rattle.agenda.specs.Moves.{Branched};
 
 // The goal that a part sweeps to a target.
-fn match_item(part: usize, target: usize, next: usize) -> Item
+pub fn match_item(part: usize, target: usize, next: usize) -> Item
     ensures { λ r. ⌜ r ≡ matchItem part target next ⌝ }
 {
     Item {

@@ -10,8 +10,10 @@
 pub mod alternatives;
 pub mod builds;
 pub mod ground;
+mod joining;
 mod locals;
 pub mod order;
+mod pairs;
 pub mod repeated;
 pub mod steps;
 

@@ -114,9 +114,9 @@ fn cheapest(p: &[u8], work: &[u8], list: usize, a: [Entry; 8]) -> Choice
 }
 
 // Where a list of goals begins, and the first free byte behind what was written.
-struct Rest {
-    list: usize,
-    top: usize,
+pub struct Rest {
+    pub list: usize,
+    pub top: usize,
 }
 
 // A goal with another one next.
@@ -133,7 +133,7 @@ fn linked(item: Item, next: usize) -> Item
 }
 
 // A list of goals without the one at byte `goal`. Goals aren't changed where they stand: those before it are written anew, from byte `top` on.
-fn without(work: &mut [u8], top: usize, list: usize, goal: usize) -> Rest
+pub fn without(work: &mut [u8], top: usize, list: usize, goal: usize) -> Rest
     requires { ⌜ Drops (now work) top list goal ⌝ }
     ensures { λ r. ⌜ Dropped (now (work .entry)) top list goal (now (work .exit)) (r .list) (r .top) ⌝ }
 {
