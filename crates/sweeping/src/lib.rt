@@ -222,7 +222,7 @@ fn contract_redex(f: &[u8], a: &[u8], out: &mut [u8; SWEPT_BYTES]) -> Length
 }
 
 // Contracts the application of f to a, both swept.
-fn contract_application(f: &[u8], a: &[u8], out: &mut [u8; SWEPT_BYTES]) -> Length
+pub fn contract_application(f: &[u8], a: &[u8], out: &mut [u8; SWEPT_BYTES]) -> Length
     requires { ⌜ Applied (now f) (now a) ⌝ }
     ensures { λ r. ⌜ Applies (now (f .entry)) (now (a .entry)) (now (out .entry)) r (now (out .exit)) ⌝ }
 {
@@ -262,7 +262,7 @@ fn contracts(b: &[u8]) -> bool
 }
 
 // Contracts the abstraction over b, which is swept.
-fn contract_abstraction(b: &[u8], out: &mut [u8; SWEPT_BYTES]) -> Length
+pub fn contract_abstraction(b: &[u8], out: &mut [u8; SWEPT_BYTES]) -> Length
     requires { ⌜ Abstracted (now b) ⌝ }
     ensures { λ r. ⌜ Abstracts (now (b .entry)) (now (out .entry)) r (now (out .exit)) ⌝ }
 {
