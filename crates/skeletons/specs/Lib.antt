@@ -1,1 +1,3 @@
 pub mod Outlined
+pub mod Contracted
+pub mod Compared

@@ -4,20 +4,223 @@
 // or may not contract is a hole too, as is a form above 256 records. Whatever the open variables are assigned, the swept part is the skeleton
 // with some term in place of each hole; so a target that doesn't fit the skeleton is never met. The crate writes skeletons, a hole as a
 // variable's record, and compares them with terms. It promises that the swept part fits what it writes. It rests on `sweeping` for single
-// contractions and on `assignments` for values.
+// contractions, on `assignments` for values, and on `abstractions` for the answer of a walk over two parts.
 
+use abstractions::Pairing;
+use abstractions::Places;
 use assignments::Entry;
 use records::Kind;
+use records::RECORD;
+use records::Walk;
+use sweeping::Length;
 use sweeping::SWEPT_BYTES;
+ghost use mathlib.Core.Path.{_≡_};
+ghost use lib.ListN.{getD};
+ghost use lib.Seq.{sets};
+ghost use Rattle.terms.specs.Term.{var};
+ghost use Rattle.terms.specs.Table.{encode};
+ghost use Rattle.matching.proofs.Skeletons.{isUnsure};
+ghost use Rattle.records.specs.Parts.{Tree, Whole};
+ghost use Rattle.records.specs.Tests.{Equals, Walked};
+ghost use Rattle.sweeping.specs.Swept.{Applied, Abstracted};
 ghost use Rattle.skeletons.specs.Outlined.{Outlinable, Outlined, Comparable, MayBe};
+ghost use Rattle.skeletons.specs.Contracted.{Applies, Abstracts, Exact, Known, Entered};
+ghost use Rattle.skeletons.specs.Compared.{Compares, Compared};
+
+// Writes a hole, and gives its number of records.
+fn hole(out: &mut [u8; SWEPT_BYTES]) -> usize
+    ensures { λ r. ⌜ (r ≡ 1) × (now (out .exit) ≡ sets (now (out .entry)) 0 (encode (var 0))) ⌝ }
+{
+    records::put_record(out, 0, Kind::VARIABLE, 0);
+    1
+}
+
+// Writes the skeleton of the application of f to x, both skeletons, where f is no hole.
+fn apply(f: &[u8], x: &[u8], out: &mut [u8; SWEPT_BYTES]) -> usize
+    requires { ⌜ Applied (now f) (now x) × ¬ (getD (now f) 0 0 ≡ 4) ⌝ }
+    ensures { λ r. ⌜ Applies (now (f .entry)) (now (x .entry)) (now (out .entry)) r (now (out .exit)) ⌝ }
+{
+    let length = sweeping::contract_application(f, x, out);
+    let Length::Records(n) = length else {
+        return hole(out);
+    };
+    n
+}
+
+// Walks over the part of s at byte `at` if it has no hole.
+fn exact_at(s: &[u8], at: usize) -> Walk
+    requires { ⌜ Whole (now s) at ⌝ }
+    ensures { λ r. ⌜ Walked (now (s .entry)) at Exact r ⌝ }
+{
+    let kind = s[at];
+    if kind == Kind::APPLICATION.code {
+        let head = exact_at(s, at + RECORD);
+        let Walk::Upto(h) = head else {
+            return Walk::No;
+        };
+        return exact_at(s, h);
+    }
+    if kind == Kind::ABSTRACTION.code {
+        return exact_at(s, at + RECORD);
+    }
+    if kind == Kind::VARIABLE.code {
+        return Walk::No;
+    }
+    Walk::Upto(at + RECORD)
+}
+
+// Whether the abstraction over what the skeleton b stands for may contract or not: b is a hole, an application to a hole, or an application
+// to the innermost local whose head has a hole, in which that local may be used.
+fn is_unsure(b: &[u8]) -> bool
+    requires { ⌜ Tree (now b) ⌝ }
+    ensures { λ r. ⌜ Equals (now (b .entry)) isUnsure r ⌝ }
+{
+    let kind = b[0];
+    if kind == Kind::VARIABLE.code {
+        return true;
+    }
+    if kind != Kind::APPLICATION.code {
+        return false;
+    }
+    let argument = records::end_at(b, RECORD);
+    if b[argument] == Kind::VARIABLE.code {
+        return true;
+    }
+    if b[argument] != Kind::LOCAL.code {
+        return false;
+    }
+    if records::number_at(b, argument) != 0 {
+        return false;
+    }
+    let head = exact_at(b, RECORD);
+    match head {
+        Walk::Upto(_) => false,
+        Walk::No => true,
+    }
+}
+
+// Writes the skeleton of the abstraction over b, which is a skeleton.
+fn abstract_over(b: &[u8], out: &mut [u8; SWEPT_BYTES]) -> usize
+    requires { ⌜ Abstracted (now b) ⌝ }
+    ensures { λ r. ⌜ Abstracts (now (b .entry)) (now (out .entry)) r (now (out .exit)) ⌝ }
+{
+    if is_unsure(b) {
+        return hole(out);
+    }
+    let length = sweeping::contract_abstraction(b, out);
+    let Length::Records(n) = length else {
+        return hole(out);
+    };
+    n
+}
+
+// Writes the skeleton of variable i: its value, which is normal and so its own swept form, or a hole.
+fn skeleton_variable(i: usize, values: &[u8], a: [Entry; 8], out: &mut [u8; SWEPT_BYTES]) -> usize
+    requires { ⌜ Known (now values) a i ⌝ }
+    ensures { λ r. ⌜ Entered (now (values .entry)) a i (now (out .entry)) r (now (out .exit)) ⌝ }
+{
+    let e = a[i];
+    match e {
+        Entry::Open => hole(out),
+        Entry::Assigned(span) => {
+            sweeping::copy_into(assignments::value_of(values, span), out, 0);
+            span.count
+        }
+    }
+}
+
+// Writes the skeleton of an application: from its head's and its argument's. What a hole is applied to is lost in it, and isn't looked at.
+fn skeleton_application(
+    s: &[u8],
+    values: &[u8],
+    a: [Entry; 8],
+    out: &mut [u8; SWEPT_BYTES],
+) -> usize
+    requires { ⌜ Outlinable (now s) (now values) a × (getD (now s) 0 0 ≡ 0) ⌝ }
+    ensures { λ r. ⌜ Outlined (now (s .entry)) (now (values .entry)) a (now (out .entry)) r (now (out .exit)) ⌝ }
+{
+    let mut head = [0u8; SWEPT_BYTES];
+    let n = skeleton(records::head_of(s), values, a, &mut head);
+    if head[0] == Kind::VARIABLE.code {
+        return hole(out);
+    }
+    let mut argument = [0u8; SWEPT_BYTES];
+    let m = skeleton(records::argument_of(s), values, a, &mut argument);
+    let n = n * RECORD;
+    let m = m * RECORD;
+    apply(&head[0..n], &argument[0..m], out)
+}
+
+// Writes the skeleton of an abstraction: from its body's.
+fn skeleton_abstraction(
+    s: &[u8],
+    values: &[u8],
+    a: [Entry; 8],
+    out: &mut [u8; SWEPT_BYTES],
+) -> usize
+    requires { ⌜ Outlinable (now s) (now values) a × (getD (now s) 0 0 ≡ 1) ⌝ }
+    ensures { λ r. ⌜ Outlined (now (s .entry)) (now (values .entry)) a (now (out .entry)) r (now (out .exit)) ⌝ }
+{
+    let mut body = [0u8; SWEPT_BYTES];
+    let n = skeleton(records::body_of(s), values, a, &mut body);
+    let n = n * RECORD;
+    abstract_over(&body[0..n], out)
+}
 
 // Writes the skeleton of the part s, with the values that a has in the value table, into out from byte 0 on. Gives its number of records.
+// Constants and locals are their own skeletons.
 pub fn skeleton(s: &[u8], values: &[u8], a: [Entry; 8], out: &mut [u8; SWEPT_BYTES]) -> usize
     requires { ⌜ Outlinable (now s) (now values) a ⌝ }
     ensures { λ r. ⌜ Outlined (now (s .entry)) (now (values .entry)) a (now (out .entry)) r (now (out .exit)) ⌝ }
 {
-    records::put_record(out, 0, Kind::VARIABLE, 0);
+    let kind = s[0];
+    if kind == Kind::APPLICATION.code {
+        return skeleton_application(s, values, a, out);
+    }
+    if kind == Kind::ABSTRACTION.code {
+        return skeleton_abstraction(s, values, a, out);
+    }
+    if kind == Kind::VARIABLE.code {
+        return skeleton_variable(records::number_at(s, 0), values, a, out);
+    }
+    sweeping::copy_into(s, out, 0);
     1
+}
+
+// Walks over the skeleton of c at byte b and the term of s at byte t together, as far as the term fits. At a hole it passes a whole part of
+// the term.
+fn fits(c: &[u8], b: usize, s: &[u8], t: usize) -> Pairing
+    requires { ⌜ Compares (now c) b (now s) t ⌝ }
+    ensures { λ r. ⌜ Compared (now (c .entry)) b (now (s .entry)) t r ⌝ }
+{
+    let kind = c[b];
+    if kind == Kind::VARIABLE.code {
+        let end = records::end_at(s, t);
+        return Pairing::Upto(Places {
+            first: b + RECORD,
+            second: end,
+        });
+    }
+    if kind != s[t] {
+        return Pairing::No;
+    }
+    if kind == Kind::APPLICATION.code {
+        let head = fits(c, b + RECORD, s, t + RECORD);
+        let Pairing::Upto(p) = head else {
+            return Pairing::No;
+        };
+        return fits(c, p.first, s, p.second);
+    }
+    if kind == Kind::ABSTRACTION.code {
+        return fits(c, b + RECORD, s, t + RECORD);
+    }
+    if records::number_at(c, b) == records::number_at(s, t) {
+        return Pairing::Upto(Places {
+            first: b + RECORD,
+            second: t + RECORD,
+        });
+    }
+    Pairing::No
 }
 
 // Whether the term of s at byte t may be the swept form of a part with the skeleton c.
@@ -25,5 +228,9 @@ pub fn may_be(c: &[u8], s: &[u8], t: usize) -> bool
     requires { ⌜ Comparable (now c) (now s) t ⌝ }
     ensures { λ r. ⌜ MayBe (now (c .entry)) (now (s .entry)) t r ⌝ }
 {
-    true
+    let walk = fits(c, 0, s, t);
+    match walk {
+        Pairing::Upto(_) => true,
+        Pairing::No => false,
+    }
 }

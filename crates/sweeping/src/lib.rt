@@ -222,7 +222,7 @@ fn contract_redex(f: &[u8], a: &[u8], out: &mut [u8; SWEPT_BYTES]) -> Length
 }
 
 // Contracts the application of f to a, both swept.
-fn contract_application(f: &[u8], a: &[u8], out: &mut [u8; SWEPT_BYTES]) -> Length
+pub fn contract_application(f: &[u8], a: &[u8], out: &mut [u8; SWEPT_BYTES]) -> Length
     requires { ⌜ Applied (now f) (now a) ⌝ }
     ensures { λ r. ⌜ Applies (now (f .entry)) (now (a .entry)) (now (out .entry)) r (now (out .exit)) ⌝ }
 {

@@ -1,0 +1,118 @@
+-- The skeleton of an application or an abstraction, from those of its parts: the contracted form, where it is sure and not too long, and else
+-- a hole. By the laws of fitting for single contractions; a hole is right for everything. Assumes nothing.
+use mathlib.Core.Path.{_≡_, refl, sym, ap, _∙_, subst}
+use mathlib.Core.Bool.{Bool, false}
+use mathlib.Core.List.{List}
+use Prim.Native.Nat.{ℕ, _≤_}
+use native.Mathlib.Omega.{arith}
+use lib.ListN.{getD}
+use lib.Seq.{sets}
+use Rattle.terms.specs.Figures.{sweptRecords}
+use Rattle.terms.specs.Term.{Term, app, lam, var, size}
+use Rattle.terms.specs.Sweep.{contract}
+use Rattle.terms.specs.Table.{encode}
+use Rattle.matching.proofs.Skeletons.{isUnsure, fits-apply, fits-abstract, closed-apply, closed-abstract}
+use Rattle.records.specs.Parts.{Tree}
+use Rattle.records.specs.Tests.{Equals}
+use Rattle.records.proofs.Parts.{size-some, at-start}
+use Rattle.sweeping.specs.declared.Length.{Length}
+use Rattle.sweeping.specs.declared.Length.the-variants.{Records, TooLong}
+use Rattle.sweeping.specs.Swept as swept
+use Rattle.skeletons.specs.Contracted.{Application, Abstraction, Writes, Applies, Abstracts}
+use Rattle.skeletons.proofs.Tests.{no-variable}
+
+-- what a hole's record leaves
+abbrev pub Hole : List ℕ → ℕ → List ℕ → Type 0
+Hole out n after = (n ≡ 1) × (after ≡ sets out 0 (encode (var 0)))
+
+hole-writes : (P : Term → Type 0) (out mid after : List ℕ) (n : ℕ) → P (var 0) → mid ≡ out → Hole mid n after → Writes P out n after
+hole-writes P out mid after n p e h =
+    record { skeleton = var 0; bytes = h .1 ∙ ap (λ (l : List ℕ). sets l 0 (encode (var 0))) e; sized = h .0; holds = p }
+
+any-application : (f a : Term) → Application f a (var 0)
+any-application f a = record { closed = λ d c e. tt; fits = λ g b x y. tt }
+
+any-abstraction : (b : Term) → Abstraction b (var 0)
+any-abstraction b = record { closed = λ d c. tt; fits = λ u x. tt }
+
+-- the two answers of a contraction
+record Answer (t : Term) (out : List ℕ) (n : ℕ) (after : List ℕ) : Type 0 where
+  sized : n ≡ size t
+  few : n ≤ sweptRecords
+  bytes : after ≡ sets out 0 (encode t)
+
+answer : (t : Term) (out : List ℕ) (r : Length) (n : ℕ) (after : List ℕ) → swept.Written t out r after → r ≡ Records n → Answer t out n after
+unfolding swept.Written
+answer t out r n after w e =
+    let x : swept.Written t out (Records n) after = subst (λ (q : Length). swept.Written t out q after) e w in
+    record { sized = x .0; few = x .1; bytes = x .2 }
+
+untouched : (t : Term) (out : List ℕ) (r : Length) (after : List ℕ) → swept.Written t out r after → r ≡ TooLong → after ≡ out
+unfolding swept.Written
+untouched t out r after w e = let x : swept.Written t out TooLong after = subst (λ (q : Length). swept.Written t out q after) e w in x .1
+
+-- an application
+module _ (f a out : List ℕ) (r : Length) (mid : List ℕ) (w : swept.Applies f a out r mid) where
+  pub applies-hole : r ≡ TooLong → (n : ℕ) (after : List ℕ) → Hole mid n after → Applies f a out n after
+  applies-hole q n after h = record {
+    written = λ x y e g. hole-writes (Application x y) out mid after n (any-application x y) (untouched (contract (app x y)) out r mid (w x y e g) q) h;
+    some = omega (arith, h .0);
+    few = omega (arith, h .0);
+  }
+
+  pub applies-contracted : swept.Applied f a → ¬ (getD f 0 0 ≡ 4) → (n : ℕ) → r ≡ Records n → Applies f a out n mid
+  applies-contracted p z n q = record { written = each; some = omega (arith, one .sized, size-some (contract (app (p .head) (p .argument)))); few = one .few }
+    where
+      answered : (x y : Term) → f ≡ encode x → a ≡ encode y → Answer (contract (app x y)) out n mid
+      answered x y e g = answer (contract (app x y)) out r n mid (w x y e g) q
+
+      one : Answer (contract (app (p .head) (p .argument))) out n mid
+      one = answered (p .head) (p .argument) (p .head-bytes) (p .argument-bytes)
+
+      each : (x y : Term) → f ≡ encode x → a ≡ encode y → Writes (Application x y) out n mid
+      each x y e g =
+          let m = answered x y e g in
+          record {
+            skeleton = contract (app x y);
+            bytes = m .bytes;
+            sized = m .sized;
+            holds = record { closed = λ d c o. closed-apply d x y c o; fits = λ u v i j. fits-apply x u y v (no-variable f 0 x (at-start f x e) z) i j };
+          }
+
+-- an abstraction
+pub abstracted-tree : (b : List ℕ) → swept.Abstracted b → Tree b
+abstracted-tree b x = record { tree = x .body; bytes = x .bytes; least = x .least }
+
+pub abstracts-unsure : (b out : List ℕ) (n : ℕ) (after : List ℕ) → Hole out n after → Abstracts b out n after
+abstracts-unsure b out n after h = record {
+  written = λ x e. hole-writes (Abstraction x) out out after n (any-abstraction x) refl h;
+  some = omega (arith, h .0);
+  few = omega (arith, h .0);
+}
+
+module _ (b out : List ℕ) (r : Length) (mid : List ℕ) (w : swept.Abstracts b out r mid) where
+  pub abstracts-hole : r ≡ TooLong → (n : ℕ) (after : List ℕ) → Hole mid n after → Abstracts b out n after
+  abstracts-hole q n after h = record {
+    written = λ x e. hole-writes (Abstraction x) out mid after n (any-abstraction x) (untouched (contract (lam x)) out r mid (w x e) q) h;
+    some = omega (arith, h .0);
+    few = omega (arith, h .0);
+  }
+
+  pub abstracts-contracted : swept.Abstracted b → (t : Bool) → Equals b isUnsure t → t ≡ false → (n : ℕ) → r ≡ Records n → Abstracts b out n mid
+  abstracts-contracted p t test o n q = record { written = each; some = omega (arith, one .sized, size-some (contract (lam (p .body)))); few = one .few }
+    where
+      answered : (x : Term) → b ≡ encode x → Answer (contract (lam x)) out n mid
+      answered x e = answer (contract (lam x)) out r n mid (w x e) q
+
+      one : Answer (contract (lam (p .body))) out n mid
+      one = answered (p .body) (p .bytes)
+
+      each : (x : Term) → b ≡ encode x → Writes (Abstraction x) out n mid
+      each x e =
+          let m = answered x e in
+          record {
+            skeleton = contract (lam x);
+            bytes = m .bytes;
+            sized = m .sized;
+            holds = record { closed = λ d c. closed-abstract d x c; fits = λ u i. fits-abstract x u (sym (test x e) ∙ o) i };
+          }

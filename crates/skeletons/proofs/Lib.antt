@@ -1,0 +1,4 @@
+pub mod Contractions
+pub mod Tests
+pub mod Outlines
+pub mod Comparison

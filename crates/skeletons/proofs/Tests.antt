@@ -1,0 +1,120 @@
+-- Tests of a skeleton: holes, and whether the abstraction over it is sure to contract or not. By the term's kind, which its first record
+-- shows. Assumes nothing.
+use mathlib.Core.Path.{_≡_, refl, sym, ap, _∙_, subst}
+use mathlib.Core.Bool.{Bool, true, false, _&&_, _||_}
+use mathlib.Core.Logic.{_↔_}
+use mathlib.Core.List.{List}
+use Prim.Native.Nat.{ℕ}
+use native.Mathlib.Omega.{arith}
+use lib.Dec.{T}
+use lib.ListN.{getD}
+use borrow.Author.Tests.{eq-eqb, ne-eqb}
+use Rattle.terms.specs.Term.{Term, app, lam, loc, con, var, isInnermost}
+use Rattle.terms.proofs.Tests.{or-false}
+use Rattle.matching.proofs.Skeletons.{hasVariable, isVariable, isUnsure}
+use Rattle.records.specs.declared.Walk.{Walk}
+use Rattle.records.specs.declared.Walk.the-variants.{Upto, No}
+use Rattle.records.specs.Record.{numberAt}
+use Rattle.records.specs.Parts.{Part, Whole, Ends, Tree}
+use Rattle.records.specs.Tests.{Equals, Walked}
+use Rattle.records.proofs.Parts.{kind-at, number-at, at-start, application, argument-part, tree-whole, whole-head, whole-argument}
+use Rattle.records.proofs.Tests.{not-false-true}
+use Rattle.sweeping.proofs.Writers.{local-at}
+use Rattle.skeletons.specs.Contracted.{Exact}
+
+-- a hole, and a record that is none
+module _ (l : List ℕ) (at : ℕ) where
+  pub variable-at : (t : Term) → Part l at t → getD l at 0 ≡ 4 → t ≡ var (numberAt l at)
+  variable-at (app f a) x k = absurd (omega (arith, kind-at l at (app f a) x))
+  variable-at (lam b) x k = absurd (omega (arith, kind-at l at (lam b) x))
+  variable-at (loc n) x k = absurd (omega (arith, kind-at l at (loc n) x))
+  variable-at (con n) x k = absurd (omega (arith, kind-at l at (con n) x))
+  variable-at (var n) x k = ap var (sym (number-at l at (var n) x))
+
+  pub no-variable : (t : Term) → Part l at t → ¬ (getD l at 0 ≡ 4) → isVariable t ≡ false
+  no-variable (app f a) x n = refl
+  no-variable (lam b) x n = refl
+  no-variable (loc i) x n = refl
+  no-variable (con i) x n = refl
+  no-variable (var i) x n = absurd (n (kind-at l at (var i) x))
+
+  pub hole-inexact : getD l at 0 ≡ 4 → (t : Term) → Part l at t → ¬ Exact t
+  hole-inexact k t x e = let q : true ≡ false = sym (ap hasVariable (variable-at t x k)) ∙ e in subst T q tt
+
+  pub leaf-exact : ¬ (getD l at 0 ≡ 0) → ¬ (getD l at 0 ≡ 1) → ¬ (getD l at 0 ≡ 4) → (t : Term) → Part l at t → Exact t
+  leaf-exact n m v (app f a) x = absurd (n (kind-at l at (app f a) x))
+  leaf-exact n m v (lam b) x = absurd (m (kind-at l at (lam b) x))
+  leaf-exact n m v (loc i) x = refl
+  leaf-exact n m v (con i) x = refl
+  leaf-exact n m v (var i) x = absurd (v (kind-at l at (var i) x))
+
+-- holes go by the parts
+pub exact-two : (f a : Term) → Exact (app f a) ↔ (Exact f × Exact a)
+exact-two f a = (λ p. or-false (hasVariable f) (hasVariable a) p, λ p. rw (p .0, p .1))
+
+pub exact-under : (b : Term) → Exact (lam b) ↔ Exact b
+exact-under b = (λ p. p, λ p. p)
+
+module _ (l : List ℕ) (at : ℕ) (P : Term → Type 0) (w : Walk) (x : Walked l at P w) (t : Term) (y : Part l at t) where
+  walked-yes : (h : ℕ) → w ≡ Upto h → P t
+  unfolding Walked
+  walked-yes h e = let z : Walked l at P (Upto h) = subst (Walked l at P) e x in z .1 t y
+
+  walked-not : w ≡ No → ¬ P t
+  unfolding Walked
+  walked-not e = let z : Walked l at P No = subst (Walked l at P) e x in z t y
+
+-- whether the abstraction is sure
+module _ (b : List ℕ) where
+  pub unsure-hole : getD b 0 0 ≡ 4 → Equals b isUnsure true
+  unsure-hole k t e = sym (ap isUnsure (variable-at b 0 t (at-start b t e) k))
+
+  pub sure-other : ¬ (getD b 0 0 ≡ 4) → ¬ (getD b 0 0 ≡ 0) → Equals b isUnsure false
+  sure-other v n (app f a) e = absurd (n (kind-at b 0 (app f a) (at-start b (app f a) e)))
+  sure-other v n (lam c) e = refl
+  sure-other v n (loc i) e = refl
+  sure-other v n (con i) e = refl
+  sure-other v n (var i) e = absurd (v (kind-at b 0 (var i) (at-start b (var i) e)))
+
+  module _ (z : getD b 0 0 ≡ 0) where
+    pub head-whole : Tree b → Whole b 4
+    head-whole x = whole-head b 0 (tree-whole b x) z
+
+    module _ (next : ℕ) (u : Ends b 4 next) where
+      pub argument-whole : Tree b → Whole b next
+      argument-whole x = whole-argument b 0 next (tree-whole b x) z u
+
+      pub unsure-argument : getD b next 0 ≡ 4 → Equals b isUnsure true
+      unsure-argument k t e =
+          let v = application b 0 t (at-start b t e) z in
+          rw (v .is, variable-at b next (v .a) (argument-part b 0 next t u v) k)
+
+      other-argument : (a : Term) (h : Bool) → Part b next a → ¬ (getD b next 0 ≡ 4) → ¬ (getD b next 0 ≡ 2) → false ≡ (isVariable a || (isInnermost a && h))
+      other-argument (app f c) h x n m = refl
+      other-argument (lam c) h x n m = refl
+      other-argument (loc i) h x n m = absurd (m (kind-at b next (loc i) x))
+      other-argument (con i) h x n m = refl
+      other-argument (var i) h x n m = absurd (n (kind-at b next (var i) x))
+
+      pub sure-argument : ¬ (getD b next 0 ≡ 4) → ¬ (getD b next 0 ≡ 2) → Equals b isUnsure false
+      sure-argument n m t e =
+          let v = application b 0 t (at-start b t e) z in
+          rw (v .is) (other-argument (v .a) (hasVariable (v .f)) (argument-part b 0 next t u v) n m)
+
+      module _ (k : getD b next 0 ≡ 2) (m : ℕ) (i : m ≡ numberAt b next) where
+        pub sure-outer : ¬ (m ≡ 0) → Equals b isUnsure false
+        sure-outer h t e =
+            let v = application b 0 t (at-start b t e) z in
+            rw (v .is, local-at b next m (v .a) (argument-part b 0 next t u v) k i, ne-eqb m 0 h)
+
+        module _ (h : m ≡ 0) (w : Walk) (x : Walked b 4 Exact w) where
+          pub sure-exact : (j : ℕ) → w ≡ Upto j → Equals b isUnsure false
+          sure-exact j q t e =
+              let v = application b 0 t (at-start b t e) z in
+              rw (v .is, local-at b next m (v .a) (argument-part b 0 next t u v) k i, eq-eqb m 0 h, walked-yes b 4 Exact w x (v .f) (v .head) j q)
+
+          pub unsure-inexact : w ≡ No → Equals b isUnsure true
+          unsure-inexact q t e =
+              let v = application b 0 t (at-start b t e) z in
+              rw (v .is, local-at b next m (v .a) (argument-part b 0 next t u v) k i, eq-eqb m 0 h)
+              (not-false-true (hasVariable (v .f)) (walked-not b 4 Exact w x (v .f) (v .head) q))
