@@ -43,11 +43,12 @@ use Rattle.sweeping.specs.Writers.{Same}
 use Rattle.sweeping.specs.Swept as Swept
 use Rattle.sweeping.specs.Swept.{sweptBytes}
 use Rattle.sweeping.proofs.Sweeps.{Result, results}
+use Rattle.listing.specs.Outcome.{Holds}
 use Rattle.agenda.specs.declared.Agenda.{Agenda}
 use Rattle.agenda.specs.declared.Decision.{Decision}
 use Rattle.agenda.specs.declared.Item.{Item}
 use Rattle.agenda.specs.Items.{ItemAt}
-use Rattle.agenda.specs.State.{GoalAt, State, Sat, Ready, Target, Easy, Hard, Chain, weights, relinking}
+use Rattle.agenda.specs.State.{GoalAt, State, Sat, Bounds, Ready, Target, Easy, Hard, Chain, weights, relinking}
 use Rattle.agenda.specs.Moves.{Move, Moved, Failed, Decided}
 use Rattle.agenda.specs.Builds.{Solving, Solved}
 use Rattle.agenda.specs.Ground.{HasEntries, OpenAt, AllAssigned, Stands, Comparing, Compared}
@@ -144,18 +145,36 @@ pub record Put (P : List ℕ) (r : Item) (g : Goal) : Type 0 where
   pub part : Part P (r .part) (partOf g)
   pub below : Below variables (partOf g)
 
+-- the value of a variable that is assigned
+pub held-given :
+    (P W : List ℕ) (s : Agenda) (a : List Entry) (l : Line) → Bounds P W s → Holds W (s .top) a l
+    → (i : ℕ) (n : Span) → getD a i Open ≡ Assigned n → (v : Term) × (entry l i ≡ some v) × Given W a i v
+held-given P W s a l bounds h i n q =
+    let k = holds-held W (s .top) a l i n h q in (
+      k .0,
+      k .1,
+      record {
+        span = n;
+        is = q;
+        most = omega (arith, k .2 .count, k .2 .most);
+        within = omega (arith, k .2 .below, bounds .top, bounds .whole);
+        bytes = part-bytes W (4 * n .first) (4 * n .count) (k .0) (k .2 .part) (ap (4 *_) (k .2 .count));
+        value = k .2 .value;
+      },
+    )
+
 module _ (P W : List ℕ) (s : Agenda) (a : List Entry) (ready : Ready relinking P W s a) (hard : 0 < s .hard) (r : Item) (y : ItemAt W (s .hard) r) where
-  abbrev Opened : List Goal → Line → Goal → List Goal → Type 0
+  abbrev pub Opened : List Goal → Line → Goal → List Goal → Type 0
   Opened gs l g hs = State relinking P W s a gs (g ∷ hs) l
 
-  opened : (gs : List Goal) (l : Line) (Q : List Goal → Type 0) → ((g : Goal) (hs : List Goal) → Opened gs l g hs → Q (g ∷ hs)) → (hs : List Goal) → State relinking P W s a gs hs l → Q hs
+  pub opened : (gs : List Goal) (l : Line) (Q : List Goal → Type 0) → ((g : Goal) (hs : List Goal) → Opened gs l g hs → Q (g ∷ hs)) → (hs : List Goal) → State relinking P W s a gs hs l → Q hs
   opened gs l Q h [] x = absurd (omega (arith, hard, x .hard))
   opened gs l Q h (g ∷ hs) x = h g hs x
 
-  from : (A : Type 0) → ((gs hs : List Goal) (l : Line) (g : Goal) → Opened gs l g hs → A) → A
+  pub from : (A : Type 0) → ((gs hs : List Goal) (l : Line) (g : Goal) → Opened gs l g hs → A) → A
   from A h = opened (ready .gs) (ready .line) (λ _. A) (λ g hs x. h (ready .gs) hs (ready .line) g x) (ready .hs) (ready .state)
 
-  put : (g : Goal) → GoalAt P W (s .top) (s .hard) g → Put P r g
+  pub put : (g : Goal) → GoalAt P W (s .top) (s .hard) g → Put P r g
   put (match p t) x = record { part = subst (λ (i : ℕ). Part P i p) (sym (y .part)) (x .part); below = x .suits .0 .0 }
   put (build f t e) x = record { part = subst (λ (i : ℕ). Part P i f) (sym (y .part)) (x .part); below = x .suits .0 .0 }
 
@@ -199,19 +218,7 @@ module _ (P W : List ℕ) (s : Agenda) (a : List Entry) (ready : Ready relinking
           go : (c : Entry) → getD a i Open ≡ c → Seen l i
           go Open q = absurd (all (partOf g) (table-of (partOf g) (put g (x .hard .0 .goal) .part)) i o q)
           go (Assigned n) q =
-              let k = holds-held W (s .top) a l i n (x .entries) q in
-              record {
-                value = k .0;
-                is = k .1;
-                given = record {
-                  span = n;
-                  is = q;
-                  most = omega (arith, k .2 .count, k .2 .most);
-                  within = omega (arith, k .2 .below, ready .bounds .top, ready .bounds .whole);
-                  bytes = part-bytes W (4 * n .first) (4 * n .count) (k .0) (k .2 .part) (ap (4 *_) (k .2 .count));
-                  value = k .2 .value;
-                };
-              }
+              let k = held-given P W s a l (ready .bounds) (x .entries) i n q in record { value = k .0; is = k .1; given = k .2 }
 
       complete : (gs hs : List Goal) (l : Line) (g : Goal) → Opened gs l g hs → Complete (partOf g) l
       complete gs hs l g x i o = let v = seen gs hs l g x i o in (v .value, v .is)

@@ -12,6 +12,7 @@ pub mod Building
 pub mod Planning
 pub mod Ordering
 pub mod Deciding
+pub mod Outlining
 pub mod Spines
 pub mod Joins
 pub mod Forcing

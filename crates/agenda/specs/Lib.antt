@@ -8,6 +8,7 @@ pub mod Builds
 pub mod Opening
 pub mod Locals
 pub mod Ground
+pub mod Outlines
 pub mod Pairs
 pub mod Joins
 pub mod Repeated

@@ -1,4 +1,4 @@
-// A goal put off whose part of the pattern has no open variable: one sweep decides it.
+// A goal put off: if its part of the pattern has no open variable, one sweep decides it; if it has one, the part's skeleton may refuse it.
 
 use crate::Agenda;
 use crate::Decision;
@@ -65,8 +65,8 @@ fn is_met(work: &mut [u8], s: Agenda, goal: Item, swept: &[u8]) -> bool
     crate::builds::is_solved(work, s.top, goal.argument, target)
 }
 
-// Decides the first goal put off, if its part has no open variable and the sweep of the part isn't too long. The locals of a part are few, so
-// that those of its swept form have numbers that a record holds; that is asked for on the way to the part's end.
+// Decides the first goal put off, if its part has no open variable and the sweep of the part isn't too long, or if its skeleton refuses it.
+// The locals of a part are few, so that those of its swept form have numbers that a record holds; that is asked for on the way to the part's end.
 pub fn decide(p: &[u8], work: &mut [u8], s: Agenda, a: [Entry; 8]) -> Decision
     requires { ⌜ Ready relinking (now p) (now work) s a × (0 < s .hard) ⌝ }
     ensures { λ r. ⌜ Decided relinking (now (p .entry)) (now (work .entry)) s a (now (work .exit)) r ⌝ }
@@ -78,7 +78,10 @@ pub fn decide(p: &[u8], work: &mut [u8], s: Agenda, a: [Entry; 8]) -> Decision
         return Decision::Open;
     };
     if !is_ground(&p[part..end], a) {
-        return Decision::Open;
+        if crate::outlines::is_possible(p, work, s, a, walk) {
+            return Decision::Open;
+        }
+        return Decision::Failed;
     }
     let mut swept = [0u8; SWEPT_BYTES];
     let length = sweeping::sweep_part(&p[part..end], work, a, &mut swept);

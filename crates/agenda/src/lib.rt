@@ -13,6 +13,7 @@ pub mod ground;
 mod joining;
 mod locals;
 pub mod order;
+pub mod outlines;
 mod pairs;
 pub mod repeated;
 pub mod steps;
@@ -21,6 +22,7 @@ use assignments::Entry;
 use assignments::Span;
 use records::RECORD;
 use records::VALUE_RECORDS;
+use sweeping::SWEPT_BYTES;
 ghost use mathlib.Core.Path.{_≡_};
 ghost use Prim.Native.Nat.{_+_, _≤_};
 ghost use lib.ListN.{length};
@@ -53,6 +55,12 @@ pub enum Step {
 pub enum Branch {
     Failed,
     Next(Agenda),
+}
+
+// What is known of the swept form of a part while some variables are open: a term with holes that it fits, as so many bytes.
+pub struct Skeleton {
+    pub bytes: [u8; SWEPT_BYTES],
+    pub length: usize,
 }
 
 // What is known of an application that was put off, before its ways are gone through: how many there are, where its argument begins in the

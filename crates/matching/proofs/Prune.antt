@@ -26,6 +26,7 @@ use Rattle.matching.proofs.Splits.{candidates, in-candidates}
 use Rattle.matching.proofs.Lines.{Values}
 use Rattle.matching.proofs.Lists.{Predicate, Lists, lists-same}
 use Rattle.matching.proofs.Lister.{Sweeps}
+use Rattle.matching.proofs.Skeletons.{Fits}
 
 -- cut 1, rigid heads: no abstraction is a target, so that an application with such a head can only be split
 pub no-abstraction : (φ : ℕ → Term) (p b : Term) → rigid p ≡ true → ¬ Sweeps p (lam b) φ
@@ -165,3 +166,11 @@ build-local φ v f t e j (b, s, p, _) u c = go (uses j e) refl
     go : (x : Bool) → uses j e ≡ x → x ≡ true
     go true q = refl
     go false q = absurd (subst T (sym u ∙ ap (uses j) (sym p) ∙ unused-substitute j j 0 e b (omega arith) (sym (ap (uses j) s) ∙ unused-sweep φ v j f c) q) tt)
+
+-- skeletons: an abstraction fits only a hole or an abstraction
+pub fits-abstraction : (s b : Term) → Fits s (lam b) → ¬ (kind s ≡ 4) → kind s ≡ 1
+fits-abstraction (app f a) b x n = absurd x
+fits-abstraction (lam c) b x n = refl
+fits-abstraction (loc i) b x n = absurd x
+fits-abstraction (con i) b x n = absurd x
+fits-abstraction (var i) b x n = absurd (n refl)

@@ -1,0 +1,39 @@
+-- Goals that are refused by the skeletons of their parts.
+--   Outlines P i W a     a part of the pattern P stands at byte i, and the values of its assigned variables stand in W
+--   Sketch P i W a c n   the first n bytes of c are a skeleton of the part of P at byte i
+--   Possible P W s a b   unless b, no assignment satisfies the goals
+use mathlib.Core.Path.{_≡_}
+use mathlib.Core.Bool.{Bool, true, false}
+use mathlib.Core.List.{List}
+use Prim.Native.Nat.{ℕ, _-_, _*_, _≤_}
+use lib.ListN.{length, take, drop}
+use Rattle.terms.specs.Figures.{variables, patternRecords}
+use Rattle.terms.specs.Term.{Term, Below}
+use Rattle.terms.specs.Table.{encode}
+use Rattle.terms.specs.Listing.{Line}
+use Rattle.matching.proofs.Lines.{Values}
+use Rattle.matching.proofs.Goals.{Goal}
+use Rattle.records.specs.Parts.{Part}
+use Rattle.assignments.specs.declared.Entry.{Entry}
+use Rattle.skeletons.specs.Outlined.{GivenValues, Outline}
+use Rattle.agenda.specs.declared.Agenda.{Agenda}
+use Rattle.agenda.specs.State.{State, Sat, relinking}
+
+pub record Outlines (P : List ℕ) (i : ℕ) (W : List ℕ) (a : List Entry) : Type 0 where
+  pub tree : Term
+  pub part : Part P i tree
+  pub short : length P ≤ 4 * patternRecords
+  pub below : Below variables tree
+  pub φ : ℕ → Term
+  pub gives : GivenValues W a φ tree
+
+pub record Sketch (P : List ℕ) (i : ℕ) (W : List ℕ) (a : List Entry) (c : List ℕ) (n : ℕ) : Type 0 where
+  pub tree : Term
+  pub bytes : take (n - 0) (drop 0 c) ≡ encode tree
+  pub outline : (t : Term) → Part P i t → Outline W a t tree
+  pub least : 4 ≤ n
+  pub within : n ≤ length c
+
+unfoldable pub Possible : List ℕ → List ℕ → Agenda → List Entry → Bool → Type 0
+Possible P W s a true = Unit {0}
+Possible P W s a false = (gs hs : List Goal) (l : Line) → State relinking P W s a gs hs l → (φ : ℕ → Term) → Values φ → ¬ Sat gs hs l φ
