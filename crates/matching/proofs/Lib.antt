@@ -21,5 +21,4 @@ pub mod Tables
 pub mod Cases
 pub mod Contraction
 pub mod Repeated
-pub mod Skeletons
 pub mod Ground
