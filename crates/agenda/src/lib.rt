@@ -2,8 +2,8 @@
 //
 // A goal is a part of the pattern and a target that it has to sweep to. Goals, targets and assigned values stand in the work area below `top`,
 // where nothing is changed, so that all branches of a search share them and going back costs nothing. The crate reads and writes goals, takes
-// an easy goal, tries one way of an application whose head is unknown, writes one body of a goal to build, and chooses among the goals that
-// were put off. Each step promises that the agenda it leaves has exactly the assignments of the one before, or of the alternative it is for;
+// an easy goal, tries one way of an application whose head is unknown, writes one body of a goal to build, decides goals without open
+// variables, reads a variable's value off two goals, and chooses among the goals that were put off. Each step promises that the agenda it leaves has exactly the assignments of the one before, or of the alternative it is for;
 // or that there are none; and that the work area suffices. It rests on `matching` for the mathematics, on `abstractions`, `sweeping` and
 // `records` for single terms, and on `listing` for how entries hold a line.
 

@@ -13,16 +13,19 @@ ghost use Rattle.agenda.specs.State.{Ready};
 ghost use Rattle.agenda.specs.Branches.{Forwarded};
 ghost use Rattle.agenda.specs.Ordering.{Reaches, Branches, Weighs, Ranks, Drops, Dropped, linked as linkedTo};
 
-// The cost of a goal to build whose argument has very many copies.
-const MOST_BODIES: usize = 4095;
+// What a body counts for: it leads on to a goal of its own, and so to more than one way of an application does.
+const BODY: usize = 4;
 
-// How many bodies so many copies give, or `MOST_BODIES` if there are more: at each copy a body has its local or the copy, and its local at
-// one of them.
+// The cost of a goal to build whose argument has very many copies.
+const MOST_BODIES: usize = 16380;
+
+// The cost of the bodies that so many copies give, or `MOST_BODIES` if it is more: at each copy a body has its local or the copy, and its
+// local at one of them.
 fn bodies(copies: usize) -> usize {
     let mut n = 0;
     let mut i = 0;
     while i < copies {
-        n = 2 * n + 1;
+        n = 2 * n + BODY;
         if MOST_BODIES <= n {
             return MOST_BODIES;
         }

@@ -21,5 +21,5 @@ pub mod Tables
 pub mod Cases
 pub mod Contraction
 pub mod Repeated
-pub mod Skeletons
 pub mod Ground
+pub mod Skeletons

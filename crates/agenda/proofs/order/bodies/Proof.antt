@@ -5,7 +5,7 @@ use Rattle.agenda.proofs.order.bodies.Statement.{statement}
 use Rattle.agenda.proofs.order.bodies.Tie as tie
 
 abbrev Inv-loop : tie.InvT-loop
-Inv-loop copies n₀ i₀ n i = n < 4095
+Inv-loop copies n₀ i₀ n i = n < 16380
 
 abbrev μ-loop : tie.MeasureT-loop
 μ-loop copies n₀ i₀ n i = copies - i
