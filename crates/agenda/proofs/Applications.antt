@@ -18,6 +18,7 @@ use Rattle.terms.proofs.Locals.{rigid}
 use Rattle.terms.proofs.Table.{kind, encode-length}
 use Rattle.terms.proofs.Shift.{size-shift}
 use Rattle.matching.proofs.Lines.{Values}
+use Rattle.matching.proofs.Partial.{total}
 use Rattle.matching.proofs.Goals.{Goal, Goal.match, Goal.build, Listable}
 use Rattle.matching.proofs.Alternatives.{alternative-parts, alternative-no-parts, listable-parts, listable-constant}
 use Rattle.matching.proofs.Prune.{no-local, constant-local}
@@ -33,17 +34,20 @@ use Rattle.assignments.specs.declared.Entry.{Entry}
 use Rattle.agenda.specs.declared.Agenda.{Agenda}
 use Rattle.agenda.specs.declared.Branch.{Branch}
 use Rattle.agenda.specs.declared.Item.{Item}
+use Rattle.agenda.specs.declared.Skeleton.{Skeleton}
 use Rattle.agenda.specs.declared.Ways.{Ways}
 use Rattle.agenda.specs.Items.{itemBytes, ItemAt, Fits}
 use Rattle.agenda.specs.State.{Target, State, Bounds, Easy, Hard, Chain, relinking}
 use Rattle.agenda.specs.Moves.{Question, Move, Moved, Failed, Branched}
 use Rattle.abstractions.proofs.Depths.{depth-source, depth-written}
 use Rattle.abstractions.specs.Occurrences.{DepthSource, WroteDepths}
-use Rattle.agenda.specs.Branches.{Way, HasWays, HasDepths, Lacking}
+use Rattle.agenda.specs.Branches.{Way, HasWays, HasDepths, Lacking, Fitting}
+use Rattle.agenda.specs.Outlines.{Outlines, Sketch}
 use Rattle.agenda.specs.Builds.{Pushes, Pushed, targetItem, afterItem}
 use Rattle.agenda.specs.Applications.{Matches, Counted, matchItem, buildItem}
 use Rattle.agenda.specs.Locals.{Locals, Lacks}
 use Rattle.agenda.proofs.Frame.{Kept, part-kept, part-stored, target-kept, chain-kept, holds-kept, kept-sets, kept-then, length-stored, item-stored, chain-match}
+use Rattle.agenda.proofs.Outlining.{line-values, extended-values}
 
 -- the head and the argument of an application that stands in a table
 pub application-parts : (l : List ℕ) (at : ℕ) (f b : Term) → Part l at (app f b) → Part l (at + 4) f × Part l (at + 4 + 4 * size f) b
@@ -127,6 +131,21 @@ module _ (P W : List ℕ) (s : Agenda) (a : List Entry) where
       pub argument-whole : (h : ℕ) → Ends P (r .part + 4) h → Whole P h
       argument-whole h e = from (Whole P h) (λ gs hs l f b t z. whole P h b (argument-from P (r .part) h f b e (site r gs hs l f b t y z .part)))
 
+      pub argument-walkable : (h : ℕ) → Ends P (r .part + 4) h → Whole P h × (patternRecords + length P ≤ h + tableBytes)
+      argument-walkable h e = (argument-whole h e, omega (arith, x .ready .bounds .short))
+
+      pub argument-outlines : (h : ℕ) → Ends P (r .part + 4) h → Outlines P h W a
+      argument-outlines h e = from (Outlines P h W a) (λ gs hs l f b t z.
+          let v = site r gs hs l f b t y z in
+          record {
+            tree = b;
+            part = argument-from P (r .part) h f b e (v .part);
+            short = x .ready .bounds .short;
+            below = v .suits .0 .0 .1;
+            φ = total l;
+            gives = line-values P W s a l (x .ready .bounds) (z .entries) b;
+          })
+
       pub locals : Locals P (r .part + 4) W (r .target)
       locals = from (Locals P (r .part + 4) W (r .target)) (λ gs hs l f b t z.
           let v = site r gs hs l f b t y z .target in
@@ -143,15 +162,18 @@ module _ (P W : List ℕ) (s : Agenda) (a : List Entry) where
           })
 
       pub counted :
-          (h g : ℕ) (c d : Bool) (m : List ℕ) (o : ℕ) → Ends W (r .target) h → Ends P (r .part + 4) g → ((t : Term) → Part P g t → c ≡ rigid t) → Lacks P (r .part + 4) W (r .target) d
-          → WroteDepths W (r .target) 0 (replicate valueRecords 0) 0 m o
-          → Counted P W s a (record { count = (h - r .target) / 4 + 2; argument = g; rigid = c; lacking = d; depths = m })
+          (h g : ℕ) (c d : Bool) (m : List ℕ) (o : ℕ) (i : Skeleton) → Ends W (r .target) h → Ends P (r .part + 4) g → ((t : Term) → Part P g t → c ≡ rigid t) → Sketch P g W a (i .bytes) (i .length)
+          → Lacks P (r .part + 4) W (r .target) d → WroteDepths W (r .target) 0 (replicate valueRecords 0) 0 m o
+          → Counted P W s a (record { count = (h - r .target) / 4 + 2; argument = g; rigid = c; skeleton = i; lacking = d; depths = m })
       unfolding Lacks
-      counted h g c d m o e j k n u = record {
+      counted h g c d m o i e j k p n u = record {
         ways = λ gs hs l z. opened gs l (HasWays ((h - r .target) / 4 + 2)) (λ f b t us o. omega (arith, e .exact t (site r gs us l f b t y o .target .part))) hs z;
         argument = subst (λ (i : ℕ). Ends P (i + 4) g) (y .part) j;
         rigid-argument = k;
         depths-are = λ gs hs l z. opened gs l (HasDepths m) (λ f b t us v i q. depth-written W (r .target) _ m o u i t (site r gs us l f b t y v .target .part) q) hs z;
+        skeleton-table = p .table;
+        skeleton-fits = λ gs hs l z. opened gs l (Fitting (p .table .tree) l) (λ f b t us v φ q.
+            p .outline b (argument-from P (r .part) g f b j (site r gs us l f b t y v .part)) φ (extended-values P W s a l (x .ready .bounds) (v .entries) b φ q)) hs z;
         lacking-head = λ i gs hs l z.
             let q : Lacks P (r .part + 4) W (r .target) true = subst (Lacks P (r .part + 4) W (r .target)) i n in
             opened gs l Lacking (λ f b t us o.

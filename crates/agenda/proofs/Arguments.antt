@@ -19,6 +19,7 @@ use Rattle.terms.proofs.Table.{encode-inj, encode-length}
 use Rattle.matching.proofs.Goals.{Goal, Goal.match, Goal.build}
 use Rattle.matching.proofs.Occurrences.{partAt, First, each-part, first-lowered, first-movable, first-not-again, first-from}
 use Rattle.matching.proofs.Prune.{build-local}
+use Rattle.matching.proofs.Skeletons.{Fits}
 use Rattle.matching.proofs.Alternatives.{alternative-argument, listable-argument}
 use Rattle.matching.proofs.Targets.{closed-more, part-closed, part-normal, part-ground, part-size}
 use Rattle.records.specs.Parts.{Part, Whole, Ends}
@@ -29,6 +30,7 @@ use Rattle.records.proofs.Parts.{whole}
 use Rattle.sweeping.specs.Writers.{Wrote}
 use Rattle.sweeping.proofs.Stores as Stores
 use Rattle.assignments.specs.declared.Entry.{Entry}
+use Rattle.skeletons.specs.Outlined.{MayBe}
 use Rattle.abstractions.specs.Lowering.{Lowers, Lowered, Leaves, Movable}
 use Rattle.abstractions.specs.Occurrences.{DepthOf, Looks, Earlier}
 use Rattle.abstractions.proofs.Occurrences.{part-at}
@@ -39,9 +41,10 @@ use Rattle.agenda.specs.declared.Ways.{Ways}
 use Rattle.agenda.specs.Items.{itemBytes, ItemAt}
 use Rattle.agenda.specs.State.{Target, State, Easy, Hard, Chain, relinking}
 use Rattle.agenda.specs.Moves.{Move, Moved, Failed, Branched}
-use Rattle.agenda.specs.Branches.{Way}
+use Rattle.agenda.specs.Branches.{Way, Fitting}
 use Rattle.agenda.specs.Applications.{Matches, Counted, Agree, matchItem, buildItem, argumentOf, Places, Argument, Placed, Comparable, Misses}
 use Rattle.agenda.proofs.Frame.{Kept, part-kept, part-stored, target-kept, chain-kept, holds-kept, kept-sets, kept-then, length-stored, item-stored, chain-match, chain-build}
+use Rattle.agenda.proofs.Outlining.{skeleton-part}
 use Rattle.agenda.proofs.Applications.{application-parts, argument-from, stored-as, live, died, Site, MatchState, site, opened, from, numbers, argument-ends, dead}
 
 -- how large and how deep a part is
@@ -263,6 +266,23 @@ module _ (P W : List ℕ) (s : Agenda) (a : List Entry) (x : Matches P W s a) (r
         let n = standing f b t v in
         let m = q t (argumentOf t j) (n .target) (n .part) in
         first-not-again t (m .0) j (o .1 .0 .0) (m .1) (m .3) (o .1 .0 .1)))
+
+    -- no assignment sweeps the argument to what doesn't fit its skeleton
+    pub unfitting :
+        (w : Ways) (c : Counted P W s a w) (b : Bool) → MayBe (take (w .skeleton .length - 0) (drop 0 (w .skeleton .bytes))) X (s .top) b → b ≡ false
+        → Branched P W s a (Way (suc (suc j))) X Branch.Failed
+    unfolding MayBe
+    unfitting w c b e i =
+        let k = c .skeleton-table in
+        let q : MayBe (take (w .skeleton .length - 0) (drop 0 (w .skeleton .bytes))) X (s .top) false = subst (MayBe _ X (s .top)) i e in
+        died P W s a (Way (suc (suc j))) X (record {
+          none = λ gs hs l z φ v. opened P W s a x gs l (λ us. Fitting (k .tree) l us → ¬ Way (suc (suc j)) gs us l φ) (λ f b t us o m p.
+              let n = standing f b t (site P W s a r gs us l f b t y o) in
+              let u : p .1 .0 .0 ≡ argumentOf t j = first-lowered t j (p .1 .0 .0) (p .1 .0 .1) in
+              q (k .tree) (argumentOf t j) (skeleton-part (w .skeleton .bytes) (w .skeleton .length) k) (n .part) (subst (Fits (k .tree)) (p .1 .0 .2 ∙ u) (m φ (p .2)))) hs z
+              (c .skeleton-fits gs hs l z);
+          kept = ending .same;
+        })
 
     -- the target has a local that nothing brings in
     pub lacking : (c : Bool) → Misses P (r .part + 4) X (r .target) (s .top) c → c ≡ true → Branched P W s a (Way (suc (suc j))) X Branch.Failed

@@ -39,7 +39,7 @@ use Rattle.agenda.specs.declared.Item.{Item}
 use Rattle.agenda.specs.Items.{ItemAt}
 use Rattle.agenda.specs.State.{GoalAt, Sat, Bounds, Ready, patternAt, relinking}
 use Rattle.agenda.specs.Moves.{Decided}
-use Rattle.agenda.specs.Outlines.{Outlines, Sketch, Possible}
+use Rattle.agenda.specs.Outlines.{Outlines, Prefix, Sketch, Possible}
 use Rattle.agenda.proofs.Leaves.{part-bytes}
 use Rattle.agenda.proofs.Deciding.{held-given, partOf, Opened, opened, from, put}
 
@@ -57,11 +57,13 @@ module _ (P W : List ℕ) (s : Agenda) (a : List Entry) (l : Line) (bounds : Bou
 module _ (P : List ℕ) (i : ℕ) (W : List ℕ) (a : List Entry) (x : Outlines P i W a) where
   pub hole-sketch : (out after : List ℕ) → length out ≡ sweptBytes → after ≡ sets out 0 (encode (var 0)) → Sketch P i W a after 4
   hole-sketch out after h e = record {
-    tree = var 0;
-    bytes = stored out after (encode (var 0)) 4 e refl (omega arith);
+    table = record {
+      tree = var 0;
+      bytes = stored out after (encode (var 0)) 4 e refl (omega arith);
+      least = omega arith;
+      within = omega (arith, h, ap length e, length-sets out 0 (encode (var 0)));
+    };
     outline = λ t p φ g. tt;
-    least = omega arith;
-    within = omega (arith, h, ap length e, length-sets out 0 (encode (var 0)));
   }
 
   module _ (w : Walk) (k : Walked P i (Asks BelowAsk patternRecords) w) (end : ℕ) (e : w ≡ Upto end) where
@@ -99,15 +101,17 @@ module _ (P : List ℕ) (i : ℕ) (W : List ℕ) (a : List Entry) (x : Outlines 
         let b = table-of (x .tree) (x .part) in
         let v = o .written (x .tree) b in
         record {
-          tree = v .skeleton;
-          bytes = stored out after (encode (v .skeleton)) (n * 4) (v .bytes) (omega (arith, v .sized, encode-length (v .skeleton))) (omega (arith, o .few));
+          table = record {
+            tree = v .skeleton;
+            bytes = stored out after (encode (v .skeleton)) (n * 4) (v .bytes) (omega (arith, v .sized, encode-length (v .skeleton))) (omega (arith, o .few));
+            least = omega (arith, o .some);
+            within = omega (arith, h, o .few, ap length (v .bytes), length-sets out 0 (encode (v .skeleton)));
+          };
           outline = λ t p. subst (λ (u : Term). Outline W a u (v .skeleton)) (encode-one (x .tree) t (sym b ∙ table-of t p)) (v .outline);
-          least = omega (arith, o .some);
-          within = omega (arith, h, o .few, ap length (v .bytes), length-sets out 0 (encode (v .skeleton)));
         }
 
 -- what stands in the first n bytes of c
-module _ (P : List ℕ) (i : ℕ) (W : List ℕ) (a : List Entry) (c : List ℕ) (n : ℕ) (k : Sketch P i W a c n) where
+module _ (c : List ℕ) (n : ℕ) (k : Prefix c n) where
   pub skeleton-part : Part (take (n - 0) (drop 0 c)) 0 (k .tree)
   skeleton-part = at-start (take (n - 0) (drop 0 c)) (k .tree) (k .bytes)
 
@@ -157,11 +161,11 @@ module _ (P W : List ℕ) (s : Agenda) (a : List Entry) (ready : Ready relinking
       go (build f t e) x = whole W (r .target) t (subst (λ (i : ℕ). Part W i t) (sym (y .target)) (x .target .part))
 
   module _ (c : List ℕ) (n : ℕ) (k : Sketch P (r .part) W a c n) where
-    fits-part : (gs hs : List Goal) (l : Line) (g : Goal) → Opened P W s a ready hard r y gs l g hs → (φ : ℕ → Term) → Extends φ l → Fits (k .tree) (sweep (fill φ (partOf g)))
+    fits-part : (gs hs : List Goal) (l : Line) (g : Goal) → Opened P W s a ready hard r y gs l g hs → (φ : ℕ → Term) → Extends φ l → Fits (k .table .tree) (sweep (fill φ (partOf g)))
     fits-part gs hs l g x φ e =
         k .outline (partOf g) (put P W s a ready hard r y g (x .hard .0 .goal) .part) φ (extended-values P W s a l (ready .bounds) (x .entries) (partOf g) φ e)
 
-    refused : (q : (gs hs : List Goal) (l : Line) (g : Goal) → Opened P W s a ready hard r y gs l g hs → (φ : ℕ → Term) → Fits (k .tree) (sweep (fill φ (partOf g))) → ¬ Meets g φ) → Possible P W s a false
+    refused : (q : (gs hs : List Goal) (l : Line) (g : Goal) → Opened P W s a ready hard r y gs l g hs → (φ : ℕ → Term) → Fits (k .table .tree) (sweep (fill φ (partOf g))) → ¬ Meets g φ) → Possible P W s a false
     unfolding Possible
     refused q gs hs l z φ v =
         opened P W s a ready hard r y gs l (λ us. ¬ Sat gs us l φ) (λ g us x o. q gs us l g x φ (fits-part gs us l g x φ (o .2)) (o .1 .0)) hs z
@@ -171,17 +175,17 @@ module _ (P W : List ℕ) (s : Agenda) (a : List Entry) (ready : Ready relinking
     possible-match z true m = possible P W s a
     possible-match z false m = refused go
       where
-        go : (gs hs : List Goal) (l : Line) (g : Goal) → Opened P W s a ready hard r y gs l g hs → (φ : ℕ → Term) → Fits (k .tree) (sweep (fill φ (partOf g))) → ¬ Meets g φ
+        go : (gs hs : List Goal) (l : Line) (g : Goal) → Opened P W s a ready hard r y gs l g hs → (φ : ℕ → Term) → Fits (k .table .tree) (sweep (fill φ (partOf g))) → ¬ Meets g φ
         go gs hs l (match p t) x φ f e =
-            m (k .tree) t (skeleton-part P (r .part) W a c n k) (subst (λ (i : ℕ). Part W i t) (sym (y .target)) (x .hard .0 .goal .target .part)) (subst (Fits (k .tree)) e f)
+            m (k .table .tree) t (skeleton-part c n (k .table)) (subst (λ (i : ℕ). Part W i t) (sym (y .target)) (x .hard .0 .goal .target .part)) (subst (Fits (k .table .tree)) e f)
         go gs hs l (build f t e) x φ _ _ = omega (arith, z, y .kind, x .hard .0 .goal .kind)
 
     pub possible-build : ¬ (r .kind ≡ 0) → ¬ (getD c 0 0 ≡ 4) → Possible P W s a (eqb (getD c 0 0) 1)
     possible-build z h = by (eqb (getD c 0 0) 1) refl
       where
-        go : ¬ (getD c 0 0 ≡ 1) → (gs hs : List Goal) (l : Line) (g : Goal) → Opened P W s a ready hard r y gs l g hs → (φ : ℕ → Term) → Fits (k .tree) (sweep (fill φ (partOf g))) → ¬ Meets g φ
+        go : ¬ (getD c 0 0 ≡ 1) → (gs hs : List Goal) (l : Line) (g : Goal) → Opened P W s a ready hard r y gs l g hs → (φ : ℕ → Term) → Fits (k .table .tree) (sweep (fill φ (partOf g))) → ¬ Meets g φ
         go m gs hs l (match p t) x φ _ _ = absurd (z (y .kind ∙ x .hard .0 .goal .kind))
-        go m gs hs l (build f t e) x φ i o = m (skeleton-abstraction P (r .part) W a c n k (o .0) (subst (Fits (k .tree)) (o .1) i) h)
+        go m gs hs l (build f t e) x φ i o = m (skeleton-abstraction c n (k .table) (o .0) (subst (Fits (k .table .tree)) (o .1) i) h)
 
         by : (b : Bool) → eqb (getD c 0 0) 1 ≡ b → Possible P W s a b
         by true e = possible P W s a

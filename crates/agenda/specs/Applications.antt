@@ -34,7 +34,8 @@ use Rattle.agenda.specs.declared.Agenda.{Agenda}
 use Rattle.agenda.specs.declared.Item.{Item}
 use Rattle.agenda.specs.declared.Ways.{Ways}
 use Rattle.agenda.specs.State.{State, Ready, patternAt, relinking}
-use Rattle.agenda.specs.Branches.{HasWays, HasDepths, Lacking}
+use Rattle.agenda.specs.Branches.{HasWays, HasDepths, Lacking, Fitting}
+use Rattle.agenda.specs.Outlines.{Prefix}
 
 pub record Matches (P W : List ℕ) (s : Agenda) (a : List Entry) : Type 0 where
   pub ready : Ready relinking P W s a
@@ -46,6 +47,8 @@ pub record Counted (P W : List ℕ) (s : Agenda) (a : List Entry) (w : Ways) : T
   pub argument : Ends P (patternAt W (s .hard) + 4) (w .argument)
   pub rigid-argument : (t : Term) → Part P (w .argument) t → w .rigid ≡ rigid t
   pub depths-are : (gs hs : List Goal) (l : Line) → State relinking P W s a gs hs l → HasDepths (w .depths) hs
+  pub skeleton-table : Prefix (w .skeleton .bytes) (w .skeleton .length)
+  pub skeleton-fits : (gs hs : List Goal) (l : Line) → State relinking P W s a gs hs l → Fitting (skeleton-table .tree) l hs
   pub lacking-head : w .lacking ≡ true → (gs hs : List Goal) (l : Line) → State relinking P W s a gs hs l → Lacking hs
 
 unfoldable pub Agree : List ℕ → ℕ → List ℕ → ℕ → Bool → Type 0

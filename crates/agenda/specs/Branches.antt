@@ -3,6 +3,7 @@
 --   HasWays n hs     the first goal of hs has n ways
 --   HasDepths m hs   m has the number of binders above each record of its target
 --   Lacking hs       its head lacks a loose local of its target
+--   Fitting x l hs   its argument fits the skeleton x under each assignment that extends the line l
 --   Choices m k      those by which the first goal put off, a goal to build, has a body with the first k choices of m
 --   Chosen m         those by which it has the body of m's choices
 --   Brought, Forwarded ..   the same goals, another one first
@@ -15,6 +16,7 @@ use Prim.Native.Nat.{ℕ, _+_, _<_, _≤_}
 use lib.ListN.{getD, take}
 use Rattle.terms.specs.Figures.{valueRecords}
 use Rattle.terms.specs.Term.{Term, app, lam, loc, con, var, size, uses}
+use Rattle.terms.specs.Sweep.{sweep, fill}
 use Rattle.terms.specs.Listing.{Line}
 use Rattle.matching.proofs.Occurrences.{partAt}
 use Rattle.matching.proofs.Lines.{Values, Extends}
@@ -24,6 +26,7 @@ use Rattle.matching.proofs.Goals.{Goal, Goal.match, Goal.build, All}
 use Rattle.matching.proofs.Bodies.{copies, body}
 use Rattle.matching.proofs.Bodies as Bodies
 use Rattle.matching.proofs.Alternatives.{Alternative}
+use Rattle.matching.proofs.Skeletons.{Fits}
 use Rattle.assignments.specs.declared.Entry.{Entry}
 use Rattle.abstractions.specs.Bodies.{chosenIn}
 use Rattle.agenda.specs.declared.Agenda.{Agenda}
@@ -58,6 +61,15 @@ Lacking (match (loc n) t ∷ hs) = ⊥
 Lacking (match (con n) t ∷ hs) = ⊥
 Lacking (match (var n) t ∷ hs) = ⊥
 Lacking (build f t e ∷ hs) = ⊥
+
+abbrev pub Fitting : Term → Line → List Goal → Type 0
+Fitting x l [] = ⊥
+Fitting x l (match (app f a) t ∷ hs) = (φ : ℕ → Term) → Extends φ l → Fits x (sweep (fill φ a))
+Fitting x l (match (lam b) t ∷ hs) = ⊥
+Fitting x l (match (loc n) t ∷ hs) = ⊥
+Fitting x l (match (con n) t ∷ hs) = ⊥
+Fitting x l (match (var n) t ∷ hs) = ⊥
+Fitting x l (build f t e ∷ hs) = ⊥
 
 abbrev pub Choices : List ℕ → ℕ → Question
 Choices m k gs [] l φ = ⊥

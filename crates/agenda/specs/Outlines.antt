@@ -1,6 +1,7 @@
 -- Goals that are refused by the skeletons of their parts.
 --   Outlines P i W a     a part of the pattern P stands at byte i, and the values of its assigned variables stand in W
---   Sketch P i W a c n   the first n bytes of c are a skeleton of the part of P at byte i
+--   Prefix c n           the first n bytes of c are the table of a term
+--   Sketch P i W a c n   that term is a skeleton of the part of P at byte i
 --   Possible P W s a b   unless b, no assignment satisfies the goals
 use mathlib.Core.Path.{_≡_}
 use mathlib.Core.Bool.{Bool, true, false}
@@ -27,12 +28,15 @@ pub record Outlines (P : List ℕ) (i : ℕ) (W : List ℕ) (a : List Entry) : T
   pub φ : ℕ → Term
   pub gives : GivenValues W a φ tree
 
-pub record Sketch (P : List ℕ) (i : ℕ) (W : List ℕ) (a : List Entry) (c : List ℕ) (n : ℕ) : Type 0 where
+pub record Prefix (c : List ℕ) (n : ℕ) : Type 0 where
   pub tree : Term
   pub bytes : take (n - 0) (drop 0 c) ≡ encode tree
-  pub outline : (t : Term) → Part P i t → Outline W a t tree
   pub least : 4 ≤ n
   pub within : n ≤ length c
+
+pub record Sketch (P : List ℕ) (i : ℕ) (W : List ℕ) (a : List Entry) (c : List ℕ) (n : ℕ) : Type 0 where
+  pub table : Prefix c n
+  pub outline : (t : Term) → Part P i t → Outline W a t (table .tree)
 
 unfoldable pub Possible : List ℕ → List ℕ → Agenda → List Entry → Bool → Type 0
 Possible P W s a true = Unit {0}

@@ -8,6 +8,7 @@ use crate::Item;
 use crate::Ways;
 use crate::builds::TARGET_BYTES;
 use assignments::Entry;
+use records::Ask;
 use records::Kind;
 use records::PATTERN_RECORDS;
 use records::RECORD;
@@ -61,6 +62,8 @@ pub fn ways(p: &[u8], work: &[u8], s: Agenda, a: [Entry; 8]) -> Ways
     let end = records::end_at(work, target);
     let argument = records::end_at(p, head);
     let rigid = abstractions::is_rigid(p, argument);
+    let walk = records::ask_at(p, argument, Ask::Below, PATTERN_RECORDS);
+    let skeleton = crate::outlines::skeleton_at(p, argument, walk, work, a);
     let lacking = crate::locals::lacks_local(p, head, work, target);
     let mut depths = [0u8; VALUE_RECORDS];
     abstractions::depths_into(work, target, 0, &mut depths, 0);
@@ -68,6 +71,7 @@ pub fn ways(p: &[u8], work: &[u8], s: Agenda, a: [Entry; 8]) -> Ways
         count: (end - target) / RECORD + 2,
         argument,
         rigid,
+        skeleton,
         lacking,
         depths,
     }
@@ -201,6 +205,12 @@ fn find_argument(p: &[u8], work: &mut [u8], s: Agenda, a: [Entry; 8], j: usize, 
     let Walk::Upto(end) = placed else {
         return Branch::Failed;
     };
+    let skeleton = w.skeleton;
+    let bytes = skeleton.bytes;
+    let n = skeleton.length;
+    if !skeletons::may_be(&bytes[0..n], work, s.top) {
+        return Branch::Failed;
+    }
     if abstractions::occurs_before(work, goal.target, j, s.top) {
         return Branch::Failed;
     }

@@ -2,10 +2,11 @@
 //
 // A goal is a part of the pattern and a target that it has to sweep to. Goals, targets and assigned values stand in the work area below `top`,
 // where nothing is changed, so that all branches of a search share them and going back costs nothing. The crate reads and writes goals, takes
-// an easy goal, tries one way of an application whose head is unknown, writes one body of a goal to build, decides goals without open
-// variables, reads a variable's value off two goals, and chooses among the goals that were put off. Each step promises that the agenda it leaves has exactly the assignments of the one before, or of the alternative it is for;
-// or that there are none; and that the work area suffices. It rests on `matching` for the mathematics, on `abstractions`, `sweeping` and
-// `records` for single terms, and on `listing` for how entries hold a line.
+// an easy goal, tries one way of an application whose head is unknown, writes one body of a goal to build, decides or refuses goals by what is
+// known of their parts, reads a variable's value off two goals, and chooses among the goals that were put off. Each step promises that the
+// agenda it leaves has exactly the assignments of the one before, or of the alternative it is for; or that there are none; and that the work
+// area suffices. It rests on `matching` for the mathematics, on `abstractions`, `sweeping`, `skeletons` and `records` for single terms, and on
+// `listing` for how entries hold a line.
 
 pub mod alternatives;
 pub mod builds;
@@ -64,12 +65,13 @@ pub struct Skeleton {
 }
 
 // What is known of an application that was put off, before its ways are gone through: how many there are, where its argument begins in the
-// pattern, whether the argument has a rigid head, whether the application's head lacks a local of the target, and how many binders stand above
-// each record of the target.
+// pattern, whether the argument has a rigid head, its skeleton, whether the application's head lacks a local of the target, and how many binders
+// stand above each record of the target.
 pub struct Ways {
     pub count: usize,
     pub argument: usize,
     pub rigid: bool,
+    pub skeleton: Skeleton,
     pub lacking: bool,
     pub depths: [u8; VALUE_RECORDS],
 }

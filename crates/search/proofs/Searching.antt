@@ -158,6 +158,8 @@ counted-kept P W s a W₁ w e n b c = record {
   argument = subst (λ (i : ℕ). Ends P (4 * i + 4) (w .argument)) (sym (byte-kept W s W₁ (s .hard) (omega (arith, b .hard-room)) e)) (c .argument);
   rigid-argument = c .rigid-argument;
   depths-are = λ gs hs l x. c .depths-are gs hs l (back gs hs l x);
+  skeleton-table = c .skeleton-table;
+  skeleton-fits = λ gs hs l x. c .skeleton-fits gs hs l (back gs hs l x);
   lacking-head = λ q gs hs l x. c .lacking-head q gs hs l (back gs hs l x);
 }
   where

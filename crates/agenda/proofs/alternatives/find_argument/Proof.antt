@@ -1,10 +1,11 @@
--- `agenda::alternatives::find_argument` meets its contract. The part that is placed is an argument unless it has another head, stands earlier
--- or leaves a local of the target out; two goals are written for it. Assumes nothing.
+-- `agenda::alternatives::find_argument` meets its contract. The part that is placed is an argument unless it has another head, doesn't fit the
+-- argument's skeleton, stands earlier or leaves a local of the target out; two goals are written for it. Assumes nothing.
 use mathlib.Core.Path.{_∙_}
 use borrow.Author.Tests.{not-true}
 use native.Mathlib.Omega.{arith}
 use Rattle.agenda.proofs.Applications.{numbers, argument-whole, argument-ends, fits-match, fits-build}
-use Rattle.agenda.proofs.Arguments.{placed-at, places, depth, few-records, part-whole, unlike, no-argument, ending, looks, comparable, again, lacking, found}
+use Rattle.agenda.proofs.Arguments.{placed-at, places, depth, few-records, part-whole, unlike, no-argument, ending, looks, comparable, unfitting, again, lacking, found}
+use Rattle.agenda.proofs.Outlining.{skeleton-comparable}
 use borrow.Author.Needs.{needs}
 use Rattle.agenda.proofs.alternatives.find_argument.Statement.{statement}
 use Rattle.agenda.proofs.alternatives.find_argument.Tie as tie
@@ -48,58 +49,76 @@ same-length-2 c = search needs
 returns-2 : tie.Need-returns-2
 returns-2 c = no-argument _ _ _ _ (c .before .before .before .before .before .before .before .before .before .before .before .before .before .pre .0) _ (c .before .before .before .before .before .before .before .before .before .item-at .ensures .0) _ _ _ (c .before .before .before .before .place-argument .ensures) (c .enum-told .given .1)
 
-occurs-before-requires : tie.Need-occurs-before-requires
-occurs-before-requires c κs = let q = places _ _ _ _ (c .before .before .before .before .before .before .before .before .before .before .before .before .before .before .before .pre .0) _ (c .before .before .before .before .before .before .before .before .before .before .before .item-at .ensures .0) _ _ (c .before .before .before .before .before .before .before .before .before .before .before .before .before .before .before .pre .1) (c .before .before .before .before .before .before .before .before .before .before .before .before .before .before .before .pre .2) in (looks _ _ _ _ (c .before .before .before .before .before .before .before .before .before .before .before .before .before .before .before .pre .0) _ (c .before .before .before .before .before .before .before .before .before .before .before .item-at .ensures .0) _ _ _ (placed-at _ _ _ _ _ _ _ (c .before .before .before .before .before .before .place-argument .ensures) (c .before .before .placed .given .1)), omega (arith, q .few, q .within))
+sub-may-be : tie.Need-sub-may-be
+sub-may-be c = search needs
+
+part-may-be-start : tie.Need-part-may-be-start
+part-may-be-start c = search needs
+
+part-may-be-end : tie.Need-part-may-be-end
+part-may-be-end c = search needs
+
+may-be-requires : tie.Need-may-be-requires
+may-be-requires c κs = skeleton-comparable _ _ (c .before .before .before .before .before .before .before .before .before .before .before .before .before .before .before .before .before .before .before .pre .1 .skeleton-table) _ _ (looks _ _ _ _ (c .before .before .before .before .before .before .before .before .before .before .before .before .before .before .before .before .before .before .before .pre .0) _ (c .before .before .before .before .before .before .before .before .before .before .before .before .before .before .before .item-at .ensures .0) _ _ _ (placed-at _ _ _ _ _ _ _ (c .before .before .before .before .before .before .before .before .before .before .place-argument .ensures) (c .before .before .before .before .before .before .placed .given .1)) .second)
 
 same-length-3 : tie.Need-same-length-3
 same-length-3 c = search needs
 
 returns-3 : tie.Need-returns-3
-returns-3 c = again _ _ _ _ (c .before .before .before .before .before .before .before .before .before .before .before .before .before .before .before .before .before .pre .0) _ (c .before .before .before .before .before .before .before .before .before .before .before .before .before .item-at .ensures .0) _ _ _ (placed-at _ _ _ _ _ _ _ (c .before .before .before .before .before .before .before .before .place-argument .ensures) (c .before .before .before .before .placed .given .1)) _ (c .before .occurs-before .ensures) (c .if3 .taken)
+returns-3 c = unfitting _ _ _ _ (c .before .before .before .before .before .before .before .before .before .before .before .before .before .before .before .before .before .before .before .before .before .pre .0) _ (c .before .before .before .before .before .before .before .before .before .before .before .before .before .before .before .before .before .item-at .ensures .0) _ _ _ (placed-at _ _ _ _ _ _ _ (c .before .before .before .before .before .before .before .before .before .before .before .before .place-argument .ensures) (c .before .before .before .before .before .before .before .before .placed .given .1)) _ (c .before .before .before .before .before .before .before .before .before .before .before .before .before .before .before .before .before .before .before .before .before .pre .1) _ (c .before .may-be .ensures) (not-true _ (c .if3 .taken))
 
-add-head : tie.Need-add-head
-add-head c = search needs
-
-misses-local-requires : tie.Need-misses-local-requires
-misses-local-requires c κs = comparable _ _ _ _ (c .before .before .before .before .before .before .before .before .before .before .before .before .before .before .before .before .before .before .before .before .pre .0) _ (c .before .before .before .before .before .before .before .before .before .before .before .before .before .before .before .before .item-at .ensures .0) _ _ _ (placed-at _ _ _ _ _ _ _ (c .before .before .before .before .before .before .before .before .before .before .before .place-argument .ensures) (c .before .before .before .before .before .before .before .placed .given .1))
+occurs-before-requires : tie.Need-occurs-before-requires
+occurs-before-requires c κs = let q = places _ _ _ _ (c .before .before .before .before .before .before .before .before .before .before .before .before .before .before .before .before .before .before .before .before .before .before .pre .0) _ (c .before .before .before .before .before .before .before .before .before .before .before .before .before .before .before .before .before .before .item-at .ensures .0) _ _ (c .before .before .before .before .before .before .before .before .before .before .before .before .before .before .before .before .before .before .before .before .before .before .pre .1) (c .before .before .before .before .before .before .before .before .before .before .before .before .before .before .before .before .before .before .before .before .before .before .pre .2) in (looks _ _ _ _ (c .before .before .before .before .before .before .before .before .before .before .before .before .before .before .before .before .before .before .before .before .before .before .pre .0) _ (c .before .before .before .before .before .before .before .before .before .before .before .before .before .before .before .before .before .before .item-at .ensures .0) _ _ _ (placed-at _ _ _ _ _ _ _ (c .before .before .before .before .before .before .before .before .before .before .before .before .before .place-argument .ensures) (c .before .before .before .before .before .before .before .before .before .placed .given .1)), omega (arith, q .few, q .within))
 
 same-length-4 : tie.Need-same-length-4
 same-length-4 c = search needs
 
 returns-4 : tie.Need-returns-4
-returns-4 c = lacking _ _ _ _ (c .before .before .before .before .before .before .before .before .before .before .before .before .before .before .before .before .before .before .before .before .before .before .pre .0) _ (c .before .before .before .before .before .before .before .before .before .before .before .before .before .before .before .before .before .before .item-at .ensures .0) _ _ _ (placed-at _ _ _ _ _ _ _ (c .before .before .before .before .before .before .before .before .before .before .before .before .before .place-argument .ensures) (c .before .before .before .before .before .before .before .before .before .placed .given .1)) _ (c .before .misses-local .ensures) (c .if5 .taken)
+returns-4 c = again _ _ _ _ (c .before .before .before .before .before .before .before .before .before .before .before .before .before .before .before .before .before .before .before .before .before .before .before .before .pre .0) _ (c .before .before .before .before .before .before .before .before .before .before .before .before .before .before .before .before .before .before .before .before .item-at .ensures .0) _ _ _ (placed-at _ _ _ _ _ _ _ (c .before .before .before .before .before .before .before .before .before .before .before .before .before .before .before .place-argument .ensures) (c .before .before .before .before .before .before .before .before .before .before .before .placed .given .1)) _ (c .before .occurs-before .ensures) (c .if4 .taken)
 
-build-item-requires : tie.Need-build-item-requires
-build-item-requires c κs = search needs
+add-head : tie.Need-add-head
+add-head c = search needs
 
-put-item-requires : tie.Need-put-item-requires
-put-item-requires c κs = let n = numbers _ _ _ _ (c .before .before .before .before .before .before .before .before .before .before .before .before .before .before .before .before .before .before .before .before .before .pre .0) _ (c .before .before .before .before .before .before .before .before .before .before .before .before .before .before .before .before .before .item-at .ensures .0) in let e = ending _ _ _ _ (c .before .before .before .before .before .before .before .before .before .before .before .before .before .before .before .before .before .before .before .before .before .pre .0) _ (c .before .before .before .before .before .before .before .before .before .before .before .before .before .before .before .before .before .item-at .ensures .0) _ _ _ (placed-at _ _ _ _ _ _ _ (c .before .before .before .before .before .before .before .before .before .before .before .before .place-argument .ensures) (c .before .before .before .before .before .before .before .before .placed .given .1)) in
-    (omega (arith, n .room, e .most, e .whole), fits-build _ _ _ _ _ (c .build-item .ensures) (omega (arith, n .part-low, c .before .before .before .before .before .before .before .before .before .before .before .before .before .before .before .before .before .before .before .before .before .pre .0 .ready .bounds .short)) (omega (arith, n .target-low, c .before .before .before .before .before .before .before .before .before .before .before .before .before .before .before .before .before .before .before .before .before .pre .0 .ready .bounds .top)) (omega (arith, n .next, c .before .before .before .before .before .before .before .before .before .before .before .before .before .before .before .before .before .before .before .before .before .pre .0 .ready .bounds .hard-room, c .before .before .before .before .before .before .before .before .before .before .before .before .before .before .before .before .before .before .before .before .before .pre .0 .ready .bounds .top)) (omega (arith, c .before .before .before .before .before .before .before .before .before .before .before .before .before .before .before .before .before .before .before .before .before .pre .0 .ready .bounds .top)))
-
-add-put-item : tie.Need-add-put-item
-add-put-item c = let e = ending _ _ _ _ (c .before .before .before .before .before .before .before .before .before .before .before .before .before .before .before .before .before .before .before .before .before .before .before .before .before .pre .0) _ (c .before .before .before .before .before .before .before .before .before .before .before .before .before .before .before .before .before .before .before .before .before .item-at .ensures .0) _ _ _ (placed-at _ _ _ _ _ _ _ (c .before .before .before .before .before .before .before .before .before .before .before .before .before .before .before .before .place-argument .ensures) (c .before .before .before .before .before .before .before .before .before .before .before .before .placed .given .1)) in omega (arith, e .most, c .before .before .before .before .before .before .before .before .before .before .before .before .before .before .before .before .before .before .before .before .before .before .before .before .before .pre .0 .ready .bounds .top)
-
-match-item-requires : tie.Need-match-item-requires
-match-item-requires c κs = search needs
-
-put-item-requires-2 : tie.Need-put-item-requires-2
-put-item-requires-2 c κs = let n = numbers _ _ _ _ (c .before .before .before .before .before .before .before .before .before .before .before .before .before .before .before .before .before .before .before .before .before .before .before .before .before .before .pre .0) _ (c .before .before .before .before .before .before .before .before .before .before .before .before .before .before .before .before .before .before .before .before .before .before .item-at .ensures .0) in let e = ending _ _ _ _ (c .before .before .before .before .before .before .before .before .before .before .before .before .before .before .before .before .before .before .before .before .before .before .before .before .before .before .pre .0) _ (c .before .before .before .before .before .before .before .before .before .before .before .before .before .before .before .before .before .before .before .before .before .before .item-at .ensures .0) _ _ _ (placed-at _ _ _ _ _ _ _ (c .before .before .before .before .before .before .before .before .before .before .before .before .before .before .before .before .before .place-argument .ensures) (c .before .before .before .before .before .before .before .before .before .before .before .before .before .placed .given .1)) in
-    (omega (arith, n .room, e .most, e .whole), fits-match _ _ _ _ (c .match-item .ensures) (omega (arith, argument-whole _ _ _ _ (c .before .before .before .before .before .before .before .before .before .before .before .before .before .before .before .before .before .before .before .before .before .before .before .before .before .before .pre .0) _ (c .before .before .before .before .before .before .before .before .before .before .before .before .before .before .before .before .before .before .before .before .before .before .item-at .ensures .0) _ (argument-ends _ _ _ _ (c .before .before .before .before .before .before .before .before .before .before .before .before .before .before .before .before .before .before .before .before .before .before .before .before .before .before .pre .0) _ (c .before .before .before .before .before .before .before .before .before .before .before .before .before .before .before .before .before .before .before .before .before .before .item-at .ensures .0) _ (c .before .before .before .before .before .before .before .before .before .before .before .before .before .before .before .before .before .before .before .before .before .before .before .before .before .before .pre .1)) .least, c .before .before .before .before .before .before .before .before .before .before .before .before .before .before .before .before .before .before .before .before .before .before .before .before .before .before .pre .0 .ready .bounds .short)) (omega (arith, c .before .before .before .before .before .before .before .before .before .before .before .before .before .before .before .before .before .before .before .before .before .before .before .before .before .before .pre .0 .ready .bounds .top)) (omega (arith, c .before .before .before .before .before .before .before .before .before .before .before .before .before .before .before .before .before .before .before .before .before .before .before .before .before .before .pre .0 .ready .bounds .easy-room, c .before .before .before .before .before .before .before .before .before .before .before .before .before .before .before .before .before .before .before .before .before .before .before .before .before .before .pre .0 .ready .bounds .top)))
-
-mul-t40 : tie.Need-mul-t40
-mul-t40 c = search needs
-
-add-t41 : tie.Need-add-t41
-add-t41 c = let e = ending _ _ _ _ (c .before .before .before .before .before .before .before .before .before .before .before .before .before .before .before .before .before .before .before .before .before .before .before .before .before .before .before .before .before .pre .0) _ (c .before .before .before .before .before .before .before .before .before .before .before .before .before .before .before .before .before .before .before .before .before .before .before .before .before .item-at .ensures .0) _ _ _ (placed-at _ _ _ _ _ _ _ (c .before .before .before .before .before .before .before .before .before .before .before .before .before .before .before .before .before .before .before .before .place-argument .ensures) (c .before .before .before .before .before .before .before .before .before .before .before .before .before .before .before .before .placed .given .1)) in omega (arith, e .most, c .before .before .before .before .before .before .before .before .before .before .before .before .before .before .before .before .before .before .before .before .before .before .before .before .before .before .before .before .before .pre .0 .ready .bounds .top)
-
-add-t42 : tie.Need-add-t42
-add-t42 c = let e = ending _ _ _ _ (c .before .before .before .before .before .before .before .before .before .before .before .before .before .before .before .before .before .before .before .before .before .before .before .before .before .before .before .before .before .pre .0) _ (c .before .before .before .before .before .before .before .before .before .before .before .before .before .before .before .before .before .before .before .before .before .before .before .before .before .item-at .ensures .0) _ _ _ (placed-at _ _ _ _ _ _ _ (c .before .before .before .before .before .before .before .before .before .before .before .before .before .before .before .before .before .before .before .before .place-argument .ensures) (c .before .before .before .before .before .before .before .before .before .before .before .before .before .before .before .before .placed .given .1)) in omega (arith, e .most, c .before .before .before .before .before .before .before .before .before .before .before .before .before .before .before .before .before .before .before .before .before .before .before .before .before .before .before .before .before .pre .0 .ready .bounds .top)
+misses-local-requires : tie.Need-misses-local-requires
+misses-local-requires c κs = comparable _ _ _ _ (c .before .before .before .before .before .before .before .before .before .before .before .before .before .before .before .before .before .before .before .before .before .before .before .before .before .before .before .pre .0) _ (c .before .before .before .before .before .before .before .before .before .before .before .before .before .before .before .before .before .before .before .before .before .before .before .item-at .ensures .0) _ _ _ (placed-at _ _ _ _ _ _ _ (c .before .before .before .before .before .before .before .before .before .before .before .before .before .before .before .before .before .before .place-argument .ensures) (c .before .before .before .before .before .before .before .before .before .before .before .before .before .before .placed .given .1))
 
 same-length-5 : tie.Need-same-length-5
 same-length-5 c = search needs
 
 returns-5 : tie.Need-returns-5
-returns-5 c = found _ _ _ _ (c .before .before .before .before .before .before .before .before .before .before .before .before .before .before .before .before .before .before .before .before .before .before .before .before .before .before .before .before .before .pre .0) _ (c .before .before .before .before .before .before .before .before .before .before .before .before .before .before .before .before .before .before .before .before .before .before .before .before .before .item-at .ensures .0) _ _ _ (placed-at _ _ _ _ _ _ _ (c .before .before .before .before .before .before .before .before .before .before .before .before .before .before .before .before .before .before .before .before .place-argument .ensures) (c .before .before .before .before .before .before .before .before .before .before .before .before .before .before .before .before .placed .given .1)) _ _ _ _ _ _ (argument-ends _ _ _ _ (c .before .before .before .before .before .before .before .before .before .before .before .before .before .before .before .before .before .before .before .before .before .before .before .before .before .before .before .before .before .pre .0) _ (c .before .before .before .before .before .before .before .before .before .before .before .before .before .before .before .before .before .before .before .before .before .before .before .before .before .item-at .ensures .0) _ (c .before .before .before .before .before .before .before .before .before .before .before .before .before .before .before .before .before .before .before .before .before .before .before .before .before .before .before .before .before .pre .1)) (c .before .before .before .before .before .before .before .before .before .before .before .before .before .occurs-before .ensures) (c .before .before .before .before .before .before .before .before .before .before .before .before .if3 .left) (c .before .before .before .before .before .before .before .before .build-item .ensures) (c .before .before .before .match-item .ensures) (c .before .before .before .before .before .before .before .put-item .ensures) (c .before .before .put-item2 .ensures)
+returns-5 c = lacking _ _ _ _ (c .before .before .before .before .before .before .before .before .before .before .before .before .before .before .before .before .before .before .before .before .before .before .before .before .before .before .before .before .before .pre .0) _ (c .before .before .before .before .before .before .before .before .before .before .before .before .before .before .before .before .before .before .before .before .before .before .before .before .before .item-at .ensures .0) _ _ _ (placed-at _ _ _ _ _ _ _ (c .before .before .before .before .before .before .before .before .before .before .before .before .before .before .before .before .before .before .before .before .place-argument .ensures) (c .before .before .before .before .before .before .before .before .before .before .before .before .before .before .before .before .placed .given .1)) _ (c .before .misses-local .ensures) (c .if6 .taken)
+
+build-item-requires : tie.Need-build-item-requires
+build-item-requires c κs = search needs
+
+put-item-requires : tie.Need-put-item-requires
+put-item-requires c κs = let n = numbers _ _ _ _ (c .before .before .before .before .before .before .before .before .before .before .before .before .before .before .before .before .before .before .before .before .before .before .before .before .before .before .before .before .pre .0) _ (c .before .before .before .before .before .before .before .before .before .before .before .before .before .before .before .before .before .before .before .before .before .before .before .before .item-at .ensures .0) in let e = ending _ _ _ _ (c .before .before .before .before .before .before .before .before .before .before .before .before .before .before .before .before .before .before .before .before .before .before .before .before .before .before .before .before .pre .0) _ (c .before .before .before .before .before .before .before .before .before .before .before .before .before .before .before .before .before .before .before .before .before .before .before .before .item-at .ensures .0) _ _ _ (placed-at _ _ _ _ _ _ _ (c .before .before .before .before .before .before .before .before .before .before .before .before .before .before .before .before .before .before .before .place-argument .ensures) (c .before .before .before .before .before .before .before .before .before .before .before .before .before .before .before .placed .given .1)) in
+    (omega (arith, n .room, e .most, e .whole), fits-build _ _ _ _ _ (c .build-item .ensures) (omega (arith, n .part-low, c .before .before .before .before .before .before .before .before .before .before .before .before .before .before .before .before .before .before .before .before .before .before .before .before .before .before .before .before .pre .0 .ready .bounds .short)) (omega (arith, n .target-low, c .before .before .before .before .before .before .before .before .before .before .before .before .before .before .before .before .before .before .before .before .before .before .before .before .before .before .before .before .pre .0 .ready .bounds .top)) (omega (arith, n .next, c .before .before .before .before .before .before .before .before .before .before .before .before .before .before .before .before .before .before .before .before .before .before .before .before .before .before .before .before .pre .0 .ready .bounds .hard-room, c .before .before .before .before .before .before .before .before .before .before .before .before .before .before .before .before .before .before .before .before .before .before .before .before .before .before .before .before .pre .0 .ready .bounds .top)) (omega (arith, c .before .before .before .before .before .before .before .before .before .before .before .before .before .before .before .before .before .before .before .before .before .before .before .before .before .before .before .before .pre .0 .ready .bounds .top)))
+
+add-put-item : tie.Need-add-put-item
+add-put-item c = let e = ending _ _ _ _ (c .before .before .before .before .before .before .before .before .before .before .before .before .before .before .before .before .before .before .before .before .before .before .before .before .before .before .before .before .before .before .before .before .pre .0) _ (c .before .before .before .before .before .before .before .before .before .before .before .before .before .before .before .before .before .before .before .before .before .before .before .before .before .before .before .before .item-at .ensures .0) _ _ _ (placed-at _ _ _ _ _ _ _ (c .before .before .before .before .before .before .before .before .before .before .before .before .before .before .before .before .before .before .before .before .before .before .before .place-argument .ensures) (c .before .before .before .before .before .before .before .before .before .before .before .before .before .before .before .before .before .before .before .placed .given .1)) in omega (arith, e .most, c .before .before .before .before .before .before .before .before .before .before .before .before .before .before .before .before .before .before .before .before .before .before .before .before .before .before .before .before .before .before .before .before .pre .0 .ready .bounds .top)
+
+match-item-requires : tie.Need-match-item-requires
+match-item-requires c κs = search needs
+
+put-item-requires-2 : tie.Need-put-item-requires-2
+put-item-requires-2 c κs = let n = numbers _ _ _ _ (c .before .before .before .before .before .before .before .before .before .before .before .before .before .before .before .before .before .before .before .before .before .before .before .before .before .before .before .before .before .before .before .before .before .pre .0) _ (c .before .before .before .before .before .before .before .before .before .before .before .before .before .before .before .before .before .before .before .before .before .before .before .before .before .before .before .before .before .item-at .ensures .0) in let e = ending _ _ _ _ (c .before .before .before .before .before .before .before .before .before .before .before .before .before .before .before .before .before .before .before .before .before .before .before .before .before .before .before .before .before .before .before .before .before .pre .0) _ (c .before .before .before .before .before .before .before .before .before .before .before .before .before .before .before .before .before .before .before .before .before .before .before .before .before .before .before .before .before .item-at .ensures .0) _ _ _ (placed-at _ _ _ _ _ _ _ (c .before .before .before .before .before .before .before .before .before .before .before .before .before .before .before .before .before .before .before .before .before .before .before .before .place-argument .ensures) (c .before .before .before .before .before .before .before .before .before .before .before .before .before .before .before .before .before .before .before .before .placed .given .1)) in
+    (omega (arith, n .room, e .most, e .whole), fits-match _ _ _ _ (c .match-item .ensures) (omega (arith, argument-whole _ _ _ _ (c .before .before .before .before .before .before .before .before .before .before .before .before .before .before .before .before .before .before .before .before .before .before .before .before .before .before .before .before .before .before .before .before .before .pre .0) _ (c .before .before .before .before .before .before .before .before .before .before .before .before .before .before .before .before .before .before .before .before .before .before .before .before .before .before .before .before .before .item-at .ensures .0) _ (argument-ends _ _ _ _ (c .before .before .before .before .before .before .before .before .before .before .before .before .before .before .before .before .before .before .before .before .before .before .before .before .before .before .before .before .before .before .before .before .before .pre .0) _ (c .before .before .before .before .before .before .before .before .before .before .before .before .before .before .before .before .before .before .before .before .before .before .before .before .before .before .before .before .before .item-at .ensures .0) _ (c .before .before .before .before .before .before .before .before .before .before .before .before .before .before .before .before .before .before .before .before .before .before .before .before .before .before .before .before .before .before .before .before .before .pre .1)) .least, c .before .before .before .before .before .before .before .before .before .before .before .before .before .before .before .before .before .before .before .before .before .before .before .before .before .before .before .before .before .before .before .before .before .pre .0 .ready .bounds .short)) (omega (arith, c .before .before .before .before .before .before .before .before .before .before .before .before .before .before .before .before .before .before .before .before .before .before .before .before .before .before .before .before .before .before .before .before .before .pre .0 .ready .bounds .top)) (omega (arith, c .before .before .before .before .before .before .before .before .before .before .before .before .before .before .before .before .before .before .before .before .before .before .before .before .before .before .before .before .before .before .before .before .before .pre .0 .ready .bounds .easy-room, c .before .before .before .before .before .before .before .before .before .before .before .before .before .before .before .before .before .before .before .before .before .before .before .before .before .before .before .before .before .before .before .before .before .pre .0 .ready .bounds .top)))
+
+mul-t33 : tie.Need-mul-t33
+mul-t33 c = search needs
+
+add-t51 : tie.Need-add-t51
+add-t51 c = let e = ending _ _ _ _ (c .before .before .before .before .before .before .before .before .before .before .before .before .before .before .before .before .before .before .before .before .before .before .before .before .before .before .before .before .before .before .before .before .before .before .before .before .pre .0) _ (c .before .before .before .before .before .before .before .before .before .before .before .before .before .before .before .before .before .before .before .before .before .before .before .before .before .before .before .before .before .before .before .before .item-at .ensures .0) _ _ _ (placed-at _ _ _ _ _ _ _ (c .before .before .before .before .before .before .before .before .before .before .before .before .before .before .before .before .before .before .before .before .before .before .before .before .before .before .before .place-argument .ensures) (c .before .before .before .before .before .before .before .before .before .before .before .before .before .before .before .before .before .before .before .before .before .before .before .placed .given .1)) in omega (arith, e .most, c .before .before .before .before .before .before .before .before .before .before .before .before .before .before .before .before .before .before .before .before .before .before .before .before .before .before .before .before .before .before .before .before .before .before .before .before .pre .0 .ready .bounds .top)
+
+add-t52 : tie.Need-add-t52
+add-t52 c = let e = ending _ _ _ _ (c .before .before .before .before .before .before .before .before .before .before .before .before .before .before .before .before .before .before .before .before .before .before .before .before .before .before .before .before .before .before .before .before .before .before .before .before .pre .0) _ (c .before .before .before .before .before .before .before .before .before .before .before .before .before .before .before .before .before .before .before .before .before .before .before .before .before .before .before .before .before .before .before .before .item-at .ensures .0) _ _ _ (placed-at _ _ _ _ _ _ _ (c .before .before .before .before .before .before .before .before .before .before .before .before .before .before .before .before .before .before .before .before .before .before .before .before .before .before .before .place-argument .ensures) (c .before .before .before .before .before .before .before .before .before .before .before .before .before .before .before .before .before .before .before .before .before .before .before .placed .given .1)) in omega (arith, e .most, c .before .before .before .before .before .before .before .before .before .before .before .before .before .before .before .before .before .before .before .before .before .before .before .before .before .before .before .before .before .before .before .before .before .before .before .before .pre .0 .ready .bounds .top)
+
+same-length-6 : tie.Need-same-length-6
+same-length-6 c = c .before .before .put-item2 .kept .0 ∙ c .before .before .before .before .before .before .before .put-item .kept .0 ∙ c .before .before .before .before .before .before .before .before .before .before .before .before .before .before .before .before .before .before .before .before .before .before .before .before .before .before .before .place-argument .kept .0
+
+returns-6 : tie.Need-returns-6
+returns-6 c = found _ _ _ _ (c .before .before .before .before .before .before .before .before .before .before .before .before .before .before .before .before .before .before .before .before .before .before .before .before .before .before .before .before .before .before .before .before .before .before .before .before .pre .0) _ (c .before .before .before .before .before .before .before .before .before .before .before .before .before .before .before .before .before .before .before .before .before .before .before .before .before .before .before .before .before .before .before .before .item-at .ensures .0) _ _ _ (placed-at _ _ _ _ _ _ _ (c .before .before .before .before .before .before .before .before .before .before .before .before .before .before .before .before .before .before .before .before .before .before .before .before .before .before .before .place-argument .ensures) (c .before .before .before .before .before .before .before .before .before .before .before .before .before .before .before .before .before .before .before .before .before .before .before .placed .given .1)) _ _ _ _ _ _ (argument-ends _ _ _ _ (c .before .before .before .before .before .before .before .before .before .before .before .before .before .before .before .before .before .before .before .before .before .before .before .before .before .before .before .before .before .before .before .before .before .before .before .before .pre .0) _ (c .before .before .before .before .before .before .before .before .before .before .before .before .before .before .before .before .before .before .before .before .before .before .before .before .before .before .before .before .before .before .before .before .item-at .ensures .0) _ (c .before .before .before .before .before .before .before .before .before .before .before .before .before .before .before .before .before .before .before .before .before .before .before .before .before .before .before .before .before .before .before .before .before .before .before .before .pre .1)) (c .before .before .before .before .before .before .before .before .before .before .before .before .before .occurs-before .ensures) (c .before .before .before .before .before .before .before .before .before .before .before .before .if4 .left) (c .before .before .before .before .before .before .before .before .build-item .ensures) (c .before .before .before .match-item .ensures) (c .before .before .before .before .before .before .before .put-item .ensures) (c .before .before .put-item2 .ensures)
 
 pub find-argument-spec : {M : Type 1} → statement M
 find-argument-spec =
@@ -118,20 +137,26 @@ find-argument-spec =
     enum-told
     same-length-2
     returns-2
-    occurs-before-requires
+    sub-may-be
+    part-may-be-start
+    part-may-be-end
+    may-be-requires
     same-length-3
     returns-3
-    add-head
-    misses-local-requires
+    occurs-before-requires
     same-length-4
     returns-4
+    add-head
+    misses-local-requires
+    same-length-5
+    returns-5
     build-item-requires
     put-item-requires
     add-put-item
     match-item-requires
     put-item-requires-2
-    mul-t40
-    add-t41
-    add-t42
-    same-length-5
-    returns-5)
+    mul-t33
+    add-t51
+    add-t52
+    same-length-6
+    returns-6)

@@ -1,6 +1,6 @@
 -- `agenda::alternatives::ways` meets its contract. The end of the target tells how many records it has, and the end of the head where the
--- argument begins. Assumes nothing.
-use Rattle.agenda.proofs.Applications.{numbers, argument-whole, locals, counted, depths-room}
+-- argument begins, whose skeleton is a skeleton in every state that stands there. Assumes nothing.
+use Rattle.agenda.proofs.Applications.{numbers, argument-whole, argument-walkable, argument-outlines, locals, counted, depths-room}
 use borrow.Author.Needs.{needs}
 use Rattle.agenda.proofs.alternatives.ways.Statement.{statement}
 use Rattle.agenda.proofs.alternatives.ways.Tie as tie
@@ -20,23 +20,29 @@ end-at-requires-2 c κs = numbers _ _ _ _ (c .before .before .before .before .be
 is-rigid-requires : tie.Need-is-rigid-requires
 is-rigid-requires c κs = argument-whole _ _ _ _ (c .before .before .before .before .before .before .pre) _ (c .before .before .before .item-at .ensures .0) _ (c .end-at2 .ensures)
 
+ask-at-requires : tie.Need-ask-at-requires
+ask-at-requires c κs = argument-walkable _ _ _ _ (c .before .before .before .before .before .before .before .pre) _ (c .before .before .before .before .item-at .ensures .0) _ (c .before .end-at2 .ensures)
+
+skeleton-at-requires : tie.Need-skeleton-at-requires
+skeleton-at-requires c κs = (argument-outlines _ _ _ _ (c .before .before .before .before .before .before .before .before .pre) _ (c .before .before .before .before .before .item-at .ensures .0) _ (c .before .before .end-at2 .ensures), c .ask-at .ensures)
+
 lacks-local-requires : tie.Need-lacks-local-requires
-lacks-local-requires c κs = locals _ _ _ _ (c .before .before .before .before .before .before .before .pre) _ (c .before .before .before .before .item-at .ensures .0)
+lacks-local-requires c κs = locals _ _ _ _ (c .before .before .before .before .before .before .before .before .before .pre) _ (c .before .before .before .before .before .before .item-at .ensures .0)
 
 slice-aggregate-depths-into : tie.Need-slice-aggregate-depths-into
 slice-aggregate-depths-into c = search needs
 
 depths-into-requires : tie.Need-depths-into-requires
-depths-into-requires c κs = depths-room _ _ _ _ (c .before .before .before .before .before .before .before .before .before .pre) _ (c .before .before .before .before .before .before .item-at .ensures .0)
+depths-into-requires c κs = depths-room _ _ _ _ (c .before .before .before .before .before .before .before .before .before .before .before .pre) _ (c .before .before .before .before .before .before .before .before .item-at .ensures .0)
 
-sub-t13 : tie.Need-sub-t13
-sub-t13 c = search needs
+sub-t16 : tie.Need-sub-t16
+sub-t16 c = search needs
 
-add-t17 : tie.Need-add-t17
-add-t17 c = search needs
+add-t20 : tie.Need-add-t20
+add-t20 c = search needs
 
 returns : tie.Need-returns
-returns c = counted _ _ _ _ (c .before .before .before .before .before .before .before .before .before .before .before .pre) _ (c .before .before .before .before .before .before .before .before .item-at .ensures .0) _ _ _ _ _ _ (c .before .before .before .before .before .before .end-at .ensures) (c .before .before .before .before .before .end-at2 .ensures) (c .before .before .before .before .is-rigid .ensures) (c .before .before .before .lacks-local .ensures) (c .before .depths-into .ensures)
+returns c = counted _ _ _ _ (c .before .before .before .before .before .before .before .before .before .before .before .before .before .pre) _ (c .before .before .before .before .before .before .before .before .before .before .item-at .ensures .0) _ _ _ _ _ _ _ (c .before .before .before .before .before .before .before .before .end-at .ensures) (c .before .before .before .before .before .before .before .end-at2 .ensures) (c .before .before .before .before .before .before .is-rigid .ensures) (c .before .before .before .before .skeleton-at .ensures) (c .before .before .before .lacks-local .ensures) (c .before .depths-into .ensures)
 
 pub ways-spec : {M : Type 1} → statement M
 ways-spec =
@@ -47,9 +53,11 @@ ways-spec =
     end-at-requires
     end-at-requires-2
     is-rigid-requires
+    ask-at-requires
+    skeleton-at-requires
     lacks-local-requires
     slice-aggregate-depths-into
     depths-into-requires
-    sub-t13
-    add-t17
+    sub-t16
+    add-t20
     returns)

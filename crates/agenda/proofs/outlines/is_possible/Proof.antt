@@ -21,7 +21,7 @@ part-may-be-end : tie.Need-part-may-be-end
 part-may-be-end c = search needs
 
 may-be-requires : tie.Need-may-be-requires
-may-be-requires c κs = skeleton-comparable _ _ _ _ _ _ (c .before .before .before .before .before .skeleton-at .ensures) _ _ (goal-target _ _ _ _ (c .before .before .before .before .before .before .before .before .before .pre .0) (c .before .before .before .before .before .before .before .before .before .pre .1) _ (c .before .before .before .before .before .before .item-at .ensures .0))
+may-be-requires c κs = skeleton-comparable _ _ (c .before .before .before .before .before .skeleton-at .ensures .table) _ _ (goal-target _ _ _ _ (c .before .before .before .before .before .before .before .before .before .pre .0) (c .before .before .before .before .before .before .before .before .before .pre .1) _ (c .before .before .before .before .before .before .item-at .ensures .0))
 
 returns : tie.Need-returns
 returns c = possible-match _ _ _ _ (c .before .before .before .before .before .before .before .before .before .before .pre .0) (c .before .before .before .before .before .before .before .before .before .before .pre .1) _ (c .before .before .before .before .before .before .before .item-at .ensures .0) _ _ (c .before .before .before .before .before .before .skeleton-at .ensures) (c .before .before .before .if1 .taken) _ (c .may-be .ensures)
