@@ -1,7 +1,7 @@
 // The search: every match of a pattern and a recipe, line by line.
 //
 // Easy goals are taken first. When none is left, two goals put off that give the value of their variable become one easy goal. When there are
-// no such two, the cheapest of those put off is taken: it is decided if it has no open variable; else an application is taken in each of its
+// no such two, the cheapest of those put off is taken: what is known of its part decides it, or an application is taken in each of its
 // ways in turn, a goal to build with each choice among the copies of its argument. The functions call each other in one cycle; each call finds
 // less room above the agenda, or an earlier goal at its head, so that the search ends. The crate promises that the lines it has found are
 // exactly the lines of some list that is sound, covers every assignment and names each once, for these goals and these entries, stored one
@@ -227,7 +227,7 @@ fn branch(
     build(p, work, s, a, limit, lines, values, done)
 }
 
-// The cheapest of the goals put off: one without open variables is decided, any other branches.
+// The cheapest of the goals put off: what is known of its part decides it, or it branches.
 fn cheapest(
     p: &[u8],
     work: &mut [u8],
