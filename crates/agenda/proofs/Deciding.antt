@@ -1,9 +1,9 @@
--- A goal put off whose part has no open variable: the values of its variables stand in the work area, so that one sweep of the part shows
--- whether every assignment that extends the line meets the goal, or none. From the law of matching for such a goal, applied in every state
--- that stands there. Assumes nothing.
+-- A goal put off whose part has one swept form, whatever assignment extends the line: comparing that form with the goal's targets shows
+-- whether every such assignment meets the goal, or none. From the laws of matching for a known form, applied in every state that stands
+-- there. Assumes nothing.
 --   partOf g      the part of the pattern that the goal g is about
 --   Put P r g     that part stands where the item r says, and its variables have entries
---   Seen .. l g   the variables of that part are assigned by the line l
+--   SweptForm b   b is the table of that part's swept form, for every assignment that extends the line
 use mathlib.Core.Path.{_≡_, refl, sym, ap, _∙_, subst}
 use mathlib.Core.Bool.{Bool, true, false}
 use mathlib.Core.Option.{some}
@@ -13,36 +13,28 @@ use Prim.Native.Nat.{ℕ, suc, _+_, _-_, _*_, _/_, _%_, _<_, _≤_}
 use native.Mathlib.Omega.{arith}
 use lib.ListN.{length, getD, take, drop}
 use lib.Seq.{sets}
-use Rattle.terms.specs.Figures.{variables, patternRecords, sweptRecords, tableBytes}
-use Rattle.terms.specs.Term.{Term, con, size, Occurs, Below, Closed}
+use Rattle.terms.specs.Figures.{variables, patternRecords, tableBytes}
+use Rattle.terms.specs.Term.{Term, size, Below}
 use Rattle.terms.specs.Sweep.{sweep, fill}
 use Rattle.terms.specs.Table.{encode}
-use Rattle.terms.specs.Assignment.{entry, valueOr, Complete}
+use Rattle.terms.specs.Assignment.{entry}
 use Rattle.terms.specs.Listing.{Line}
 use Rattle.terms.proofs.Table.{encode-length, encode-one}
 use Rattle.terms.proofs.Occurs.{occurs-below}
 use Rattle.matching.proofs.Lines.{Extends}
-use Rattle.matching.proofs.Partial.{total}
 use Rattle.matching.proofs.Goals.{Goal, Goal.match, Goal.build, Meets}
-use Rattle.matching.proofs.Ground.{ground-match, ground-build}
+use Rattle.matching.proofs.Known.{known-match, known-build}
 use Rattle.records.specs.Record.{numberAt}
 use Rattle.records.specs.Parts.{Part, Whole, Ends}
-use Rattle.records.specs.Tests.{Says, Tells, Asks, Walked}
-use Rattle.records.specs.declared.Ask.the-variants.{Below as BelowAsk}
-use Rattle.records.specs.declared.Walk.{Walk}
-use Rattle.records.specs.declared.Walk.the-variants.{Upto}
+use Rattle.records.specs.Tests.{Says, Tells}
 use Rattle.records.proofs.Parts.{whole, size-some}
 use Rattle.assignments.specs.declared.Span.{Span}
 use Rattle.assignments.specs.declared.Entry.{Entry}
 use Rattle.assignments.specs.declared.Entry.the-variants.{Open, Assigned}
-use Rattle.assignments.specs.Entries.{Given, Gives, Mentions}
+use Rattle.assignments.specs.Entries.{Given, Mentions}
 use Rattle.assignments.proofs.Entries.{open-span, occurs-mentions, mentions-occurs}
-use Rattle.sweeping.specs.declared.Length.{Length}
-use Rattle.sweeping.specs.declared.Length.the-variants.{Records}
 use Rattle.sweeping.specs.Writers.{Same}
-use Rattle.sweeping.specs.Swept as Swept
 use Rattle.sweeping.specs.Swept.{sweptBytes}
-use Rattle.sweeping.proofs.Sweeps.{Result, results}
 use Rattle.listing.specs.Outcome.{Holds}
 use Rattle.agenda.specs.declared.Agenda.{Agenda}
 use Rattle.agenda.specs.declared.Decision.{Decision}
@@ -184,184 +176,124 @@ module _ (P W : List ℕ) (s : Agenda) (a : List Entry) (ready : Ready relinking
     omega (arith, ready .bounds .short),
   )
 
-  module _ (w : Walk) (h : Walked P (r .part) (Asks BelowAsk patternRecords) w) (end : ℕ) (e : w ≡ Upto end) where
-    upto : Ends P (r .part) end × ((t : Term) → Part P (r .part) t → Closed patternRecords t)
-    unfolding Walked
-    upto = subst (Walked P (r .part) (Asks BelowAsk patternRecords)) e h
+  pub record SweptForm (b : List ℕ) : Type 0 where
+    pub tree : Term
+    pub bytes : b ≡ encode tree
+    pub most : length b ≤ sweptBytes
+    pub is : (gs hs : List Goal) (l : Line) (g : Goal) → Opened gs l g hs → (φ : ℕ → Term) → Extends φ l → sweep (fill φ (partOf g)) ≡ tree
 
-    pub ends : Ends P (r .part) end
-    ends = upto .0
+  -- the swept form against the goal
+  module _ (b : List ℕ) (f : SweptForm b) where
+    stands : (k i j : ℕ) (t : Term) → i ≡ j → Target W (s .top) k j t → Stands W (s .top) i t
+    stands k i j t p x = subst (λ (m : ℕ). Stands W (s .top) m t) (sym p) (record { part = x .part; below = x .below })
 
-    abbrev table : List ℕ
-    table = take (end - r .part) (drop (r .part) P)
+    comparable : (gs hs : List Goal) (l : Line) (g : Goal) → Opened gs l g hs → Comparing W s r b
+    comparable gs hs l (match u v) x =
+        let k = x .hard .0 .goal in
+        record {
+          tree = f .tree;
+          bytes = f .bytes;
+          most = f .most;
+          whole = ready .bounds .whole;
+          room = omega (arith, x .room, size-some u);
+          target = (v, stands (size u) (r .target) _ v (y .target) (k .target));
+          argument = λ d. absurd (d (y .kind ∙ k .kind));
+        }
+    comparable gs hs l (build u v w) x =
+        let k = x .hard .0 .goal in
+        record {
+          tree = f .tree;
+          bytes = f .bytes;
+          most = f .most;
+          whole = ready .bounds .whole;
+          room = omega (arith, x .room, size-some u);
+          target = (v, stands (suc (size u)) (r .target) _ v (y .target) (k .target));
+          argument = λ d. (w, stands (suc (size u)) (r .argument) _ w (y .argument) (k .argument));
+        }
 
-    table-of : (t : Term) → Part P (r .part) t → table ≡ encode t
-    table-of t x = part-bytes P (r .part) (end - r .part) t x (omega (arith, ends .exact t x))
+    pub comparing : Comparing W s r b
+    comparing = from (Comparing W s r b) comparable
 
-    pub entries : HasEntries table
-    entries = from (HasEntries table) (λ gs hs l g x.
-        let v = put g (x .hard .0 .goal) in
-        record { tree = partOf g; bytes = table-of (partOf g) (v .part); below = v .below })
+    module _ (X : List ℕ) (u : Bool) (m : Compared W s r b X u) where
+      says-same : (A B : Type 0) (i : Bool) → B ↔ A → Says i A → Says i B
+      says-same A B true e x = e .1 x
+      says-same A B false e x = λ v. x (e .0 v)
 
-    module _ (b : Bool) (true-b : b ≡ true) (tells : Tells table (AllAssigned a) b) where
-      all : (t : Term) → table ≡ encode t → AllAssigned a t
-      all t q = subst (λ (i : Bool). Says i (AllAssigned a t)) true-b (tells t q)
+      verdict : (gs hs : List Goal) (l : Line) (g : Goal) → Opened gs l g hs → (φ : ℕ → Term) → Extends φ l → Says u (Meets g φ)
+      verdict gs hs l (match p t) x φ k =
+          let c = x .hard .0 .goal in
+          says-same _ _ u (known-match φ p (f .tree) (f .is gs hs l (match p t) x φ k) t)
+          (m .matches (y .kind ∙ c .kind) (f .tree) t (f .bytes) (stands (size p) (r .target) _ t (y .target) (c .target)))
+      verdict gs hs l (build p t e) x φ k =
+          let c = x .hard .0 .goal in
+          says-same _ _ u (known-build φ p (f .tree) (f .is gs hs l (build p t e) x φ k) t e)
+          (m .builds (λ d. omega (arith, d, y .kind, c .kind)) (f .tree) e t (f .bytes)
+          (stands (suc (size p)) (r .argument) _ e (y .argument) (c .argument)) (stands (suc (size p)) (r .target) _ t (y .target) (c .target)))
 
-      pub record Seen (l : Line) (i : ℕ) : Type 0 where
-        pub value : Term
-        pub is : entry l i ≡ some value
-        pub given : Given W a i value
+      pub decided-dead : u ≡ false → Decided relinking P W s a X Decision.Failed
+      unfolding Decided
+      decided-dead false-is = record {
+        none = λ gs hs l z φ v. opened gs l (λ us. ¬ Sat gs us l φ) (λ g us x k.
+            subst (λ (i : Bool). Says i (Meets g φ)) false-is (verdict gs us l g x φ (k .2)) (k .1 .0)) hs z;
+        kept = m .kept;
+      }
 
-      seen : (gs hs : List Goal) (l : Line) (g : Goal) → Opened gs l g hs → (i : ℕ) → Occurs i (partOf g) → Seen l i
-      seen gs hs l g x i o = go (getD a i Open) refl
+      abbrev next : Agenda
+      next = record { top = s .top + 4; easy = s .easy; hard = r .next }
+
+      kept-below : Kept W X (s .top)
+      kept-below = record {
+        same = m .kept;
+        from = omega (arith, ready .bounds .whole, ready .bounds .top);
+        to = omega (arith, m .same-length, ready .bounds .whole, ready .bounds .top);
+      }
+
+      spare : (gs hs : List Goal) (g : Goal) → s .top + weights 8 gs + weights 0 (g ∷ hs) ≤ tableBytes + relinking → s .top + 4 + weights 8 gs + weights 0 hs ≤ tableBytes
+      spare gs hs (match p t) x = omega (arith, x, size-some p)
+      spare gs hs (build f t e) x = omega (arith, x, size-some f)
+
+      move : u ≡ true → Move relinking P W s a Sat X next a
+      move true-is = record {
+        go = λ gs hs l. opened gs l (λ us. Moved P X next a (Sat gs us l)) (λ g us x.
+            record {
+              gs = gs;
+              hs = us;
+              line = l;
+              state = record {
+                easy = chain-kept W X (s .top) kept-below (s .top + 4) (omega arith) P Easy (s .easy) gs (x .easy);
+                hard = chain-kept W X (s .top) kept-below (s .top + 4) (omega arith) P Hard (r .next) us (subst (λ (i : ℕ). Chain Hard P W (s .top) i us) (sym (y .next)) (x .hard .1));
+                entries = holds-kept W X (s .top) kept-below (s .top + 4) (omega arith) a l (x .entries);
+                line = x .line;
+                assigns = x .assigns;
+                room = omega (arith, spare gs us g (x .room));
+              };
+              same = λ φ v. (λ k. (k .0, k .1 .1, k .2), λ k. (k .0, (subst (λ (i : Bool). Says i (Meets g φ)) true-is (verdict gs us l g x φ (k .2)), k .1), k .2));
+            }) hs;
+        kept = m .kept;
+        higher = omega arith;
+        falls = omega (arith, top-low);
+        bounds = record {
+          whole = m .same-length ∙ ready .bounds .whole;
+          short = ready .bounds .short;
+          top = top-low;
+          start = omega (arith, ready .bounds .start);
+          even = omega (arith, ready .bounds .even);
+          easy-room = omega (arith, ready .bounds .easy-room);
+          easy-even = ready .bounds .easy-even;
+          hard-room = omega (arith, next-low .0, ready .bounds .hard-room);
+          hard-even = next-low .1;
+        };
+      }
         where
-          go : (c : Entry) → getD a i Open ≡ c → Seen l i
-          go Open q = absurd (all (partOf g) (table-of (partOf g) (put g (x .hard .0 .goal) .part)) i o q)
-          go (Assigned n) q =
-              let k = held-given P W s a l (ready .bounds) (x .entries) i n q in record { value = k .0; is = k .1; given = k .2 }
+          top-low : s .top + 4 ≤ 65536
+          top-low = from (s .top + 4 ≤ 65536) (λ gs hs l g x. omega (arith, spare gs hs g (x .room)))
 
-      complete : (gs hs : List Goal) (l : Line) (g : Goal) → Opened gs l g hs → Complete (partOf g) l
-      complete gs hs l g x i o = let v = seen gs hs l g x i o in (v .value, v .is)
+          next-low : (r .next < s .hard) × (r .next % 4 ≡ 0)
+          next-low = from ((r .next < s .hard) × (r .next % 4 ≡ 0)) (λ gs hs l g x. (omega (arith, y .next, x .hard .0 .falls), omega (arith, y .next)))
 
-      gives : (gs hs : List Goal) (l : Line) (g : Goal) → Opened gs l g hs → Gives W a (total l) (partOf g)
-      gives gs hs l g x i o = let v = seen gs hs l g x i o in subst (Given W a i) (sym (ap (valueOr (con 0)) (v .is))) (v .given)
-
-      pub sweepable : Swept.Ready table W a
-      sweepable = from (Swept.Ready table W a) (λ gs hs l g x.
-          let v = put g (x .hard .0 .goal) .part in
-          let q = table-of (partOf g) v in
-          record {
-            tree = partOf g;
-            bytes = q;
-            least = omega (arith, ap length q, encode-length (partOf g), v .some);
-            depth = patternRecords;
-            shallow = omega (arith, v .within, ready .bounds .short);
-            closed = upto .1 (partOf g) v;
-            φ = total l;
-            gives = gives gs hs l g x;
-          })
-
-      -- the swept form
-      module _ (out after : List ℕ) (q : Length) (f : Swept.Sweeps table W a out q after) (n : ℕ) (z : q ≡ Records n) (size-out : length out ≡ sweptBytes) where
-        result : (gs hs : List Goal) (l : Line) (g : Goal) → Opened gs l g hs → Result (fill (total l) (partOf g)) after n
-        result gs hs l g x = results W a out table after q n f z size-out (partOf g) (total l) (table-of (partOf g) (put g (x .hard .0 .goal) .part)) (gives gs hs l g x)
-
-        pub few : (n ≤ sweptRecords) × (n * 4 ≤ length after)
-        few = from ((n ≤ sweptRecords) × (n * 4 ≤ length after)) (λ gs hs l g x. let v = result gs hs l g x in (v .few, v .within))
-
-        abbrev form : List ℕ
-        form = take (n * 4 - 0) (drop 0 after)
-
-        stands : (k i j : ℕ) (t : Term) → i ≡ j → Target W (s .top) k j t → Stands W (s .top) i t
-        stands k i j t p x = subst (λ (m : ℕ). Stands W (s .top) m t) (sym p) (record { part = x .part; below = x .below })
-
-        comparable : (t : Term) → form ≡ encode t → (gs hs : List Goal) (l : Line) (g : Goal) → Opened gs l g hs → Comparing W s r form
-        comparable t p gs hs l (match u v) x =
-            let k = x .hard .0 .goal in
-            record {
-              tree = t;
-              bytes = p;
-              most = omega (arith, result gs hs l (match u v) x .fills, few .0);
-              whole = ready .bounds .whole;
-              room = omega (arith, x .room, size-some u);
-              target = (v, stands (size u) (r .target) _ v (y .target) (k .target));
-              argument = λ d. absurd (d (y .kind ∙ k .kind));
-            }
-        comparable t p gs hs l (build u v w) x =
-            let k = x .hard .0 .goal in
-            record {
-              tree = t;
-              bytes = p;
-              most = omega (arith, result gs hs l (build u v w) x .fills, few .0);
-              whole = ready .bounds .whole;
-              room = omega (arith, x .room, size-some u);
-              target = (v, stands (suc (size u)) (r .target) _ v (y .target) (k .target));
-              argument = λ d. (w, stands (suc (size u)) (r .argument) _ w (y .argument) (k .argument));
-            }
-
-        pub comparing : Comparing W s r form
-        comparing = from (Comparing W s r form) (λ gs hs l g x. comparable (sweep (fill (total l) (partOf g))) (result gs hs l g x .bytes) gs hs l g x)
-
-        module _ (X : List ℕ) (u : Bool) (m : Compared W s r form X u) where
-          says-same : (A B : Type 0) (i : Bool) → B ↔ A → Says i A → Says i B
-          says-same A B true e x = e .1 x
-          says-same A B false e x = λ v. x (e .0 v)
-
-          verdict : (gs hs : List Goal) (l : Line) (g : Goal) → Opened gs l g hs → (φ : ℕ → Term) → Extends φ l → Says u (Meets g φ)
-          verdict gs hs l (match p t) x φ k =
-              let c = x .hard .0 .goal in
-              says-same _ _ u (ground-match φ l p (complete gs hs l (match p t) x) k t)
-              (m .matches (y .kind ∙ c .kind) (sweep (fill (total l) p)) t (result gs hs l (match p t) x .bytes) (stands (size p) (r .target) _ t (y .target) (c .target)))
-          verdict gs hs l (build p t e) x φ k =
-              let c = x .hard .0 .goal in
-              says-same _ _ u (ground-build φ l p (complete gs hs l (build p t e) x) k t e)
-              (m .builds (λ d. omega (arith, d, y .kind, c .kind)) (sweep (fill (total l) p)) e t (result gs hs l (build p t e) x .bytes)
-              (stands (suc (size p)) (r .argument) _ e (y .argument) (c .argument)) (stands (suc (size p)) (r .target) _ t (y .target) (c .target)))
-
-          pub decided-dead : u ≡ false → Decided relinking P W s a X Decision.Failed
-          unfolding Decided
-          decided-dead false-is = record {
-            none = λ gs hs l z φ v. opened gs l (λ us. ¬ Sat gs us l φ) (λ g us x k.
-                subst (λ (i : Bool). Says i (Meets g φ)) false-is (verdict gs us l g x φ (k .2)) (k .1 .0)) hs z;
-            kept = m .kept;
-          }
-
-          abbrev next : Agenda
-          next = record { top = s .top + 4; easy = s .easy; hard = r .next }
-
-          kept-below : Kept W X (s .top)
-          kept-below = record {
-            same = m .kept;
-            from = omega (arith, ready .bounds .whole, ready .bounds .top);
-            to = omega (arith, m .same-length, ready .bounds .whole, ready .bounds .top);
-          }
-
-          spare : (gs hs : List Goal) (g : Goal) → s .top + weights 8 gs + weights 0 (g ∷ hs) ≤ tableBytes + relinking → s .top + 4 + weights 8 gs + weights 0 hs ≤ tableBytes
-          spare gs hs (match p t) x = omega (arith, x, size-some p)
-          spare gs hs (build f t e) x = omega (arith, x, size-some f)
-
-          move : u ≡ true → Move relinking P W s a Sat X next a
-          move true-is = record {
-            go = λ gs hs l. opened gs l (λ us. Moved P X next a (Sat gs us l)) (λ g us x.
-                record {
-                  gs = gs;
-                  hs = us;
-                  line = l;
-                  state = record {
-                    easy = chain-kept W X (s .top) kept-below (s .top + 4) (omega arith) P Easy (s .easy) gs (x .easy);
-                    hard = chain-kept W X (s .top) kept-below (s .top + 4) (omega arith) P Hard (r .next) us (subst (λ (i : ℕ). Chain Hard P W (s .top) i us) (sym (y .next)) (x .hard .1));
-                    entries = holds-kept W X (s .top) kept-below (s .top + 4) (omega arith) a l (x .entries);
-                    line = x .line;
-                    assigns = x .assigns;
-                    room = omega (arith, spare gs us g (x .room));
-                  };
-                  same = λ φ v. (λ k. (k .0, k .1 .1, k .2), λ k. (k .0, (subst (λ (i : Bool). Says i (Meets g φ)) true-is (verdict gs us l g x φ (k .2)), k .1), k .2));
-                }) hs;
-            kept = m .kept;
-            higher = omega arith;
-            falls = omega (arith, top-low);
-            bounds = record {
-              whole = m .same-length ∙ ready .bounds .whole;
-              short = ready .bounds .short;
-              top = top-low;
-              start = omega (arith, ready .bounds .start);
-              even = omega (arith, ready .bounds .even);
-              easy-room = omega (arith, ready .bounds .easy-room);
-              easy-even = ready .bounds .easy-even;
-              hard-room = omega (arith, next-low .0, ready .bounds .hard-room);
-              hard-even = next-low .1;
-            };
-          }
-            where
-              top-low : s .top + 4 ≤ 65536
-              top-low = from (s .top + 4 ≤ 65536) (λ gs hs l g x. omega (arith, spare gs hs g (x .room)))
-
-              next-low : (r .next < s .hard) × (r .next % 4 ≡ 0)
-              next-low = from ((r .next < s .hard) × (r .next % 4 ≡ 0)) (λ gs hs l g x. (omega (arith, y .next, x .hard .0 .falls), omega (arith, y .next)))
-
-          pub decided-live : u ≡ true → Decided relinking P W s a X (Decision.Next (record { top = s .top + 4; easy = s .easy; hard = r .next }))
-          unfolding Decided
-          decided-live true-is = move true-is
+      pub decided-live : u ≡ true → Decided relinking P W s a X (Decision.Next (record { top = s .top + 4; easy = s .easy; hard = r .next }))
+      unfolding Decided
+      decided-live true-is = move true-is
 
 -- the test doesn't apply
 pub decided-open : (P W : List ℕ) (s : Agenda) (a : List Entry) (X : List ℕ) → X ≡ W → Decided relinking P W s a X Decision.Open

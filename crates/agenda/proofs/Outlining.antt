@@ -1,5 +1,6 @@
--- Skeletons of parts of the pattern, and the goals that they refuse. An assignment that extends the line gives each assigned variable its
--- value in the work area, so that the swept part fits the skeleton; a goal whose target doesn't fit has no assignment. Assumes nothing.
+-- Skeletons of parts of the pattern, the goals that they refuse and those that they decide. An assignment that extends the line gives each
+-- assigned variable its value in the work area, so that the swept part fits the skeleton: it is the skeleton where that has no hole, and a
+-- goal whose target doesn't fit has no assignment. Assumes nothing.
 use mathlib.Core.Path.{_≡_, refl, sym, ap, _∙_, subst}
 use mathlib.Core.Bool.{Bool, true, false}
 use mathlib.Core.List.{List}
@@ -7,22 +8,22 @@ use Prim.Native.Nat.{ℕ, _-_, _*_, _<_}
 use native.Mathlib.Omega.{arith}
 use lib.Dec.{eqb}
 use lib.ListN.{length, getD, take, drop}
-use lib.Seq.{sets, length-sets, getD-take}
+use lib.Seq.{sets, length-sets, length-take-le}
 use borrow.Author.Tests.{eqb-false}
 use Rattle.terms.specs.Figures.{patternRecords}
-use Rattle.terms.specs.Term.{Term, lam, con, var}
+use Rattle.terms.specs.Term.{Term, con, var}
 use Rattle.terms.specs.Sweep.{sweep, fill}
 use Rattle.terms.specs.Table.{encode}
 use Rattle.terms.specs.Assignment.{valueOr}
 use Rattle.terms.specs.Listing.{Line}
-use Rattle.terms.proofs.Table.{kind, encode-length, encode-one}
+use Rattle.terms.proofs.Table.{encode-length, encode-one}
 use Rattle.matching.proofs.Lines.{Extends, extends-entry}
 use Rattle.matching.proofs.Partial.{total}
 use Rattle.matching.proofs.Goals.{Goal, Goal.match, Goal.build, Meets}
-use Rattle.matching.proofs.Skeletons.{Fits}
+use Rattle.matching.proofs.Skeletons.{Fits, fits-exact}
 use Rattle.matching.proofs.Prune.{fits-abstraction}
-use Rattle.records.specs.Parts.{Part, Whole, Ends}
-use Rattle.records.specs.Tests.{Asks, Walked}
+use Rattle.records.specs.Parts.{Part, Whole, Ends, Tree}
+use Rattle.records.specs.Tests.{Says, Tells, Asks, Walked}
 use Rattle.records.specs.declared.Ask.the-variants.{Below as BelowAsk}
 use Rattle.records.specs.declared.Walk.{Walk}
 use Rattle.records.specs.declared.Walk.the-variants.{Upto}
@@ -33,15 +34,16 @@ use Rattle.sweeping.specs.Swept.{sweptBytes}
 use Rattle.sweeping.proofs.Stores.{stored}
 use Rattle.listing.specs.Outcome.{Holds}
 use Rattle.skeletons.specs.Outlined.{GivenValues, Outlinable, Outline, Outlined, Comparable, MayBe}
+use Rattle.skeletons.specs.Contracted.{Exact}
 use Rattle.agenda.specs.declared.Agenda.{Agenda}
 use Rattle.agenda.specs.declared.Decision.{Decision}
 use Rattle.agenda.specs.declared.Item.{Item}
 use Rattle.agenda.specs.Items.{ItemAt}
-use Rattle.agenda.specs.State.{GoalAt, Sat, Bounds, Ready, patternAt, relinking}
+use Rattle.agenda.specs.State.{GoalAt, Sat, Bounds, Ready, relinking}
 use Rattle.agenda.specs.Moves.{Decided}
-use Rattle.agenda.specs.Outlines.{Outlines, Prefix, Sketch, Possible}
+use Rattle.agenda.specs.Outlines.{Outlines, Prefix, Sketch, Refused, Possible}
 use Rattle.agenda.proofs.Leaves.{part-bytes}
-use Rattle.agenda.proofs.Deciding.{held-given, partOf, Opened, opened, from, put}
+use Rattle.agenda.proofs.Deciding.{held-given, partOf, Opened, opened, from, put, SweptForm}
 
 -- the values of the variables that are assigned
 module _ (P W : List ℕ) (s : Agenda) (a : List Entry) (l : Line) (bounds : Bounds P W s) (h : Holds W (s .top) a l) (t : Term) where
@@ -62,6 +64,7 @@ module _ (P : List ℕ) (i : ℕ) (W : List ℕ) (a : List Entry) (x : Outlines 
       bytes = stored out after (encode (var 0)) 4 e refl (omega arith);
       least = omega arith;
       within = omega (arith, h, ap length e, length-sets out 0 (encode (var 0)));
+      most = omega arith;
     };
     outline = λ t p φ g. tt;
   }
@@ -106,6 +109,7 @@ module _ (P : List ℕ) (i : ℕ) (W : List ℕ) (a : List Entry) (x : Outlines 
             bytes = stored out after (encode (v .skeleton)) (n * 4) (v .bytes) (omega (arith, v .sized, encode-length (v .skeleton))) (omega (arith, o .few));
             least = omega (arith, o .some);
             within = omega (arith, h, o .few, ap length (v .bytes), length-sets out 0 (encode (v .skeleton)));
+            most = omega (arith, o .few);
           };
           outline = λ t p. subst (λ (u : Term). Outline W a u (v .skeleton)) (encode-one (x .tree) t (sym b ∙ table-of t p)) (v .outline);
         }
@@ -115,23 +119,41 @@ module _ (c : List ℕ) (n : ℕ) (k : Prefix c n) where
   pub skeleton-part : Part (take (n - 0) (drop 0 c)) 0 (k .tree)
   skeleton-part = at-start (take (n - 0) (drop 0 c)) (k .tree) (k .bytes)
 
+  pub skeleton-tree : Tree (take (n - 0) (drop 0 c))
+  skeleton-tree = record { tree = k .tree; bytes = k .bytes; least = omega (arith, skeleton-part .some, skeleton-part .within) }
+
   pub skeleton-comparable : (X : List ℕ) (at : ℕ) → Whole X at → Comparable (take (n - 0) (drop 0 c)) X at
   skeleton-comparable X at w = record {
     skeleton = whole (take (n - 0) (drop 0 c)) 0 (k .tree) skeleton-part;
-    least = omega (arith, skeleton-part .some, skeleton-part .within);
+    least = skeleton-tree .least;
     term = w;
     within = w .least;
   }
 
-  skeleton-kind : getD c 0 0 ≡ kind (k .tree)
-  skeleton-kind = sym (getD-take (n - 0) c 0 0 (omega (arith, k .least))) ∙ kind-at (take (n - 0) (drop 0 c)) 0 (k .tree) skeleton-part
+-- whether a goal is possible
+module _ (c W : List ℕ) (r : Item) where
+  pub possible : Possible c W r true
+  unfolding Possible
+  possible = tt
 
-  pub skeleton-abstraction : (b : Term) → Fits (k .tree) (lam b) → ¬ (getD c 0 0 ≡ 4) → getD c 0 0 ≡ 1
-  skeleton-abstraction b f m = skeleton-kind ∙ fits-abstraction (k .tree) b f (λ e. m (skeleton-kind ∙ e))
+  refused : Refused c W r → Possible c W r false
+  unfolding Possible
+  refused x = x
 
-pub possible : (P W : List ℕ) (s : Agenda) (a : List Entry) → Possible P W s a true
-unfolding Possible
-possible P W s a = tt
+  pub possible-match : r .kind ≡ 0 → (b : Bool) → MayBe c W (r .target) b → Possible c W r b
+  unfolding MayBe
+  possible-match z true m = possible
+  possible-match z false m = refused (record { matches = λ _. m; builds = λ d. absurd (d z) })
+
+  pub possible-build : ¬ (r .kind ≡ 0) → ¬ (getD c 0 0 ≡ 4) → Possible c W r (eqb (getD c 0 0) 1)
+  possible-build d h = go (eqb (getD c 0 0) 1) refl
+    where
+      go : (b : Bool) → eqb (getD c 0 0) 1 ≡ b → Possible c W r b
+      go true e = possible
+      go false e = refused (record {
+        matches = λ z. absurd (d z);
+        builds = λ _ x b p f. let k = kind-at c 0 x p in eqb-false (getD c 0 0) 1 e (k ∙ fits-abstraction x b f (λ q. h (k ∙ q)));
+      })
 
 -- the first goal put off
 module _ (P W : List ℕ) (s : Agenda) (a : List Entry) (ready : Ready relinking P W s a) (hard : 0 < s .hard) (r : Item) (y : ItemAt W (s .hard) r) where
@@ -147,12 +169,6 @@ module _ (P W : List ℕ) (s : Agenda) (a : List Entry) (ready : Ready relinking
         gives = line-values P W s a l (ready .bounds) (x .entries) (partOf g);
       })
 
-  pub walked-part : (Q : Term → Type 0) (w : Walk) → Walked P (patternAt W (s .hard)) Q w → Walked P (r .part) Q w
-  walked-part Q w h = subst (λ (i : ℕ). Walked P i Q w) (sym (y .part)) h
-
-  pub walked-goal : (Q : Term → Type 0) (w v : Walk) → w ≡ v → Walked P (r .part) Q w → Walked P (patternAt W (s .hard)) Q v
-  walked-goal Q w v e h = subst (λ (i : ℕ). Walked P i Q v) (y .part) (subst (Walked P (r .part) Q) e h)
-
   pub goal-target : Whole W (r .target)
   goal-target = from P W s a ready hard r y (Whole W (r .target)) (λ gs hs l g x. go g (x .hard .0 .goal))
     where
@@ -165,33 +181,28 @@ module _ (P W : List ℕ) (s : Agenda) (a : List Entry) (ready : Ready relinking
     fits-part gs hs l g x φ e =
         k .outline (partOf g) (put P W s a ready hard r y g (x .hard .0 .goal) .part) φ (extended-values P W s a l (ready .bounds) (x .entries) (partOf g) φ e)
 
-    refused : (q : (gs hs : List Goal) (l : Line) (g : Goal) → Opened P W s a ready hard r y gs l g hs → (φ : ℕ → Term) → Fits (k .table .tree) (sweep (fill φ (partOf g))) → ¬ Meets g φ) → Possible P W s a false
-    unfolding Possible
-    refused q gs hs l z φ v =
-        opened P W s a ready hard r y gs l (λ us. ¬ Sat gs us l φ) (λ g us x o. q gs us l g x φ (fits-part gs us l g x φ (o .2)) (o .1 .0)) hs z
+    unmet : Refused (take (n - 0) (drop 0 c)) W r → (gs hs : List Goal) (l : Line) (g : Goal) → Opened P W s a ready hard r y gs l g hs → (φ : ℕ → Term) → Fits (k .table .tree) (sweep (fill φ (partOf g))) → ¬ Meets g φ
+    unmet q gs hs l (match p t) x φ f e =
+        let z = x .hard .0 .goal in
+        q .matches (y .kind ∙ z .kind) (k .table .tree) t (skeleton-part c n (k .table)) (subst (λ (i : ℕ). Part W i t) (sym (y .target)) (z .target .part)) (subst (Fits (k .table .tree)) e f)
+    unmet q gs hs l (build p t e) x φ f o =
+        q .builds (λ d. omega (arith, d, y .kind, x .hard .0 .goal .kind)) (k .table .tree) (o .0) (skeleton-part c n (k .table)) (subst (Fits (k .table .tree)) (o .1) f)
 
-    pub possible-match : r .kind ≡ 0 → (b : Bool) → MayBe (take (n - 0) (drop 0 c)) W (r .target) b → Possible P W s a b
-    unfolding MayBe
-    possible-match z true m = possible P W s a
-    possible-match z false m = refused go
-      where
-        go : (gs hs : List Goal) (l : Line) (g : Goal) → Opened P W s a ready hard r y gs l g hs → (φ : ℕ → Term) → Fits (k .table .tree) (sweep (fill φ (partOf g))) → ¬ Meets g φ
-        go gs hs l (match p t) x φ f e =
-            m (k .table .tree) t (skeleton-part c n (k .table)) (subst (λ (i : ℕ). Part W i t) (sym (y .target)) (x .hard .0 .goal .target .part)) (subst (Fits (k .table .tree)) e f)
-        go gs hs l (build f t e) x φ _ _ = omega (arith, z, y .kind, x .hard .0 .goal .kind)
+    pub decided-refused : (b : Bool) → Possible (take (n - 0) (drop 0 c)) W r b → b ≡ false → Decided relinking P W s a W Decision.Failed
+    unfolding Possible Decided
+    decided-refused b p e =
+        let q : Possible (take (n - 0) (drop 0 c)) W r false = subst (Possible (take (n - 0) (drop 0 c)) W r) e p in
+        record {
+          none = λ gs hs l z φ v. opened P W s a ready hard r y gs l (λ us. ¬ Sat gs us l φ) (λ g us x o. unmet q gs us l g x φ (fits-part gs us l g x φ (o .2)) (o .1 .0)) hs z;
+          kept = refl;
+        }
 
-    pub possible-build : ¬ (r .kind ≡ 0) → ¬ (getD c 0 0 ≡ 4) → Possible P W s a (eqb (getD c 0 0) 1)
-    possible-build z h = by (eqb (getD c 0 0) 1) refl
-      where
-        go : ¬ (getD c 0 0 ≡ 1) → (gs hs : List Goal) (l : Line) (g : Goal) → Opened P W s a ready hard r y gs l g hs → (φ : ℕ → Term) → Fits (k .table .tree) (sweep (fill φ (partOf g))) → ¬ Meets g φ
-        go m gs hs l (match p t) x φ _ _ = absurd (z (y .kind ∙ x .hard .0 .goal .kind))
-        go m gs hs l (build f t e) x φ i o = m (skeleton-abstraction c n (k .table) (o .0) (subst (Fits (k .table .tree)) (o .1) i) h)
-
-        by : (b : Bool) → eqb (getD c 0 0) 1 ≡ b → Possible P W s a b
-        by true e = possible P W s a
-        by false e = refused (go (eqb-false (getD c 0 0) 1 e))
-
--- what deciding says
-pub decided-impossible : (P W : List ℕ) (s : Agenda) (a : List Entry) (b : Bool) → Possible P W s a b → b ≡ false → Decided relinking P W s a W Decision.Failed
-unfolding Possible Decided
-decided-impossible P W s a b x e = let q : Possible P W s a false = subst (Possible P W s a) e x in record { none = q; kept = refl }
+    pub exact-form : (b : Bool) → b ≡ true → Tells (take (n - 0) (drop 0 c)) Exact b → SweptForm P W s a ready hard r y (take (n - 0) (drop 0 c))
+    exact-form b true-b tells =
+        let e = subst (λ (i : Bool). Says i (Exact (k .table .tree))) true-b (tells (k .table .tree) (k .table .bytes)) in
+        record {
+          tree = k .table .tree;
+          bytes = k .table .bytes;
+          most = omega (arith, length-take-le (n - 0) c (omega (arith, k .table .within)), k .table .most);
+          is = λ gs hs l g x φ o. sym (fits-exact (k .table .tree) (sweep (fill φ (partOf g))) e (fits-part gs hs l g x φ o));
+        }

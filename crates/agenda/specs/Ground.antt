@@ -1,4 +1,4 @@
--- A goal put off whose part has no open variable.
+-- A goal put off whose part has no open variable, or whose part's swept form is known.
 --   HasEntries l           l is the table of a term whose variables have entries
 --   OpenAt l a k           the k-th record of the table l is a variable whose entry of a is open
 --   AllAssigned a t        the entries a assign each variable of t

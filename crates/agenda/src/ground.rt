@@ -1,4 +1,5 @@
-// A goal put off: if its part of the pattern has no open variable, one sweep decides it; if it has one, the part's skeleton may refuse it.
+// A goal put off, decided by the skeleton of its part of the pattern: a skeleton without a hole is the part's swept form, and one with a hole
+// may still refuse the goal.
 
 use crate::Agenda;
 use crate::Decision;
@@ -8,9 +9,6 @@ use records::Ask;
 use records::Kind;
 use records::PATTERN_RECORDS;
 use records::RECORD;
-use records::Walk;
-use sweeping::Length;
-use sweeping::SWEPT_BYTES;
 ghost use Prim.Native.Nat.{_+_, _*_, _<_, _≤_};
 ghost use lib.ListN.{length};
 ghost use Rattle.records.specs.Tests.{Says, Tells};
@@ -65,31 +63,24 @@ fn is_met(work: &mut [u8], s: Agenda, goal: Item, swept: &[u8]) -> bool
     crate::builds::is_solved(work, s.top, goal.argument, target)
 }
 
-// Decides the first goal put off, if its part has no open variable and the sweep of the part isn't too long, or if its skeleton refuses it.
-// The locals of a part are few, so that those of its swept form have numbers that a record holds; that is asked for on the way to the part's end.
+// Decides the first goal put off, if the skeleton of its part has no hole or refuses the goal. A skeleton without a hole is the swept form,
+// also where an assigned variable's value drops open variables. A part without open variables has one, unless a form is above 256 records.
 pub fn decide(p: &[u8], work: &mut [u8], s: Agenda, a: [Entry; 8]) -> Decision
     requires { ⌜ Ready relinking (now p) (now work) s a × (0 < s .hard) ⌝ }
     ensures { λ r. ⌜ Decided relinking (now (p .entry)) (now (work .entry)) s a (now (work .exit)) r ⌝ }
 {
     let goal = crate::item_at(work, s.hard);
-    let part = goal.part;
-    let walk = records::ask_at(p, part, Ask::Below, PATTERN_RECORDS);
-    let Walk::Upto(end) = walk else {
-        return Decision::Open;
-    };
-    if !is_ground(&p[part..end], a) {
-        if crate::outlines::is_possible(p, work, s, a, walk) {
+    let walk = records::ask_at(p, goal.part, Ask::Below, PATTERN_RECORDS);
+    let skeleton = crate::outlines::skeleton_at(p, goal.part, walk, work, a);
+    let c = skeleton.bytes;
+    let n = skeleton.length;
+    if !skeletons::is_exact(&c[0..n]) {
+        if crate::outlines::is_possible(&c[0..n], work, goal) {
             return Decision::Open;
         }
         return Decision::Failed;
     }
-    let mut swept = [0u8; SWEPT_BYTES];
-    let length = sweeping::sweep_part(&p[part..end], work, a, &mut swept);
-    let Length::Records(n) = length else {
-        return Decision::Open;
-    };
-    let n = n * RECORD;
-    if is_met(work, s, goal, &swept[0..n]) {
+    if is_met(work, s, goal, &c[0..n]) {
         // a record's room is left free, so that the agenda's top rises at each step
         return Decision::Next(Agenda {
             top: s.top + RECORD,

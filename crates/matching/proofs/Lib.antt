@@ -21,5 +21,5 @@ pub mod Tables
 pub mod Cases
 pub mod Contraction
 pub mod Repeated
-pub mod Ground
+pub mod Known
 pub mod Skeletons

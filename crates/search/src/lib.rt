@@ -1,12 +1,12 @@
 // The search: every match of a pattern and a recipe, line by line.
 //
 // Easy goals are taken first. When none is left, two goals put off that give the value of their variable become one easy goal. When there are
-// no such two, the cheapest of those put off is taken: it is decided if it has no open variable, and perhaps refused by its skeleton if it has
-// one; else an application is taken in each of its ways in turn, a goal to build with each choice among the copies of its argument. The
-// functions call each other in one cycle; each call finds less room above the agenda, or an earlier goal at its head, so that the search ends.
-// The crate promises that the lines it has found are exactly the lines of some list that is sound, covers every assignment and names each once,
-// for these goals and these entries, stored one after the other; or that such a list has more lines than the limit. It rests on `agenda` for
-// single steps and on `listing` for what becomes of a found line.
+// no such two, the cheapest of those put off is taken: what is known of its part decides it, or an application is taken in each of its
+// ways in turn, a goal to build with each choice among the copies of its argument. The functions call each other in one cycle; each call finds
+// less room above the agenda, or an earlier goal at its head, so that the search ends. The crate promises that the lines it has found are
+// exactly the lines of some list that is sound, covers every assignment and names each once, for these goals and these entries, stored one
+// after the other; or that such a list has more lines than the limit. It rests on `agenda` for single steps and on `listing` for what becomes
+// of a found line.
 
 use agenda::Agenda;
 use agenda::Branch;
@@ -227,7 +227,7 @@ fn branch(
     build(p, work, s, a, limit, lines, values, done)
 }
 
-// The cheapest of the goals put off: one without open variables is decided, any other is refused by its skeleton or branches.
+// The cheapest of the goals put off: what is known of its part decides it, or it branches.
 fn cheapest(
     p: &[u8],
     work: &mut [u8],

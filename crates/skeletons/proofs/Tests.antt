@@ -16,7 +16,7 @@ use Rattle.records.specs.declared.Walk.{Walk}
 use Rattle.records.specs.declared.Walk.the-variants.{Upto, No}
 use Rattle.records.specs.Record.{numberAt}
 use Rattle.records.specs.Parts.{Part, Whole, Ends, Tree}
-use Rattle.records.specs.Tests.{Equals, Walked}
+use Rattle.records.specs.Tests.{Tells, Equals, Walked}
 use Rattle.records.proofs.Parts.{kind-at, number-at, at-start, application, argument-part, tree-whole, whole-head, whole-argument}
 use Rattle.records.proofs.Tests.{not-false-true}
 use Rattle.sweeping.proofs.Writers.{local-at}
@@ -63,6 +63,14 @@ module _ (l : List ℕ) (at : ℕ) (P : Term → Type 0) (w : Walk) (x : Walked 
   walked-not : w ≡ No → ¬ P t
   unfolding Walked
   walked-not e = let z : Walked l at P No = subst (Walked l at P) e x in z t y
+
+-- a whole table
+module _ (l : List ℕ) (w : Walk) (x : Walked l 0 Exact w) where
+  pub exact-yes : (h : ℕ) → w ≡ Upto h → Tells l Exact true
+  exact-yes h e t b = walked-yes l 0 Exact w x t (at-start l t b) h e
+
+  pub exact-not : w ≡ No → Tells l Exact false
+  exact-not e t b = walked-not l 0 Exact w x t (at-start l t b) e
 
 -- whether the abstraction is sure
 module _ (b : List ℕ) where

@@ -2,9 +2,10 @@
 //
 // The part is swept as if each open variable were a hole: what a hole is applied to is lost in it, and an abstraction over a body that may
 // or may not contract is a hole too, as is a form above 256 records. Whatever the open variables are assigned, the swept part is the skeleton
-// with some term in place of each hole; so a target that doesn't fit the skeleton is never met. The crate writes skeletons, a hole as a
-// variable's record, and compares them with terms. It promises that the swept part fits what it writes. It rests on `sweeping` for single
-// contractions, on `assignments` for values, and on `abstractions` for the answer of a walk over two parts.
+// with some term in place of each hole; so a target that doesn't fit the skeleton is never met, and a skeleton without a hole is the swept
+// part itself. The crate writes skeletons, a hole as a variable's record, looks for holes in them, and compares them with terms. It promises
+// that the swept part fits what it writes. It rests on `sweeping` for single contractions, on `assignments` for values, and on `abstractions`
+// for the answer of a walk over two parts.
 
 use abstractions::Pairing;
 use abstractions::Places;
@@ -21,7 +22,7 @@ ghost use Rattle.terms.specs.Term.{var};
 ghost use Rattle.terms.specs.Table.{encode};
 ghost use Rattle.matching.proofs.Skeletons.{isUnsure};
 ghost use Rattle.records.specs.Parts.{Tree, Whole};
-ghost use Rattle.records.specs.Tests.{Equals, Walked};
+ghost use Rattle.records.specs.Tests.{Tells, Equals, Walked};
 ghost use Rattle.sweeping.specs.Swept.{Applied, Abstracted};
 ghost use Rattle.skeletons.specs.Outlined.{Outlinable, Outlined, Comparable, MayBe};
 ghost use Rattle.skeletons.specs.Contracted.{Applies, Abstracts, Exact, Known, Entered};
@@ -67,6 +68,18 @@ fn exact_at(s: &[u8], at: usize) -> Walk
         return Walk::No;
     }
     Walk::Upto(at + RECORD)
+}
+
+// Whether the skeleton c has no hole, so that whatever fits it is c itself.
+pub fn is_exact(c: &[u8]) -> bool
+    requires { ⌜ Tree (now c) ⌝ }
+    ensures { λ r. ⌜ Tells (now (c .entry)) Exact r ⌝ }
+{
+    let walk = exact_at(c, 0);
+    match walk {
+        Walk::Upto(_) => true,
+        Walk::No => false,
+    }
 }
 
 // Whether the abstraction over what the skeleton b stands for may contract or not: b is a hole, an application to a hole, or an application

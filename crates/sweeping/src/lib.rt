@@ -331,7 +331,7 @@ fn sweep_abstraction(s: &[u8], values: &[u8], a: [Entry; 8], out: &mut [u8; SWEP
 }
 
 // Sweeps a part of the pattern by its kind. Constants and locals sweep to themselves.
-pub fn sweep_part(s: &[u8], values: &[u8], a: [Entry; 8], out: &mut [u8; SWEPT_BYTES]) -> Length
+fn sweep_part(s: &[u8], values: &[u8], a: [Entry; 8], out: &mut [u8; SWEPT_BYTES]) -> Length
     requires { ⌜ Ready (now s) (now values) a ⌝ }
     ensures { λ r. ⌜ Sweeps (now (s .entry)) (now (values .entry)) a (now (out .entry)) r (now (out .exit)) ⌝ }
 {
