@@ -172,8 +172,8 @@ module _ (P W : List ℕ) (s : Agenda) (a : List Entry) where
         rigid-argument = k;
         depths-are = λ gs hs l z. opened gs l (HasDepths m) (λ f b t us v i q. depth-written W (r .target) _ m o u i t (site r gs us l f b t y v .target .part) q) hs z;
         skeleton-table = p .table;
-        skeleton-fits = λ gs hs l z. opened gs l (Fitting (p .table .tree) l) (λ f b t us v φ q.
-            p .outline b (argument-from P (r .part) g f b j (site r gs us l f b t y v .part)) φ (extended-values P W s a l (x .ready .bounds) (v .entries) b φ q)) hs z;
+        skeleton-fits = λ gs hs l z. opened gs l (Fitting (p .table .tree) l) (λ f b t us v φ w q.
+            p .outline b (argument-from P (r .part) g f b j (site r gs us l f b t y v .part)) φ w (extended-values P W s a l (x .ready .bounds) (v .entries) b φ q)) hs z;
         lacking-head = λ i gs hs l z.
             let q : Lacks P (r .part + 4) W (r .target) true = subst (Lacks P (r .part + 4) W (r .target)) i n in
             opened gs l Lacking (λ f b t us o.

@@ -279,7 +279,7 @@ module _ (P W : List ℕ) (s : Agenda) (a : List Entry) (x : Matches P W s a) (r
           none = λ gs hs l z φ v. opened P W s a x gs l (λ us. Fitting (k .tree) l us → ¬ Way (suc (suc j)) gs us l φ) (λ f b t us o m p.
               let n = standing f b t (site P W s a r gs us l f b t y o) in
               let u : p .1 .0 .0 ≡ argumentOf t j = first-lowered t j (p .1 .0 .0) (p .1 .0 .1) in
-              q (k .tree) (argumentOf t j) (skeleton-part (w .skeleton .bytes) (w .skeleton .length) k) (n .part) (subst (Fits (k .tree)) (p .1 .0 .2 ∙ u) (m φ (p .2)))) hs z
+              q (k .tree) (argumentOf t j) (skeleton-part (w .skeleton .bytes) (w .skeleton .length) k) (n .part) (subst (Fits (k .tree)) (p .1 .0 .2 ∙ u) (m φ v (p .2)))) hs z
               (c .skeleton-fits gs hs l z);
           kept = ending .same;
         })

@@ -21,13 +21,13 @@ use Rattle.terms.specs.Assignment.{entry}
 use Rattle.terms.specs.Listing.{Line}
 use Rattle.terms.proofs.Table.{encode-length, encode-one}
 use Rattle.terms.proofs.Occurs.{occurs-below}
-use Rattle.matching.proofs.Lines.{Extends}
+use Rattle.matching.proofs.Lines.{Values, Extends}
 use Rattle.matching.proofs.Goals.{Goal, Goal.match, Goal.build, Meets}
 use Rattle.matching.proofs.Known.{known-match, known-build}
 use Rattle.records.specs.Record.{numberAt}
 use Rattle.records.specs.Parts.{Part, Whole, Ends}
 use Rattle.records.specs.Tests.{Says, Tells}
-use Rattle.records.proofs.Parts.{whole, size-some}
+use Rattle.records.proofs.Parts.{part-bytes, whole, size-some}
 use Rattle.assignments.specs.declared.Span.{Span}
 use Rattle.assignments.specs.declared.Entry.{Entry}
 use Rattle.assignments.specs.declared.Entry.the-variants.{Open, Assigned}
@@ -45,7 +45,7 @@ use Rattle.agenda.specs.Moves.{Move, Moved, Failed, Decided}
 use Rattle.agenda.specs.Builds.{Solving, Solved}
 use Rattle.agenda.specs.Ground.{HasEntries, OpenAt, AllAssigned, Stands, Comparing, Compared}
 use Rattle.agenda.proofs.Frame.{Kept, part-kept, chain-kept, holds-kept, kept-sets, length-stored, part-stored}
-use Rattle.agenda.proofs.Leaves.{holds-held, part-bytes}
+use Rattle.agenda.proofs.Leaves.{holds-held}
 
 -- the variables of a table, record by record
 module _ (l : List ℕ) (k : ℕ) (h : 4 * k + 4 ≤ length l) where
@@ -180,7 +180,7 @@ module _ (P W : List ℕ) (s : Agenda) (a : List Entry) (ready : Ready relinking
     pub tree : Term
     pub bytes : b ≡ encode tree
     pub most : length b ≤ sweptBytes
-    pub is : (gs hs : List Goal) (l : Line) (g : Goal) → Opened gs l g hs → (φ : ℕ → Term) → Extends φ l → sweep (fill φ (partOf g)) ≡ tree
+    pub is : (gs hs : List Goal) (l : Line) (g : Goal) → Opened gs l g hs → (φ : ℕ → Term) → Values φ → Extends φ l → sweep (fill φ (partOf g)) ≡ tree
 
   -- the swept form against the goal
   module _ (b : List ℕ) (f : SweptForm b) where
@@ -219,14 +219,14 @@ module _ (P W : List ℕ) (s : Agenda) (a : List Entry) (ready : Ready relinking
       says-same A B true e x = e .1 x
       says-same A B false e x = λ v. x (e .0 v)
 
-      verdict : (gs hs : List Goal) (l : Line) (g : Goal) → Opened gs l g hs → (φ : ℕ → Term) → Extends φ l → Says u (Meets g φ)
-      verdict gs hs l (match p t) x φ k =
+      verdict : (gs hs : List Goal) (l : Line) (g : Goal) → Opened gs l g hs → (φ : ℕ → Term) → Values φ → Extends φ l → Says u (Meets g φ)
+      verdict gs hs l (match p t) x φ v k =
           let c = x .hard .0 .goal in
-          says-same _ _ u (known-match φ p (f .tree) (f .is gs hs l (match p t) x φ k) t)
+          says-same _ _ u (known-match φ p (f .tree) (f .is gs hs l (match p t) x φ v k) t)
           (m .matches (y .kind ∙ c .kind) (f .tree) t (f .bytes) (stands (size p) (r .target) _ t (y .target) (c .target)))
-      verdict gs hs l (build p t e) x φ k =
+      verdict gs hs l (build p t e) x φ v k =
           let c = x .hard .0 .goal in
-          says-same _ _ u (known-build φ p (f .tree) (f .is gs hs l (build p t e) x φ k) t e)
+          says-same _ _ u (known-build φ p (f .tree) (f .is gs hs l (build p t e) x φ v k) t e)
           (m .builds (λ d. omega (arith, d, y .kind, c .kind)) (f .tree) e t (f .bytes)
           (stands (suc (size p)) (r .argument) _ e (y .argument) (c .argument)) (stands (suc (size p)) (r .target) _ t (y .target) (c .target)))
 
@@ -234,7 +234,7 @@ module _ (P W : List ℕ) (s : Agenda) (a : List Entry) (ready : Ready relinking
       unfolding Decided
       decided-dead false-is = record {
         none = λ gs hs l z φ v. opened gs l (λ us. ¬ Sat gs us l φ) (λ g us x k.
-            subst (λ (i : Bool). Says i (Meets g φ)) false-is (verdict gs us l g x φ (k .2)) (k .1 .0)) hs z;
+            subst (λ (i : Bool). Says i (Meets g φ)) false-is (verdict gs us l g x φ v (k .2)) (k .1 .0)) hs z;
         kept = m .kept;
       }
 
@@ -267,7 +267,7 @@ module _ (P W : List ℕ) (s : Agenda) (a : List Entry) (ready : Ready relinking
                 assigns = x .assigns;
                 room = omega (arith, spare gs us g (x .room));
               };
-              same = λ φ v. (λ k. (k .0, k .1 .1, k .2), λ k. (k .0, (subst (λ (i : Bool). Says i (Meets g φ)) true-is (verdict gs us l g x φ (k .2)), k .1), k .2));
+              same = λ φ v. (λ k. (k .0, k .1 .1, k .2), λ k. (k .0, (subst (λ (i : Bool). Says i (Meets g φ)) true-is (verdict gs us l g x φ v (k .2)), k .1), k .2));
             }) hs;
         kept = m .kept;
         higher = omega arith;

@@ -14,7 +14,7 @@ use Rattle.terms.specs.Term.{Term, var, size, shift, Closed}
 use Rattle.terms.specs.Table.{encode}
 use Rattle.terms.specs.Refusal.{OccursIn}
 use Rattle.terms.proofs.Shift.{size-shift}
-use Rattle.terms.proofs.Table.{encode-inj, encode-length}
+use Rattle.terms.proofs.Table.{encode-length}
 use Rattle.matching.proofs.Goals.{Goal, Goal.match, Goal.build, Meets, All, Listable}
 use Rattle.matching.proofs.Lister.{Sweeps}
 use Rattle.matching.proofs.Targets.{closed-more, closed-shift}
@@ -22,7 +22,7 @@ use Rattle.matching.proofs.Repeated.{spine, firsts, seconds, length-firsts, enc
 use Rattle.records.specs.Parts.{Part, Whole}
 use Rattle.records.specs.declared.Walk.{Walk}
 use Rattle.records.specs.declared.Walk.the-variants.{Upto, No}
-use Rattle.records.proofs.Parts.{whole}
+use Rattle.records.proofs.Parts.{part-one, whole}
 use Rattle.assignments.specs.declared.Entry.{Entry}
 use Rattle.sweeping.proofs.Stores.{stored}
 use Rattle.sweeping.proofs.Contraction.{closed-fits, table-length}
@@ -176,9 +176,6 @@ known P W top i p (match f t) n k h =
       },
     )
 known P W top i p (build f t e) n k h = absurd (omega (arith, n .goal .kind))
-
-part-one : (l : List ℕ) (at : ℕ) (s t : Term) → Part l at s → Part l at t → s ≡ t
-part-one l at s t x y = encode-inj s t (x .rest) (y .rest) (sym (x .bytes) ∙ y .bytes) .0
 
 goal-is : (P W X : List ℕ) (top higher i : ℕ) (p t : Term) (g : Goal) → Known P W top i p t → Kept W X top → Node Hard P X higher i g → g ≡ match p t
 goal-is P W X top higher i p t (match f u) k x n =

@@ -8,14 +8,13 @@ use Prim.Native.Nat.{ℕ, zero, suc, _+_, _-_, _*_, _/_, _<_, _≤_}
 use native.Mathlib.Omega.{arith}
 use lib.Dec.{eqb}
 use lib.ListN.{length, getD, take, drop, set, length-set}
-use lib.Seq.{take-at}
 use Rattle.terms.specs.Figures.{variables}
 use Rattle.terms.specs.Term.{Term, app, lam, loc, con, var, size, Occurs, Closed, Value}
 use Rattle.terms.specs.Table.{encode}
 use Rattle.terms.specs.Assignment.{entry}
 use Rattle.terms.specs.Listing.{Line}
 use Rattle.terms.specs.Refusal.{OccursIn}
-use Rattle.terms.proofs.Table.{kind, number, encode-length, encode-one}
+use Rattle.terms.proofs.Table.{kind, number, encode-one}
 use Rattle.terms.proofs.Tests.{by-eqb}
 use Rattle.matching.proofs.Step.{match-variable}
 use Rattle.matching.proofs.Lines.{Values, extends-entry, extends-set, assigns-set}
@@ -27,7 +26,7 @@ use Rattle.records.specs.Tests.{Says, Asks, Walked}
 use Rattle.records.specs.declared.Ask.the-variants.{Below}
 use Rattle.records.specs.declared.Walk.{Walk}
 use Rattle.records.specs.declared.Walk.the-variants.{Upto, No}
-use Rattle.records.proofs.Parts.{kind-at, number-at}
+use Rattle.records.proofs.Parts.{part-bytes, kind-at, number-at}
 use Rattle.records.proofs.Tests.{says}
 use Rattle.assignments.specs.declared.Span.{Span}
 use Rattle.assignments.specs.declared.Entry.{Entry}
@@ -125,10 +124,6 @@ module _ (W : List ℕ) (top : ℕ) where
   holds-set (d ∷ a) [] i e o h x = absurd x
   holds-set (d ∷ a) (p ∷ l) zero e o h x = (h, x .1)
   holds-set (d ∷ a) (p ∷ l) (suc i) e o h x = (x .0, holds-set a l i e o h (x .1))
-
--- the bytes of a part
-pub part-bytes : (l : List ℕ) (at n : ℕ) (t : Term) → Part l at t → n ≡ 4 * size t → take n (drop at l) ≡ encode t
-part-bytes l at n t x e = ap (take n) (x .bytes) ∙ take-at (encode t) (x .rest) n (encode-length t ∙ sym e)
 
 -- a variable's number
 pub variable-below : (P W : List ℕ) (s : Agenda) (a : List Entry) (r : Item) → Opens P W s a r → getD P (r .part) 0 ≡ 4 → numberAt P (r .part) < variables

@@ -11,7 +11,7 @@ use Rattle.terms.specs.Figures.{variables, patternRecords, tableBytes}
 use Rattle.terms.specs.Term.{Term, app, lam, loc, con, var, size, Below}
 use Rattle.matching.proofs.Goals.{Goal, Goal.match, Goal.build, Meets, All}
 use Rattle.records.specs.Parts.{Part, Whole, Ends}
-use Rattle.records.proofs.Parts.{whole, kind-at, whole-head, whole-argument}
+use Rattle.records.proofs.Parts.{part-bytes, whole, kind-at, whole-head, whole-argument}
 use Rattle.assignments.specs.declared.Entry.{Entry}
 use Rattle.abstractions.specs.Bodies.{Counting}
 use Rattle.abstractions.proofs.Occurrences.{part-at}
@@ -26,7 +26,6 @@ use Rattle.agenda.specs.Ordering.{Reaches, Reaches.here, Reaches.further
 use Rattle.matching.proofs.Occurrences.{partAt}
 use Rattle.matching.proofs.Targets.{closed-more}
 use Rattle.agenda.proofs.Frame.{Kept, next-kept, target-kept, chain-kept, holds-kept, kept-sets, kept-then, length-stored, item-stored, chain-match, chain-build}
-use Rattle.agenda.proofs.Leaves.{part-bytes}
 
 -- the goal at the front of a list, and the list behind it
 pub record First (K : Goal → Type 0) (P W : List ℕ) (top at : ℕ) (gs : List Goal) : Type 0 where

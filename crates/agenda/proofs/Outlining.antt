@@ -4,22 +4,21 @@
 use mathlib.Core.Path.{_≡_, refl, sym, ap, _∙_, subst}
 use mathlib.Core.Bool.{Bool, true, false}
 use mathlib.Core.List.{List}
-use Prim.Native.Nat.{ℕ, _-_, _*_, _<_}
+use Prim.Native.Nat.{ℕ, suc, _-_, _*_, _<_, _≤_}
 use native.Mathlib.Omega.{arith}
-use lib.Dec.{eqb}
 use lib.ListN.{length, getD, take, drop}
 use lib.Seq.{sets, length-sets, length-take-le}
-use borrow.Author.Tests.{eqb-false}
-use Rattle.terms.specs.Figures.{patternRecords}
-use Rattle.terms.specs.Term.{Term, con, var}
+use Rattle.terms.specs.Figures.{patternRecords, tableBytes}
+use Rattle.terms.specs.Term.{Term, con, var, size}
 use Rattle.terms.specs.Sweep.{sweep, fill}
 use Rattle.terms.specs.Table.{encode}
 use Rattle.terms.specs.Assignment.{valueOr}
 use Rattle.terms.specs.Listing.{Line}
 use Rattle.terms.proofs.Table.{encode-length, encode-one}
-use Rattle.matching.proofs.Lines.{Extends, extends-entry}
+use Rattle.matching.proofs.Lines.{Values, Extends, extends-entry}
 use Rattle.matching.proofs.Partial.{total}
 use Rattle.matching.proofs.Goals.{Goal, Goal.match, Goal.build, Meets}
+use Rattle.matching.proofs.Targets.{closed-more}
 use Rattle.matching.proofs.Skeletons.{Fits, fits-exact}
 use Rattle.matching.proofs.Prune.{fits-abstraction}
 use Rattle.records.specs.Parts.{Part, Whole, Ends, Tree}
@@ -27,13 +26,13 @@ use Rattle.records.specs.Tests.{Says, Tells, Asks, Walked}
 use Rattle.records.specs.declared.Ask.the-variants.{Below as BelowAsk}
 use Rattle.records.specs.declared.Walk.{Walk}
 use Rattle.records.specs.declared.Walk.the-variants.{Upto}
-use Rattle.records.proofs.Parts.{whole, at-start, kind-at}
+use Rattle.records.proofs.Parts.{part-bytes, whole, at-start, kind-at}
 use Rattle.assignments.specs.declared.Entry.{Entry}
 use Rattle.assignments.specs.Entries.{Given}
 use Rattle.sweeping.specs.Swept.{sweptBytes}
 use Rattle.sweeping.proofs.Stores.{stored}
 use Rattle.listing.specs.Outcome.{Holds}
-use Rattle.skeletons.specs.Outlined.{GivenValues, Outlinable, Outline, Outlined, Comparable, MayBe}
+use Rattle.skeletons.specs.Outlined.{GivenValues, Outlinable, Outline, Outlined, Comparable, MayBe, Applicable, MayBuild}
 use Rattle.skeletons.specs.Contracted.{Exact}
 use Rattle.agenda.specs.declared.Agenda.{Agenda}
 use Rattle.agenda.specs.declared.Decision.{Decision}
@@ -41,8 +40,7 @@ use Rattle.agenda.specs.declared.Item.{Item}
 use Rattle.agenda.specs.Items.{ItemAt}
 use Rattle.agenda.specs.State.{GoalAt, Sat, Bounds, Ready, relinking}
 use Rattle.agenda.specs.Moves.{Decided}
-use Rattle.agenda.specs.Outlines.{Outlines, Prefix, Sketch, Refused, Possible}
-use Rattle.agenda.proofs.Leaves.{part-bytes}
+use Rattle.agenda.specs.Outlines.{Outlines, Prefix, Sketch, Judges, Refused, Possible}
 use Rattle.agenda.proofs.Deciding.{held-given, partOf, Opened, opened, from, put, SweptForm}
 
 -- the values of the variables that are assigned
@@ -66,7 +64,8 @@ module _ (P : List ℕ) (i : ℕ) (W : List ℕ) (a : List Entry) (x : Outlines 
       within = omega (arith, h, ap length e, length-sets out 0 (encode (var 0)));
       most = omega arith;
     };
-    outline = λ t p φ g. tt;
+    closed = tt;
+    outline = λ t p φ v g. tt;
   }
 
   module _ (w : Walk) (k : Walked P i (Asks BelowAsk patternRecords) w) (end : ℕ) (e : w ≡ Upto end) where
@@ -91,6 +90,7 @@ module _ (P : List ℕ) (i : ℕ) (W : List ℕ) (a : List Entry) (x : Outlines 
           tree = x .tree;
           bytes = b;
           least = omega (arith, ap length b, encode-length (x .tree), p .some);
+          most = omega (arith, ap length b, encode-length (x .tree), p .within, x .short);
           depth = patternRecords;
           shallow = omega (arith, p .within, x .short);
           closed = walked-upto .1 (x .tree) p;
@@ -111,6 +111,7 @@ module _ (P : List ℕ) (i : ℕ) (W : List ℕ) (a : List Entry) (x : Outlines 
             within = omega (arith, h, o .few, ap length (v .bytes), length-sets out 0 (encode (v .skeleton)));
             most = omega (arith, o .few);
           };
+          closed = v .closed patternRecords (walked-upto .1 (x .tree) (x .part));
           outline = λ t p. subst (λ (u : Term). Outline W a u (v .skeleton)) (encode-one (x .tree) t (sym b ∙ table-of t p)) (v .outline);
         }
 
@@ -122,12 +123,13 @@ module _ (c : List ℕ) (n : ℕ) (k : Prefix c n) where
   pub skeleton-tree : Tree (take (n - 0) (drop 0 c))
   skeleton-tree = record { tree = k .tree; bytes = k .bytes; least = omega (arith, skeleton-part .some, skeleton-part .within) }
 
-  pub skeleton-comparable : (X : List ℕ) (at : ℕ) → Whole X at → Comparable (take (n - 0) (drop 0 c)) X at
-  skeleton-comparable X at w = record {
+  pub skeleton-comparable : (X : List ℕ) (at : ℕ) → Whole X at → length X ≤ tableBytes → Comparable (take (n - 0) (drop 0 c)) X at
+  skeleton-comparable X at w m = record {
     skeleton = whole (take (n - 0) (drop 0 c)) 0 (k .tree) skeleton-part;
     least = skeleton-tree .least;
     term = w;
     within = w .least;
+    most = m;
   }
 
 -- whether a goal is possible
@@ -145,15 +147,17 @@ module _ (c W : List ℕ) (r : Item) where
   possible-match z true m = possible
   possible-match z false m = refused (record { matches = λ _. m; builds = λ d. absurd (d z) })
 
-  pub possible-build : ¬ (r .kind ≡ 0) → ¬ (getD c 0 0 ≡ 4) → Possible c W r (eqb (getD c 0 0) 1)
-  possible-build d h = go (eqb (getD c 0 0) 1) refl
-    where
-      go : (b : Bool) → eqb (getD c 0 0) 1 ≡ b → Possible c W r b
-      go true e = possible
-      go false e = refused (record {
-        matches = λ z. absurd (d z);
-        builds = λ _ x b p f. let k = kind-at c 0 x p in eqb-false (getD c 0 0) 1 e (k ∙ fits-abstraction x b f (λ q. h (k ∙ q)));
-      })
+  module _ (d : ¬ (r .kind ≡ 0)) where
+    pub possible-other : ¬ (getD c 0 0 ≡ 4) → ¬ (getD c 0 0 ≡ 1) → Possible c W r false
+    possible-other h o = refused (record {
+      matches = λ z. absurd (d z);
+      builds = λ _ x e t b p _ _ f. absurd (let k = kind-at c 0 x p in o (k ∙ fits-abstraction x b f (λ q. h (k ∙ q))));
+    })
+
+    pub possible-build : (b : Bool) → MayBuild c W (r .argument) (r .target) b → Possible c W r b
+    unfolding MayBuild
+    possible-build true m = possible
+    possible-build false m = refused (record { matches = λ z. absurd (d z); builds = λ _ x e t b p i j. m x e t b p i j })
 
 -- the first goal put off
 module _ (P W : List ℕ) (s : Agenda) (a : List Entry) (ready : Ready relinking P W s a) (hard : 0 < s .hard) (r : Item) (y : ItemAt W (s .hard) r) where
@@ -177,23 +181,52 @@ module _ (P W : List ℕ) (s : Agenda) (a : List Entry) (ready : Ready relinking
       go (build f t e) x = whole W (r .target) t (subst (λ (i : ℕ). Part W i t) (sym (y .target)) (x .target .part))
 
   module _ (c : List ℕ) (n : ℕ) (k : Sketch P (r .part) W a c n) where
-    fits-part : (gs hs : List Goal) (l : Line) (g : Goal) → Opened P W s a ready hard r y gs l g hs → (φ : ℕ → Term) → Extends φ l → Fits (k .table .tree) (sweep (fill φ (partOf g)))
-    fits-part gs hs l g x φ e =
-        k .outline (partOf g) (put P W s a ready hard r y g (x .hard .0 .goal) .part) φ (extended-values P W s a l (ready .bounds) (x .entries) (partOf g) φ e)
+    pub judges : Judges (take (n - 0) (drop 0 c)) W r
+    judges = record {
+      target = skeleton-comparable c n (k .table) W (r .target) goal-target (omega (arith, ready .bounds .whole));
+      both = λ d. from P W s a ready hard r y (Applicable (take (n - 0) (drop 0 c)) W (r .argument) (r .target)) (λ gs hs l g x. go d g (x .hard .0 .goal));
+    }
+      where
+        go : ¬ (r .kind ≡ 0) → (g : Goal) → GoalAt P W (s .top) (s .hard) g → Applicable (take (n - 0) (drop 0 c)) W (r .argument) (r .target)
+        go d (match p t) x = absurd (d (y .kind ∙ x .kind))
+        go d (build f t e) x = record {
+          skeleton = k .table .tree;
+          argument = e;
+          bytes = k .table .bytes;
+          part = subst (λ (i : ℕ). Part W i e) (sym (y .argument)) (x .argument .part);
+          least = skeleton-tree c n (k .table) .least;
+          few = omega (arith, skeleton-part c n (k .table) .within, length-take-le (n - 0) c (omega (arith, k .table .within)), k .table .most);
+          argument-few = omega (arith, x .argument .short);
+          depth = patternRecords;
+          shallow = omega arith;
+          closed = k .closed;
+          argument-closed = closed-more (patternRecords - suc (size f)) patternRecords e (omega arith) (x .argument .closed);
+          target = goal-target;
+          most = omega (arith, ready .bounds .whole);
+        }
+
+    fits-part :
+        (gs hs : List Goal) (l : Line) (g : Goal) → Opened P W s a ready hard r y gs l g hs
+        → (φ : ℕ → Term) → Values φ → Extends φ l → Fits (k .table .tree) (sweep (fill φ (partOf g)))
+    fits-part gs hs l g x φ v e =
+        k .outline (partOf g) (put P W s a ready hard r y g (x .hard .0 .goal) .part) φ v (extended-values P W s a l (ready .bounds) (x .entries) (partOf g) φ e)
 
     unmet : Refused (take (n - 0) (drop 0 c)) W r → (gs hs : List Goal) (l : Line) (g : Goal) → Opened P W s a ready hard r y gs l g hs → (φ : ℕ → Term) → Fits (k .table .tree) (sweep (fill φ (partOf g))) → ¬ Meets g φ
     unmet q gs hs l (match p t) x φ f e =
         let z = x .hard .0 .goal in
         q .matches (y .kind ∙ z .kind) (k .table .tree) t (skeleton-part c n (k .table)) (subst (λ (i : ℕ). Part W i t) (sym (y .target)) (z .target .part)) (subst (Fits (k .table .tree)) e f)
     unmet q gs hs l (build p t e) x φ f o =
-        q .builds (λ d. omega (arith, d, y .kind, x .hard .0 .goal .kind)) (k .table .tree) (o .0) (skeleton-part c n (k .table)) (subst (Fits (k .table .tree)) (o .1) f)
+        let z = x .hard .0 .goal in
+        q .builds (λ d. omega (arith, d, y .kind, z .kind)) (k .table .tree) e t (o .0) (skeleton-part c n (k .table))
+        (subst (λ (i : ℕ). Part W i e) (sym (y .argument)) (z .argument .part)) (subst (λ (i : ℕ). Part W i t) (sym (y .target)) (z .target .part))
+        (subst (Fits (k .table .tree)) (o .1) f) (o .2)
 
     pub decided-refused : (b : Bool) → Possible (take (n - 0) (drop 0 c)) W r b → b ≡ false → Decided relinking P W s a W Decision.Failed
     unfolding Possible Decided
     decided-refused b p e =
         let q : Possible (take (n - 0) (drop 0 c)) W r false = subst (Possible (take (n - 0) (drop 0 c)) W r) e p in
         record {
-          none = λ gs hs l z φ v. opened P W s a ready hard r y gs l (λ us. ¬ Sat gs us l φ) (λ g us x o. unmet q gs us l g x φ (fits-part gs us l g x φ (o .2)) (o .1 .0)) hs z;
+          none = λ gs hs l z φ v. opened P W s a ready hard r y gs l (λ us. ¬ Sat gs us l φ) (λ g us x o. unmet q gs us l g x φ (fits-part gs us l g x φ v (o .2)) (o .1 .0)) hs z;
           kept = refl;
         }
 
@@ -204,5 +237,5 @@ module _ (P W : List ℕ) (s : Agenda) (a : List Entry) (ready : Ready relinking
           tree = k .table .tree;
           bytes = k .table .bytes;
           most = omega (arith, length-take-le (n - 0) c (omega (arith, k .table .within)), k .table .most);
-          is = λ gs hs l g x φ o. sym (fits-exact (k .table .tree) (sweep (fill φ (partOf g))) e (fits-part gs hs l g x φ o));
+          is = λ gs hs l g x φ v o. sym (fits-exact (k .table .tree) (sweep (fill φ (partOf g))) e (fits-part gs hs l g x φ v o));
         }

@@ -64,7 +64,7 @@ Lacking (build f t e ∷ hs) = ⊥
 
 abbrev pub Fitting : Term → Line → List Goal → Type 0
 Fitting x l [] = ⊥
-Fitting x l (match (app f a) t ∷ hs) = (φ : ℕ → Term) → Extends φ l → Fits x (sweep (fill φ a))
+Fitting x l (match (app f a) t ∷ hs) = (φ : ℕ → Term) → Values φ → Extends φ l → Fits x (sweep (fill φ a))
 Fitting x l (match (lam b) t ∷ hs) = ⊥
 Fitting x l (match (loc n) t ∷ hs) = ⊥
 Fitting x l (match (con n) t ∷ hs) = ⊥

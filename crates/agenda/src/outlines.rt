@@ -11,8 +11,7 @@ use sweeping::SWEPT_BYTES;
 ghost use Rattle.terms.specs.Figures.{patternRecords};
 ghost use Rattle.records.specs.Tests.{Asks, Walked};
 ghost use Rattle.records.specs.declared.Ask.the-variants.{Below};
-ghost use Rattle.skeletons.specs.Outlined.{Comparable};
-ghost use Rattle.agenda.specs.Outlines.{Outlines, Sketch, Possible};
+ghost use Rattle.agenda.specs.Outlines.{Outlines, Sketch, Judges, Possible};
 
 // The skeleton of the part of p at byte i. The locals of a part are few, so that those of its skeleton have numbers that a record holds;
 // `walk` says whether that is so, and if it weren't, the skeleton would be a hole.
@@ -35,10 +34,10 @@ pub fn skeleton_at(p: &[u8], i: usize, walk: Walk, work: &[u8], a: [Entry; 8]) -
     }
 }
 
-// Whether a part with the skeleton c may meet the goal: a target has to fit the skeleton, and in a goal to build the skeleton has to be an
-// abstraction or a hole.
+// Whether a part with the skeleton c may meet the goal: the target has to fit the skeleton, and in a goal to build the skeleton applied to the
+// argument's target, which says nothing where the skeleton is a hole.
 pub fn is_possible(c: &[u8], work: &[u8], goal: Item) -> bool
-    requires { ⌜ Comparable (now c) (now work) (goal .target) ⌝ }
+    requires { ⌜ Judges (now c) (now work) goal ⌝ }
     ensures { λ r. ⌜ Possible (now (c .entry)) (now (work .entry)) goal r ⌝ }
 {
     if goal.kind == Item::MATCH {
@@ -47,5 +46,8 @@ pub fn is_possible(c: &[u8], work: &[u8], goal: Item) -> bool
     if c[0] == Kind::VARIABLE.code {
         return true;
     }
-    c[0] == Kind::ABSTRACTION.code
+    if c[0] != Kind::ABSTRACTION.code {
+        return false;
+    }
+    skeletons::may_build(c, work, goal.argument, goal.target)
 }

@@ -1,13 +1,15 @@
 -- Skeletons: what is known of a swept part while some variables are open. A skeleton is a term in which each variable is a hole, and a
 -- swept part fits it, whatever the open variables are. By induction on the skeleton: what fits it has its shape outside of its holes, and
 -- shifting, substitution and single contractions that are sure keep that. Assumes nothing.
---   Fits s t        t is s with some term in place of each variable of s
+--   Fills n t       t may stand in the hole n: in hole 0 any term, in any other hole a closed one
+--   Fits s t        t is s with such a term in place of each variable of s
 --   hasVariable t   some variable occurs in t
 --   isVariable t    t is a variable
+--   isAny t         t is the hole that any term may stand in
 --   isUnsure b      the abstraction over what fits b may contract or not, and differently for different terms
 use mathlib.Core.Path.{_≡_, refl, sym, ap, ap₂, _∙_, subst}
 use mathlib.Core.Bool.{Bool, true, false, cond, _&&_, _||_}
-use Prim.Native.Nat.{ℕ, suc, _-_}
+use Prim.Native.Nat.{ℕ, zero, suc, _-_}
 use native.Mathlib.Omega.{arith}
 use lib.Dec.{T, eqb}
 use Rattle.terms.specs.Term.{Term, app, lam, loc, con, var, shift, unshift, uses, substitute, Closed, isInnermost}
@@ -16,7 +18,11 @@ use Rattle.terms.proofs.Tests.{by-ltb, by-eqb, or-false}
 use Rattle.terms.proofs.Shift.{shift-unshift, uses-above}
 use Rattle.terms.proofs.Contracted.{Abstracted, Abstracted.out, Abstracted.kept, abstracted}
 use Rattle.terms.proofs.Locals.{closed-unused, unused-closed}
-use Rattle.matching.proofs.Contraction.{closed-redex}
+use Rattle.matching.proofs.Contraction.{Passes, passes-closed, shift-passes, substitute-passes, closed-redex}
+
+abbrev pub Fills : ℕ → Term → Type 0
+Fills zero t = Unit {0}
+Fills (suc n) t = Closed 0 t
 
 abbrev pub Fits : Term → Term → Type 0
 Fits (app f a) (app g b) = Fits f g × Fits a b
@@ -39,7 +45,7 @@ Fits (con m) (lam u) = ⊥
 Fits (con m) (loc n) = ⊥
 Fits (con m) (con n) = m ≡ n
 Fits (con m) (var n) = ⊥
-Fits (var m) t = Unit {0}
+Fits (var m) t = Fills m t
 
 abbrev pub hasVariable : Term → Bool
 hasVariable (app f a) = hasVariable f || hasVariable a
@@ -55,12 +61,32 @@ isVariable (loc n) = false
 isVariable (con n) = false
 isVariable (var n) = true
 
+abbrev pub isAny : Term → Bool
+isAny (app f a) = false
+isAny (lam b) = false
+isAny (loc n) = false
+isAny (con n) = false
+isAny (var n) = eqb n 0
+
 abbrev pub isUnsure : Term → Bool
-isUnsure (app f a) = isVariable a || (isInnermost a && hasVariable f)
+isUnsure (app f a) = isAny a || (isInnermost a && hasVariable f)
 isUnsure (lam b) = false
 isUnsure (loc n) = false
 isUnsure (con n) = false
-isUnsure (var n) = true
+isUnsure (var n) = isAny (var n)
+
+-- a closed term may stand in any hole, and no shift or substitution changes it
+pub fills-closed : (n : ℕ) (t : Term) → Closed 0 t → Fills n t
+fills-closed zero t c = tt
+fills-closed (suc n) t c = c
+
+pub filled-closed : (n : ℕ) (t : Term) → ¬ (n ≡ 0) → Fills n t → Closed 0 t
+filled-closed zero t o c = absurd (o refl)
+filled-closed (suc n) t o c = c
+
+fills-passes : (h : ℕ → Term → Term) → Passes h → (k n : ℕ) (t : Term) → Fills n t → Fills n (h k t)
+fills-passes h x k zero t c = tt
+fills-passes h x k (suc n) t c = subst (Closed 0) (sym (passes-closed h x 0 k t (omega arith) c)) c
 
 -- every term fits itself, and what fits a term without variables is that term
 pub fits-refl : (t : Term) → Fits t t
@@ -68,7 +94,7 @@ fits-refl (app f a) = (fits-refl f, fits-refl a)
 fits-refl (lam b) = fits-refl b
 fits-refl (loc n) = refl
 fits-refl (con n) = refl
-fits-refl (var n) = tt
+fits-refl (var n) = fills-closed n (var n) tt
 
 pub fits-exact : (s t : Term) → hasVariable s ≡ false → Fits s t → s ≡ t
 fits-exact (app f a) (app g b) e h =
@@ -85,7 +111,7 @@ fits-shift d c (app f a) (app g b) h = (fits-shift d c f g (h .0), fits-shift d 
 fits-shift d c (lam b) (lam u) h = fits-shift d (suc c) b u h
 fits-shift d c (loc m) (loc n) h = subst (λ i. Fits (shift d c (loc m)) (shift d c (loc i))) h (fits-refl (shift d c (loc m)))
 fits-shift d c (con m) (con n) h = h
-fits-shift d c (var m) t h = tt
+fits-shift d c (var m) t h = fills-passes (shift d) (shift-passes d) c m t h
 
 module _ (e g : Term) (x : Fits e g) where
   fits-local : (k n : ℕ) → Fits (substitute k e (loc n)) (substitute k g (loc n))
@@ -98,7 +124,7 @@ module _ (e g : Term) (x : Fits e g) where
   fits-substitute k (lam b) (lam u) h = fits-substitute (suc k) b u h
   fits-substitute k (loc m) (loc n) h = subst (λ i. Fits (substitute k e (loc m)) (substitute k g (loc i))) h (fits-local k m)
   fits-substitute k (con m) (con n) h = h
-  fits-substitute k (var m) t h = tt
+  fits-substitute k (var m) t h = fills-passes (λ j u. substitute j g u) (substitute-passes g) k m t h
 
 -- an application whose head is no hole
 pub fits-apply : (f g a b : Term) → isVariable f ≡ false → Fits f g → Fits a b → Fits (contract (app f a)) (contract (app g b))
@@ -107,6 +133,21 @@ fits-apply (lam u) (lam v) a b n h x = fits-substitute a b x 0 u v h
 fits-apply (loc i) (loc j) a b n h x = (h, x)
 fits-apply (con i) (con j) a b n h x = (h, x)
 fits-apply (var i) g a b n h x = absurd (subst T n tt)
+
+-- an abstraction over a closed body, or over an application to a closed argument, doesn't contract
+closed-kept : (f a : Term) → Closed 0 a → contract (lam (app f a)) ≡ lam (app f a)
+closed-kept f (app a b) c = refl
+closed-kept f (lam b) c = refl
+closed-kept f (loc n) c = absurd (omega (arith, c))
+closed-kept f (con n) c = refl
+closed-kept f (var n) c = refl
+
+closed-abstraction : (t : Term) → Closed 0 t → contract (lam t) ≡ lam t
+closed-abstraction (app f a) c = closed-kept f a (c .1)
+closed-abstraction (lam b) c = refl
+closed-abstraction (loc n) c = refl
+closed-abstraction (con n) c = refl
+closed-abstraction (var n) c = refl
 
 -- an abstraction over a body that is sure
 same-contract : (s t : Term) → s ≡ t → Fits (contract (lam s)) (contract (lam t))
@@ -123,14 +164,16 @@ applied-abstract f g (loc i) (loc j) n h x = go (eqb i 0) refl
         same-contract (app f (loc i)) (app g (loc j)) (ap₂ app (fits-exact f g o h) (ap loc x))
     go false e = subst (λ k. Fits (contract (lam (app f (loc i)))) (contract (lam (app g (loc k))))) x (rw e (h, refl))
 applied-abstract f g (con i) (con j) n h x = (h, x)
-applied-abstract f g (var i) b n h x = absurd (subst T n tt)
+applied-abstract f g (var zero) b n h x = absurd (subst T n tt)
+applied-abstract f g (var (suc i)) b n h x = rw (closed-kept g b x) (h, x)
 
 pub fits-abstract : (s t : Term) → isUnsure s ≡ false → Fits s t → Fits (contract (lam s)) (contract (lam t))
 fits-abstract (app f a) (app g b) n h = applied-abstract f g a b n (h .0) (h .1)
 fits-abstract (lam b) (lam c) n h = h
 fits-abstract (loc i) (loc j) n h = h
 fits-abstract (con i) (con j) n h = h
-fits-abstract (var i) t n h = absurd (subst T n tt)
+fits-abstract (var zero) t n h = absurd (subst T n tt)
+fits-abstract (var (suc i)) t n h = rw (closed-abstraction t h) h
 
 -- single contractions leave no loose local that wasn't there
 pub closed-apply : (d : ℕ) (f a : Term) → Closed d f → Closed d a → Closed d (contract (app f a))

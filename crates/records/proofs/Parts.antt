@@ -8,7 +8,7 @@ use lib.ListN.{length, getD, take, drop, length-append, length-drop, length-take
 use lib.Seq.{drop-drop, drop-at, take-at, take-all}
 use Rattle.terms.specs.Term.{Term, app, lam, loc, con, var, size}
 use Rattle.terms.specs.Table.{bytes, encode}
-use Rattle.terms.proofs.Table.{kind, number, encode-length}
+use Rattle.terms.proofs.Table.{kind, number, encode-length, encode-inj}
 use Rattle.records.specs.Record.{parts, numberAt}
 use Rattle.records.specs.Parts.{Part, Whole, Ends, Tree, Divided, Lies}
 use Rattle.records.proofs.Record.{kind-read, number-read, rest-read}
@@ -58,6 +58,13 @@ part l at t rest e = record {
   some = size-some t;
   within = omega (arith, ap length e, length-append (encode t) rest, encode-length t, length-drop at l, size-some t);
 }
+
+-- one term stands at a place, and its table there
+pub part-one : (l : List ℕ) (at : ℕ) (s t : Term) → Part l at s → Part l at t → s ≡ t
+part-one l at s t x y = encode-inj s t (x .rest) (y .rest) (sym (x .bytes) ∙ y .bytes) .0
+
+pub part-bytes : (l : List ℕ) (at n : ℕ) (t : Term) → Part l at t → n ≡ 4 * size t → take n (drop at l) ≡ encode t
+part-bytes l at n t x e = ap (take n) (x .bytes) ∙ take-at (encode t) (x .rest) n (encode-length t ∙ sym e)
 
 pub whole : (l : List ℕ) (at : ℕ) (t : Term) → Part l at t → Whole l at
 whole l at t x = record { tree = t; part = x; least = omega (arith, x .some, x .within) }

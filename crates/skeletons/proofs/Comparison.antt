@@ -3,16 +3,21 @@
 use mathlib.Core.Path.{_≡_, refl, sym, ap₂, _∙_, subst}
 use mathlib.Core.Bool.{true, false}
 use mathlib.Core.List.{List, []}
-use Prim.Native.Nat.{ℕ, _+_}
+use Prim.Native.Nat.{ℕ, _+_, _≤_}
 use native.Mathlib.Omega.{arith}
 use lib.Dec.{T}
-use lib.ListN.{getD}
+use lib.ListN.{length, getD}
+use Rattle.terms.specs.Figures.{tableBytes}
 use Rattle.terms.specs.Term.{Term, app, lam, loc, con, var, size}
 use Rattle.terms.specs.Table.{bytes, encode}
 use Rattle.terms.proofs.Table.{kind, number, encode-one}
-use Rattle.matching.proofs.Skeletons.{Fits, isVariable, fits-refl}
+use Rattle.matching.proofs.Skeletons.{Fills, Fits, isVariable, fills-closed, filled-closed, fits-refl}
 use Rattle.records.specs.Record.{numberAt}
 use Rattle.records.specs.Parts.{Part, Whole, Ends}
+use Rattle.records.specs.Tests.{Asks, Walked}
+use Rattle.records.specs.declared.Ask.the-variants.{Below}
+use Rattle.records.specs.declared.Walk.{Walk}
+use Rattle.records.specs.declared.Walk.the-variants as walk
 use Rattle.records.proofs.Parts.{size-some, whole, kind-at, number-at, application, abstraction, argument-part, ends-app, ends-lam, ends-leaf, leaf-size}
 use Rattle.abstractions.specs.declared.Places.{Places}
 use Rattle.abstractions.specs.declared.Pairing.{Pairing}
@@ -67,22 +72,39 @@ module _ (c : List ℕ) (b : ℕ) (s : List ℕ) (t : ℕ) where
   unfolding Compared
   refused r i q = let m : Compared c b s t No = subst (Compared c b s t) i q in m
 
-  compares : (x y : Term) → Part c b x → Part s t y → Compares c b s t
-  compares x y p q = record {
+  compares : (x y : Term) → Part c b x → Part s t y → length s ≤ tableBytes → Compares c b s t
+  compares x y p q m = record {
     skeleton = whole c b x p;
     term = whole s t y q;
     skeleton-least = omega (arith, p .some, p .within);
     term-least = omega (arith, q .some, q .within);
+    term-most = m;
   }
 
 module _ (c : List ℕ) (b : ℕ) (s : List ℕ) (t : ℕ) where
-  pub compared-hole : (r : ℕ) → getD c b 0 ≡ 4 → Whole c b → Ends s t r → Compared c b s t (Upto (record { first = b + 4; second = r }))
-  unfolding Compared
-  compared-hole r k w e = (
-    ends-leaf c b (λ q. omega arith) (λ q. omega arith) w,
-    e,
-    λ x y p q. same-fits (var (numberAt c b)) y x y (sym (variable-at c b x p k)) refl tt,
-  )
+  module _ (k : getD c b 0 ≡ 4) where
+    filled : (x y : Term) → Part c b x → Fills (numberAt c b) y → Fits x y
+    filled x y p f = same-fits (var (numberAt c b)) y x y (sym (variable-at c b x p k)) refl f
+
+    passed : Whole c b → (r : ℕ) → Ends s t r → ((y : Term) → Part s t y → Fills (numberAt c b) y) → Compared c b s t (Upto (record { first = b + 4; second = r }))
+    unfolding Compared
+    passed w r e f = (ends-leaf c b (λ q. omega arith) (λ q. omega arith) w, e, λ x y p q. filled x y p (f y q))
+
+    pub compared-any : (m r : ℕ) → m ≡ numberAt c b → m ≡ 0 → Whole c b → Ends s t r → Compared c b s t (Upto (record { first = b + 4; second = r }))
+    compared-any m r i z w e = passed w r e (λ y q. subst (λ (n : ℕ). Fills n y) (sym z ∙ i) tt)
+
+    module _ (a : Walk) (v : Walked s t (Asks Below 0) a) where
+      pub compared-closed : (r : ℕ) → a ≡ walk.Upto r → Whole c b → Compared c b s t (Upto (record { first = b + 4; second = r }))
+      unfolding Walked
+      compared-closed r i w =
+          let z : Walked s t (Asks Below 0) (walk.Upto r) = subst (Walked s t (Asks Below 0)) i v in
+          passed w r (z .0) (λ y q. fills-closed (numberAt c b) y (z .1 y q))
+
+      pub compared-loose : a ≡ walk.No → (m : ℕ) → m ≡ numberAt c b → ¬ (m ≡ 0) → Compared c b s t No
+      unfolding Walked Compared
+      compared-loose i m j o x y p q h =
+          let z : Walked s t (Asks Below 0) walk.No = subst (Walked s t (Asks Below 0)) i v in
+          z y q (filled-closed (numberAt c b) y (λ n. o (j ∙ n)) (same-fits x y (var (numberAt c b)) y (variable-at c b x p k) refl h))
 
   pub compared-kinds : ¬ (getD c b 0 ≡ 4) → ¬ (getD c b 0 ≡ getD s t 0) → Compared c b s t No
   unfolding Compared
@@ -94,7 +116,7 @@ module _ (c : List ℕ) (b : ℕ) (s : List ℕ) (t : ℕ) where
       compares-head x =
           let u = application c b (x .skeleton .tree) (x .skeleton .part) w in
           let v = application s t (x .term .tree) (x .term .part) (sym e ∙ w) in
-          compares c (b + 4) s (t + 4) (u .f) (v .f) (u .head) (v .head)
+          compares c (b + 4) s (t + 4) (u .f) (v .f) (u .head) (v .head) (x .term-most)
 
       pub compared-stop : (r : Pairing) → r ≡ No → Compared c (b + 4) s (t + 4) r → Compared c b s t No
       unfolding Compared
@@ -116,7 +138,7 @@ module _ (c : List ℕ) (b : ℕ) (s : List ℕ) (t : ℕ) where
             let u = application c b (x .skeleton .tree) (x .skeleton .part) w in
             let v = application s t (x .term .tree) (x .term .part) (sym e ∙ w) in
             compares c (p .first) s (p .second) (u .a) (v .a) (argument-part c b (p .first) (x .skeleton .tree) (come .skeleton-ends) u)
-            (argument-part s t (p .second) (x .term .tree) (come .term-ends) v)
+            (argument-part s t (p .second) (x .term .tree) (come .term-ends) v) (x .term-most)
 
         pub compared-app : (o : Pairing) → Compared c (p .first) s (p .second) o → Compared c b s t o
         unfolding Compared
@@ -142,7 +164,7 @@ module _ (c : List ℕ) (b : ℕ) (s : List ℕ) (t : ℕ) where
       compares-body x =
           let u = abstraction c b (x .skeleton .tree) (x .skeleton .part) w in
           let v = abstraction s t (x .term .tree) (x .term .part) (sym e ∙ w) in
-          compares c (b + 4) s (t + 4) (u .b) (v .b) (u .body) (v .body)
+          compares c (b + 4) s (t + 4) (u .b) (v .b) (u .body) (v .body) (x .term-most)
 
       pub compared-lam : (r : Pairing) → Compared c (b + 4) s (t + 4) r → Compared c b s t r
       unfolding Compared
@@ -179,7 +201,7 @@ module _ (c : List ℕ) (b : ℕ) (s : List ℕ) (t : ℕ) where
 -- what a walk says of the whole skeleton
 module _ (c s : List ℕ) (t : ℕ) where
   pub comparable : Comparable c s t → Compares c 0 s t
-  comparable x = record { skeleton = x .skeleton; term = x .term; skeleton-least = x .least; term-least = x .within }
+  comparable x = record { skeleton = x .skeleton; term = x .term; skeleton-least = x .least; term-least = x .within; term-most = x .most }
 
   pub may-be-fits : MayBe c s t true
   unfolding MayBe

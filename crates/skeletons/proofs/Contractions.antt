@@ -25,6 +25,9 @@ use Rattle.skeletons.proofs.Tests.{no-variable}
 abbrev pub Hole : List ℕ → ℕ → List ℕ → Type 0
 Hole out n after = (n ≡ 1) × (after ≡ sets out 0 (encode (var 0)))
 
+abbrev pub ClosedHole : List ℕ → ℕ → List ℕ → Type 0
+ClosedHole out n after = (n ≡ 1) × (after ≡ sets out 0 (encode (var 1)))
+
 hole-writes : (P : Term → Type 0) (out mid after : List ℕ) (n : ℕ) → P (var 0) → mid ≡ out → Hole mid n after → Writes P out n after
 hole-writes P out mid after n p e h =
     record { skeleton = var 0; bytes = h .1 ∙ ap (λ (l : List ℕ). sets l 0 (encode (var 0))) e; sized = h .0; holds = p }

@@ -1,6 +1,7 @@
 -- The skeleton of a part, from those of its own parts: the swept part is contracted from the swept parts, which fit their skeletons. By the
 -- part's kind, which its first record shows. Assumes nothing.
 use mathlib.Core.Path.{_≡_, refl, sym, ap, _∙_, subst}
+use mathlib.Core.Bool.{Bool, true}
 use mathlib.Core.Logic.{inl, inr}
 use mathlib.Core.List.{List}
 use Prim.Native.Nat.{ℕ, suc, _+_, _-_, _*_, _≤_}
@@ -12,11 +13,13 @@ use Rattle.terms.specs.Term.{Term, app, lam, loc, con, var, size, Closed, Below
 use Rattle.terms.specs.Sweep.{sweep, fill}
 use Rattle.terms.specs.Table.{encode}
 use Rattle.terms.proofs.Sweep.{sweep-normal}
+use Rattle.terms.proofs.Locals.{closed-sweep}
 use Rattle.terms.proofs.Table.{encode-one, encode-length}
 use Rattle.matching.proofs.Targets.{closed-more}
 use Rattle.matching.proofs.Skeletons.{Fits, fits-refl, closed-apply, closed-abstract}
 use Rattle.records.specs.Record.{numberAt}
 use Rattle.records.specs.Parts.{Part, Tree}
+use Rattle.records.specs.Tests.{Says, Tells}
 use Rattle.records.proofs.Parts.{size-some, part, kind-at, at-start, leaf-size, application-of, abstraction-of}
 use Rattle.assignments.specs.declared.Span.{Span}
 use Rattle.assignments.specs.declared.Entry.{Entry}
@@ -27,19 +30,31 @@ use Rattle.sweeping.proofs.Contraction.{table-length}
 use Rattle.sweeping.proofs.Values.{Held, held}
 use Rattle.skeletons.specs.Outlined.{GivenValues, Outlinable, Outline, Written, Outlined}
 use Rattle.skeletons.specs.Contracted.{Applies, Abstracts, Known, Entered}
-use Rattle.skeletons.proofs.Contractions.{Hole}
+use Rattle.skeletons.proofs.Contractions.{Hole, ClosedHole}
 use Rattle.skeletons.proofs.Tests.{variable-at}
 
--- a hole is a skeleton of everything
-module _ (s : List ℕ) (a : List Entry) (out : List ℕ) (n : ℕ) (after : List ℕ) (h : Hole out n after) where
-  hole-written : (t : Term) → Written s a t out n after
-  hole-written t = record { skeleton = var 0; bytes = h .1; sized = h .0; closed = λ d c. tt; outline = λ φ g. tt }
+-- a hole is a skeleton of everything, and one for closed terms is a skeleton of what is closed
+module _ (s : List ℕ) (a : List Entry) (out : List ℕ) (n : ℕ) (after : List ℕ) where
+  pub outlined-hole : Hole out n after → (l : List ℕ) → Outlined l s a out n after
+  outlined-hole h l = record {
+    written = λ t e. record { skeleton = var 0; bytes = h .1; sized = h .0; closed = λ d c. tt; outline = λ φ v g. tt };
+    some = omega (arith, h .0);
+    few = omega (arith, h .0);
+  }
 
-  pub outlined-hole : (l : List ℕ) → Outlined l s a out n after
-  outlined-hole l = record { written = λ t e. hole-written t; some = omega (arith, h .0); few = omega (arith, h .0) }
+  module _ (h : ClosedHole out n after) where
+    closed-written : (t : Term) → Closed 0 t → Written s a t out n after
+    closed-written t c = record { skeleton = var 1; bytes = h .1; sized = h .0; closed = λ d c. tt; outline = λ φ v g. closed-sweep φ v 0 t c }
 
-  pub entered-hole : (i : ℕ) → Entered s a i out n after
-  entered-hole i = record { written = hole-written (var i); some = omega (arith, h .0); few = omega (arith, h .0) }
+    pub outlined-closed : (l : List ℕ) (b : Bool) → Tells l (Closed 0) b → b ≡ true → Outlined l s a out n after
+    outlined-closed l b tells e = record {
+      written = λ t q. closed-written t (subst (λ (i : Bool). Says i (Closed 0 t)) e (tells t q));
+      some = omega (arith, h .0);
+      few = omega (arith, h .0);
+    }
+
+    pub entered-hole : (i : ℕ) → Entered s a i out n after
+    entered-hole i = record { written = closed-written (var i) tt; some = omega (arith, h .0); few = omega (arith, h .0) }
 
 -- an assigned variable
 module _ (s : List ℕ) (a : List Entry) (i : ℕ) (x : Span) (e : getD a i Open ≡ Assigned x) (k : Known s a i) where
@@ -65,7 +80,7 @@ module _ (s : List ℕ) (a : List Entry) (i : ℕ) (x : Span) (e : getD a i Open
       }
     where
       outline : Outline s a (var i) value
-      outline φ g =
+      outline φ v g =
           let y = g i x refl e in
           let r : value ≡ φ i = encode-one value (φ i) (sym (value-held .bytes) ∙ held s a i (φ i) y x e .bytes) in
           subst (Fits value) (r ∙ sym (sweep-normal (φ i) (y .value .1))) (fits-refl value)
@@ -75,11 +90,12 @@ module _ (s : List ℕ) (a : List Entry) (i : ℕ) (x : Span) (e : getD a i Open
 
 -- the parts of what has a skeleton
 module _ (l m s : List ℕ) (a : List Entry) (x : Outlinable l s a) where
-  outlinable : (t : Term) (d : ℕ) → m ≡ encode t → d + size t + sweptRecords ≤ numbers → Closed d t → Below variables t → GivenValues s a (x .φ) t → Outlinable m s a
-  outlinable t d e h c b g = record {
+  outlinable : (t : Term) (d : ℕ) → m ≡ encode t → size t ≤ size (x .tree) → d + size t + sweptRecords ≤ numbers → Closed d t → Below variables t → GivenValues s a (x .φ) t → Outlinable m s a
+  outlinable t d e o h c b g = record {
     tree = t;
     bytes = e;
     least = omega (arith, table-length m t e, size-some t);
+    most = omega (arith, table-length m t e, o, table-length l (x .tree) (x .bytes), x .most);
     depth = d;
     shallow = h;
     closed = c;
@@ -95,7 +111,7 @@ module _ (l m s : List ℕ) (a : List Entry) (x : Outlinable l s a) where
         let c : Closed (x .depth) (app (v .f) (v .a)) = subst (Closed (x .depth)) (v .is) (x .closed) in
         let b : Below variables (app (v .f) (v .a)) = subst (Below variables) (v .is) (x .below) in
         let g : GivenValues s a (x .φ) (app (v .f) (v .a)) = subst (GivenValues s a (x .φ)) (v .is) (x .gives) in
-        outlinable (v .f) (x .depth) (h (v .f) (v .a) (v .bytes)) (omega (arith, ap size (v .is), x .shallow)) (c .0) (b .0) (λ i y o. g i y (inl o))
+        outlinable (v .f) (x .depth) (h (v .f) (v .a) (v .bytes)) (omega (arith, ap size (v .is))) (omega (arith, ap size (v .is), x .shallow)) (c .0) (b .0) (λ i y o. g i y (inl o))
 
     pub outlinable-argument : ((f b : Term) → l ≡ encode (app f b) → m ≡ encode b) → Outlinable m s a
     outlinable-argument h =
@@ -103,7 +119,7 @@ module _ (l m s : List ℕ) (a : List Entry) (x : Outlinable l s a) where
         let c : Closed (x .depth) (app (v .f) (v .a)) = subst (Closed (x .depth)) (v .is) (x .closed) in
         let b : Below variables (app (v .f) (v .a)) = subst (Below variables) (v .is) (x .below) in
         let g : GivenValues s a (x .φ) (app (v .f) (v .a)) = subst (GivenValues s a (x .φ)) (v .is) (x .gives) in
-        outlinable (v .a) (x .depth) (h (v .f) (v .a) (v .bytes)) (omega (arith, ap size (v .is), x .shallow)) (c .1) (b .1) (λ i y o. g i y (inr o))
+        outlinable (v .a) (x .depth) (h (v .f) (v .a) (v .bytes)) (omega (arith, ap size (v .is))) (omega (arith, ap size (v .is), x .shallow)) (c .1) (b .1) (λ i y o. g i y (inr o))
 
   pub outlinable-body : getD l 0 0 ≡ 1 → ((b : Term) → l ≡ encode (lam b) → m ≡ encode b) → Outlinable m s a
   outlinable-body z h =
@@ -111,7 +127,7 @@ module _ (l m s : List ℕ) (a : List Entry) (x : Outlinable l s a) where
       let c : Closed (x .depth) (lam (v .b)) = subst (Closed (x .depth)) (v .is) (x .closed) in
       let b : Below variables (lam (v .b)) = subst (Below variables) (v .is) (x .below) in
       let g : GivenValues s a (x .φ) (lam (v .b)) = subst (GivenValues s a (x .φ)) (v .is) (x .gives) in
-      outlinable (v .b) (suc (x .depth)) (h (v .b) (v .bytes)) (omega (arith, ap size (v .is), x .shallow)) c b g
+      outlinable (v .b) (suc (x .depth)) (h (v .b) (v .bytes)) (omega (arith, ap size (v .is))) (omega (arith, ap size (v .is), x .shallow)) c b g
 
 pub outlinable-tree : (l s : List ℕ) (a : List Entry) → Outlinable l s a → Tree l
 outlinable-tree l s a x = record { tree = x .tree; bytes = x .bytes; least = x .least }
@@ -195,8 +211,8 @@ module _ (l s : List ℕ) (a : List Entry) (z : getD l 0 0 ≡ 0) (m : List ℕ)
               bytes = o .bytes;
               sized = o .sized;
               closed = λ d e. o .holds .closed d (f .closed d (e .0)) (g .closed d (e .1));
-              outline = λ φ e.
-                  o .holds .fits (sweep (fill φ (v .f))) (sweep (fill φ (v .a))) (f .outline φ (λ i y o. e i y (inl o))) (g .outline φ (λ i y o. e i y (inr o)));
+              outline = λ φ j e.
+                  o .holds .fits (sweep (fill φ (v .f))) (sweep (fill φ (v .a))) (f .outline φ j (λ i y o. e i y (inl o))) (g .outline φ j (λ i y o. e i y (inr o)));
             })
 
 -- an abstraction
@@ -234,7 +250,7 @@ module _ (l s : List ℕ) (a : List Entry) (z : getD l 0 0 ≡ 1) (m : List ℕ)
             bytes = o .bytes;
             sized = o .sized;
             closed = λ d e. o .holds .closed d (f .closed (suc d) e);
-            outline = λ φ e. o .holds .fits (sweep (fill φ (v .b))) (f .outline φ e);
+            outline = λ φ j e. o .holds .fits (sweep (fill φ (v .b))) (f .outline φ j e);
           })
 
 -- a variable
@@ -270,6 +286,6 @@ module _ (l s : List ℕ) (a : List Entry) (n : ¬ (getD l 0 0 ≡ 0)) (m : ¬ (
       each : (t : Term) → l ≡ encode t → Written s a t out 1 after
       each (app f b) e = absurd (n (kind-at l 0 (app f b) (at-start l (app f b) e)))
       each (lam b) e = absurd (m (kind-at l 0 (lam b) (at-start l (lam b) e)))
-      each (loc i) e = own (loc i) e refl (λ φ g. refl)
-      each (con i) e = own (con i) e refl (λ φ g. refl)
+      each (loc i) e = own (loc i) e refl (λ φ v g. refl)
+      each (con i) e = own (con i) e refl (λ φ v g. refl)
       each (var i) e = absurd (v (kind-at l 0 (var i) (at-start l (var i) e)))

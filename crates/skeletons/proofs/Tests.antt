@@ -6,12 +6,12 @@ use mathlib.Core.Logic.{_↔_}
 use mathlib.Core.List.{List}
 use Prim.Native.Nat.{ℕ}
 use native.Mathlib.Omega.{arith}
-use lib.Dec.{T}
+use lib.Dec.{T, eqb}
 use lib.ListN.{getD}
 use borrow.Author.Tests.{eq-eqb, ne-eqb}
 use Rattle.terms.specs.Term.{Term, app, lam, loc, con, var, isInnermost}
 use Rattle.terms.proofs.Tests.{or-false}
-use Rattle.matching.proofs.Skeletons.{hasVariable, isVariable, isUnsure}
+use Rattle.matching.proofs.Skeletons.{hasVariable, isVariable, isAny, isUnsure}
 use Rattle.records.specs.declared.Walk.{Walk}
 use Rattle.records.specs.declared.Walk.the-variants.{Upto, No}
 use Rattle.records.specs.Record.{numberAt}
@@ -73,9 +73,13 @@ module _ (l : List ℕ) (w : Walk) (x : Walked l 0 Exact w) where
   exact-not e t b = walked-not l 0 Exact w x t (at-start l t b) e
 
 -- whether the abstraction is sure
+or-none : (b : Bool) → b ≡ (b || false)
+or-none true = refl
+or-none false = refl
+
 module _ (b : List ℕ) where
-  pub unsure-hole : getD b 0 0 ≡ 4 → Equals b isUnsure true
-  unsure-hole k t e = sym (ap isUnsure (variable-at b 0 t (at-start b t e) k))
+  pub unsure-hole : getD b 0 0 ≡ 4 → (m : ℕ) → m ≡ numberAt b 0 → Equals b isUnsure (eqb m 0)
+  unsure-hole k m i t e = ap (λ (n : ℕ). eqb n 0) i ∙ sym (ap isUnsure (variable-at b 0 t (at-start b t e) k))
 
   pub sure-other : ¬ (getD b 0 0 ≡ 4) → ¬ (getD b 0 0 ≡ 0) → Equals b isUnsure false
   sure-other v n (app f a) e = absurd (n (kind-at b 0 (app f a) (at-start b (app f a) e)))
@@ -92,12 +96,12 @@ module _ (b : List ℕ) where
       pub argument-whole : Tree b → Whole b next
       argument-whole x = whole-argument b 0 next (tree-whole b x) z u
 
-      pub unsure-argument : getD b next 0 ≡ 4 → Equals b isUnsure true
-      unsure-argument k t e =
+      pub unsure-argument : getD b next 0 ≡ 4 → (m : ℕ) → m ≡ numberAt b next → Equals b isUnsure (eqb m 0)
+      unsure-argument k m i t e =
           let v = application b 0 t (at-start b t e) z in
-          rw (v .is, variable-at b next (v .a) (argument-part b 0 next t u v) k)
+          rw (v .is, variable-at b next (v .a) (argument-part b 0 next t u v) k) (ap (λ (n : ℕ). eqb n 0) i ∙ or-none (eqb (numberAt b next) 0))
 
-      other-argument : (a : Term) (h : Bool) → Part b next a → ¬ (getD b next 0 ≡ 4) → ¬ (getD b next 0 ≡ 2) → false ≡ (isVariable a || (isInnermost a && h))
+      other-argument : (a : Term) (h : Bool) → Part b next a → ¬ (getD b next 0 ≡ 4) → ¬ (getD b next 0 ≡ 2) → false ≡ (isAny a || (isInnermost a && h))
       other-argument (app f c) h x n m = refl
       other-argument (lam c) h x n m = refl
       other-argument (loc i) h x n m = absurd (m (kind-at b next (loc i) x))

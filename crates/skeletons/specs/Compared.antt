@@ -4,6 +4,7 @@
 use mathlib.Core.List.{List}
 use Prim.Native.Nat.{ℕ, _+_, _≤_}
 use lib.ListN.{length}
+use Rattle.terms.specs.Figures.{tableBytes}
 use Rattle.terms.specs.Term.{Term}
 use Rattle.matching.proofs.Skeletons.{Fits}
 use Rattle.records.specs.Parts.{Part, Whole, Ends}
@@ -15,6 +16,7 @@ pub record Compares (c : List ℕ) (b : ℕ) (s : List ℕ) (t : ℕ) : Type 0 w
   pub term : Whole s t
   pub skeleton-least : b + 4 ≤ length c
   pub term-least : t + 4 ≤ length s
+  pub term-most : length s ≤ tableBytes
 
 unfoldable pub Compared : List ℕ → ℕ → List ℕ → ℕ → Pairing → Type 0
 Compared c b s t (Upto p) = Ends c b (p .first) × Ends s t (p .second) × ((x y : Term) → Part c b x → Part s t y → Fits x y)

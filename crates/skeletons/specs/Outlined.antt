@@ -1,20 +1,23 @@
 -- What writing the skeleton of a part of a pattern needs, and what it leaves.
 --   GivenValues s a φ p    the entries a, with the value table s, give each variable i of p that is assigned the value φ i
 --   Outlinable l s a       a part of a pattern, as a table, with the values of its assigned variables
---   Outline s a t x        every swept form of t, filled so, fits the skeleton x
+--   Outline s a t x        every swept form of t, filled with values and so, fits the skeleton x
 --   Outlined l s a out n after   the skeleton of the part with the table l was written into out from byte 0 on, n records
 --   Comparable c s t       a skeleton, as a table, and a term that stands in s from byte t on
 --   MayBe c s t r          unless r, the term that stands in s from byte t on doesn't fit the skeleton with the table c
+--   Applicable c s e t     a skeleton, as a table, and two terms that stand in s from bytes e and t on
+--   MayBuild c s e t r     unless r, no abstraction that fits the skeleton with the table c comes to the term at byte t with the one at byte e put in
 use mathlib.Core.Path.{_≡_}
 use mathlib.Core.Bool.{Bool, true, false}
 use mathlib.Core.List.{List}
 use Prim.Native.Nat.{ℕ, _+_, _≤_}
 use lib.ListN.{length, getD}
 use lib.Seq.{sets}
-use Rattle.terms.specs.Figures.{variables, numbers, sweptRecords}
-use Rattle.terms.specs.Term.{Term, size, Closed, Below, Occurs}
+use Rattle.terms.specs.Figures.{variables, numbers, sweptRecords, tableBytes}
+use Rattle.terms.specs.Term.{Term, lam, size, substitute, Closed, Below, Occurs}
 use Rattle.terms.specs.Sweep.{sweep, fill}
 use Rattle.terms.specs.Table.{encode}
+use Rattle.matching.proofs.Lines.{Values}
 use Rattle.matching.proofs.Skeletons.{Fits}
 use Rattle.records.specs.Parts.{Part, Whole}
 use Rattle.assignments.specs.Entries.{Given}
@@ -29,6 +32,7 @@ pub record Outlinable (l s : List ℕ) (a : List Entry) : Type 0 where
   pub tree : Term
   pub bytes : l ≡ encode tree
   pub least : 4 ≤ length l
+  pub most : length l ≤ tableBytes
   pub depth : ℕ
   pub shallow : depth + size tree + sweptRecords ≤ numbers
   pub closed : Closed depth tree
@@ -37,7 +41,7 @@ pub record Outlinable (l s : List ℕ) (a : List Entry) : Type 0 where
   pub gives : GivenValues s a φ tree
 
 abbrev pub Outline : List ℕ → List Entry → Term → Term → Type 0
-Outline s a t x = (φ : ℕ → Term) → GivenValues s a φ t → Fits x (sweep (fill φ t))
+Outline s a t x = (φ : ℕ → Term) → Values φ → GivenValues s a φ t → Fits x (sweep (fill φ t))
 
 pub record Written (s : List ℕ) (a : List Entry) (t : Term) (out : List ℕ) (n : ℕ) (after : List ℕ) : Type 0 where
   pub skeleton : Term
@@ -56,7 +60,27 @@ pub record Comparable (c s : List ℕ) (t : ℕ) : Type 0 where
   pub least : 4 ≤ length c
   pub term : Whole s t
   pub within : t + 4 ≤ length s
+  pub most : length s ≤ tableBytes
 
 unfoldable pub MayBe : List ℕ → List ℕ → ℕ → Bool → Type 0
 MayBe c s t true = Unit {0}
 MayBe c s t false = (x y : Term) → Part c 0 x → Part s t y → ¬ Fits x y
+
+pub record Applicable (c s : List ℕ) (e t : ℕ) : Type 0 where
+  pub skeleton : Term
+  pub argument : Term
+  pub bytes : c ≡ encode skeleton
+  pub part : Part s e argument
+  pub least : 4 ≤ length c
+  pub few : size skeleton ≤ sweptRecords
+  pub argument-few : size argument ≤ sweptRecords
+  pub depth : ℕ
+  pub shallow : depth + sweptRecords ≤ numbers
+  pub closed : Closed depth skeleton
+  pub argument-closed : Closed depth argument
+  pub target : Whole s t
+  pub most : length s ≤ tableBytes
+
+unfoldable pub MayBuild : List ℕ → List ℕ → ℕ → ℕ → Bool → Type 0
+MayBuild c s e t true = Unit {0}
+MayBuild c s e t false = (x y z b : Term) → Part c 0 x → Part s e y → Part s t z → Fits x (lam b) → ¬ (substitute 0 y b ≡ z)

@@ -2,38 +2,60 @@
 //
 // The part is swept as if each open variable were a hole: what a hole is applied to is lost in it, and an abstraction over a body that may
 // or may not contract is a hole too, as is a form above 256 records. Whatever the open variables are assigned, the swept part is the skeleton
-// with some term in place of each hole; so a target that doesn't fit the skeleton is never met, and a skeleton without a hole is the swept
-// part itself. The crate writes skeletons, a hole as a variable's record, looks for holes in them, and compares them with terms. It promises
-// that the swept part fits what it writes. It rests on `sweeping` for single contractions, on `assignments` for values, and on `abstractions`
-// for the answer of a walk over two parts.
+// with some term in place of each hole, a closed one where the part that the hole stands for is closed; so a target that doesn't fit the
+// skeleton is never met, and a skeleton without a hole is the swept part itself. The crate writes skeletons, a hole as a variable's record,
+// looks for holes in them, applies them, and compares them with terms. It promises that the swept part fits what it writes. It rests on
+// `sweeping` for single contractions, on `assignments` for values, and on `abstractions` for the answer of a walk over two parts.
 
 use abstractions::Pairing;
 use abstractions::Places;
 use assignments::Entry;
+use records::Ask;
 use records::Kind;
 use records::RECORD;
 use records::Walk;
 use sweeping::Length;
 use sweeping::SWEPT_BYTES;
 ghost use mathlib.Core.Path.{_≡_};
-ghost use lib.ListN.{getD};
+ghost use mathlib.Core.List.{List};
+ghost use Prim.Native.Nat.{ℕ, _<_, _≤_};
+ghost use lib.ListN.{length, getD};
 ghost use lib.Seq.{sets};
+ghost use Rattle.terms.specs.Figures.{numbers, tableBytes};
 ghost use Rattle.terms.specs.Term.{var};
 ghost use Rattle.terms.specs.Table.{encode};
 ghost use Rattle.matching.proofs.Skeletons.{isUnsure};
 ghost use Rattle.records.specs.Parts.{Tree, Whole};
 ghost use Rattle.records.specs.Tests.{Tells, Equals, Walked};
 ghost use Rattle.sweeping.specs.Swept.{Applied, Abstracted};
-ghost use Rattle.skeletons.specs.Outlined.{Outlinable, Outlined, Comparable, MayBe};
+ghost use Rattle.skeletons.specs.Outlined.{Outlinable, Outlined, Comparable, MayBe, Applicable, MayBuild};
 ghost use Rattle.skeletons.specs.Contracted.{Applies, Abstracts, Exact, Known, Entered};
 ghost use Rattle.skeletons.specs.Compared.{Compares, Compared};
 
+// The number of a hole that any term may stand in.
+const ANY: usize = 0;
+
+// The number of a hole that a closed term stands in.
+const CLOSED: usize = 1;
+
 // Writes a hole, and gives its number of records.
-fn hole(out: &mut [u8; SWEPT_BYTES]) -> usize
-    ensures { λ r. ⌜ (r ≡ 1) × (now (out .exit) ≡ sets (now (out .entry)) 0 (encode (var 0))) ⌝ }
+fn hole(number: usize, out: &mut [u8; SWEPT_BYTES]) -> usize
+    requires { ⌜ number < numbers ⌝ }
+    ensures { λ r. ⌜ (r ≡ 1) × (now (out .exit) ≡ sets (now (out .entry)) 0 (encode (var number))) ⌝ }
 {
-    records::put_record(out, 0, Kind::VARIABLE, 0);
+    records::put_record(out, 0, Kind::VARIABLE, number);
     1
+}
+
+// Writes the hole for the part s, of whose swept form no more is known than that values bring in no loose local.
+fn hole_for(s: &[u8], out: &mut [u8; SWEPT_BYTES]) -> usize
+    requires { ⌜ Tree (now s) × (length (now s) ≤ tableBytes) ⌝ }
+    ensures { λ r. ⌜ ((values : List ℕ) (a : List Entry) → Outlined (now (s .entry)) values a (now (out .entry)) r (now (out .exit))) ⌝ }
+{
+    if records::is_closed(s, 0) {
+        return hole(CLOSED, out);
+    }
+    hole(ANY, out)
 }
 
 // Writes the skeleton of the application of f to x, both skeletons, where f is no hole.
@@ -43,7 +65,7 @@ fn apply(f: &[u8], x: &[u8], out: &mut [u8; SWEPT_BYTES]) -> usize
 {
     let length = sweeping::contract_application(f, x, out);
     let Length::Records(n) = length else {
-        return hole(out);
+        return hole(ANY, out);
     };
     n
 }
@@ -82,22 +104,22 @@ pub fn is_exact(c: &[u8]) -> bool
     }
 }
 
-// Whether the abstraction over what the skeleton b stands for may contract or not: b is a hole, an application to a hole, or an application
-// to the innermost local whose head has a hole, in which that local may be used.
+// Whether the abstraction over what the skeleton b stands for may contract or not: b is a hole for any term, an application to such a hole,
+// or an application to the innermost local whose head has a hole, in which that local may be used.
 fn is_unsure(b: &[u8]) -> bool
     requires { ⌜ Tree (now b) ⌝ }
     ensures { λ r. ⌜ Equals (now (b .entry)) isUnsure r ⌝ }
 {
     let kind = b[0];
     if kind == Kind::VARIABLE.code {
-        return true;
+        return records::number_at(b, 0) == ANY;
     }
     if kind != Kind::APPLICATION.code {
         return false;
     }
     let argument = records::end_at(b, RECORD);
     if b[argument] == Kind::VARIABLE.code {
-        return true;
+        return records::number_at(b, argument) == ANY;
     }
     if b[argument] != Kind::LOCAL.code {
         return false;
@@ -118,23 +140,23 @@ fn abstract_over(b: &[u8], out: &mut [u8; SWEPT_BYTES]) -> usize
     ensures { λ r. ⌜ Abstracts (now (b .entry)) (now (out .entry)) r (now (out .exit)) ⌝ }
 {
     if is_unsure(b) {
-        return hole(out);
+        return hole(ANY, out);
     }
     let length = sweeping::contract_abstraction(b, out);
     let Length::Records(n) = length else {
-        return hole(out);
+        return hole(ANY, out);
     };
     n
 }
 
-// Writes the skeleton of variable i: its value, which is normal and so its own swept form, or a hole.
+// Writes the skeleton of variable i: its value, which is normal and so its own swept form, or a hole for a closed term, as every value is one.
 fn skeleton_variable(i: usize, values: &[u8], a: [Entry; 8], out: &mut [u8; SWEPT_BYTES]) -> usize
     requires { ⌜ Known (now values) a i ⌝ }
     ensures { λ r. ⌜ Entered (now (values .entry)) a i (now (out .entry)) r (now (out .exit)) ⌝ }
 {
     let e = a[i];
     match e {
-        Entry::Open => hole(out),
+        Entry::Open => hole(CLOSED, out),
         Entry::Assigned(span) => {
             sweeping::copy_into(assignments::value_of(values, span), out, 0);
             span.count
@@ -155,7 +177,7 @@ fn skeleton_application(
     let mut head = [0u8; SWEPT_BYTES];
     let n = skeleton(records::head_of(s), values, a, &mut head);
     if head[0] == Kind::VARIABLE.code {
-        return hole(out);
+        return hole_for(s, out);
     }
     let mut argument = [0u8; SWEPT_BYTES];
     let m = skeleton(records::argument_of(s), values, a, &mut argument);
@@ -200,6 +222,28 @@ pub fn skeleton(s: &[u8], values: &[u8], a: [Entry; 8], out: &mut [u8; SWEPT_BYT
     1
 }
 
+// Passes the term of s at byte t at the hole of c at byte b, if it may stand there.
+fn fits_hole(c: &[u8], b: usize, s: &[u8], t: usize) -> Pairing
+    requires { ⌜ Compares (now c) b (now s) t × (getD (now c) b 0 ≡ 4) ⌝ }
+    ensures { λ r. ⌜ Compared (now (c .entry)) b (now (s .entry)) t r ⌝ }
+{
+    if records::number_at(c, b) == ANY {
+        let end = records::end_at(s, t);
+        return Pairing::Upto(Places {
+            first: b + RECORD,
+            second: end,
+        });
+    }
+    let closed = records::ask_at(s, t, Ask::Below, 0);
+    match closed {
+        Walk::Upto(next) => Pairing::Upto(Places {
+            first: b + RECORD,
+            second: next,
+        }),
+        Walk::No => Pairing::No,
+    }
+}
+
 // Walks over the skeleton of c at byte b and the term of s at byte t together, as far as the term fits. At a hole it passes a whole part of
 // the term.
 fn fits(c: &[u8], b: usize, s: &[u8], t: usize) -> Pairing
@@ -208,11 +252,7 @@ fn fits(c: &[u8], b: usize, s: &[u8], t: usize) -> Pairing
 {
     let kind = c[b];
     if kind == Kind::VARIABLE.code {
-        let end = records::end_at(s, t);
-        return Pairing::Upto(Places {
-            first: b + RECORD,
-            second: end,
-        });
+        return fits_hole(c, b, s, t);
     }
     if kind != s[t] {
         return Pairing::No;
@@ -246,4 +286,17 @@ pub fn may_be(c: &[u8], s: &[u8], t: usize) -> bool
         Pairing::Upto(_) => true,
         Pairing::No => false,
     }
+}
+
+// Whether a part with the skeleton c, which is no hole, may be an abstraction that comes to the term of s at byte t with the one at byte e put
+// in: the term fits the skeleton applied to that one.
+pub fn may_build(c: &[u8], s: &[u8], e: usize, t: usize) -> bool
+    requires { ⌜ Applicable (now c) (now s) e t × ¬ (getD (now c) 0 0 ≡ 4) ⌝ }
+    ensures { λ r. ⌜ MayBuild (now (c .entry)) (now (s .entry)) e t r ⌝ }
+{
+    let end = records::end_at(s, e);
+    let mut built = [0u8; SWEPT_BYTES];
+    let n = apply(c, &s[e..end], &mut built);
+    let n = n * RECORD;
+    may_be(&built[0..n], s, t)
 }

@@ -3,7 +3,7 @@
 use Prim.Native.Nat.{_+_, _*_}
 use lib.ListN.{length}
 use native.Mathlib.Omega.{arith}
-use Rattle.skeletons.proofs.Outlines.{outlined-hole, outlinable-head, outlinable-argument, outlinable-body, outlinable-tree, result-within, head-no-hole, parts-applied, outlined-application, part-abstracted, outlined-abstraction, variable-known, outlined-variable, leaf-length, outlined-leaf}
+use Rattle.skeletons.proofs.Outlines.{outlinable-head, outlinable-argument, outlinable-body, outlinable-tree, result-within, head-no-hole, parts-applied, outlined-application, part-abstracted, outlined-abstraction, variable-known, outlined-variable, leaf-length, outlined-leaf}
 use borrow.Author.Needs.{needs}
 use Prim.Native.Nat.{ℕ, _<_}
 use borrow.Fn.Kinds.{In}
@@ -23,7 +23,7 @@ use Rattle.records.proofs.head_of.Reads as head-of-reads
 use Rattle.records.proofs.number_at.Reads as number-at-reads
 use Rattle.skeletons.proofs.abstract_over.Reads as abstract-over-reads
 use Rattle.skeletons.proofs.apply.Reads as apply-reads
-use Rattle.skeletons.proofs.hole.Reads as hole-reads
+use Rattle.skeletons.proofs.hole_for.Reads as hole-for-reads
 use Rattle.skeletons.proofs.skeleton_variable.Reads as skeleton-variable-reads
 use Rattle.sweeping.proofs.copy_into.Reads as copy-into-reads
 use Rattle.skeletons.proofs.+skeleton+skeleton_abstraction+skeleton_application.{statement}
@@ -305,8 +305,8 @@ skeleton-application-head-of-requires : (t : ℕ) → skeleton-application-lts.N
   head-of-reads.Learnt,
   skeleton-below t,
   skeleton.Post,
-  hole-reads.Asked,
-  hole-reads.Learnt,
+  hole-for-reads.Asked,
+  hole-for-reads.Learnt,
   argument-of-reads.Asked,
   argument-of-reads.Learnt,
   apply-reads.Asked,
@@ -319,8 +319,8 @@ skeleton-application-skeleton-requires : (t : ℕ) → skeleton-application-lts.
   head-of-reads.Learnt,
   skeleton-below t,
   skeleton.Post,
-  hole-reads.Asked,
-  hole-reads.Learnt,
+  hole-for-reads.Asked,
+  hole-for-reads.Learnt,
   argument-of-reads.Asked,
   argument-of-reads.Learnt,
   apply-reads.Asked,
@@ -333,8 +333,8 @@ skeleton-application-array-read-if1 : (t : ℕ) → skeleton-application-lts.Nee
   head-of-reads.Learnt,
   skeleton-below t,
   skeleton.Post,
-  hole-reads.Asked,
-  hole-reads.Learnt,
+  hole-for-reads.Asked,
+  hole-for-reads.Learnt,
   argument-of-reads.Asked,
   argument-of-reads.Learnt,
   apply-reads.Asked,
@@ -342,33 +342,33 @@ skeleton-application-array-read-if1 : (t : ℕ) → skeleton-application-lts.Nee
 ) (skeleton-application-at t) skeleton-application.Post
 skeleton-application-array-read-if1 t c = search needs
 
-skeleton-application-hole-requires : (t : ℕ) → skeleton-application-lts.Need-hole-requires (
+skeleton-application-hole-for-requires : (t : ℕ) → skeleton-application-lts.Need-hole-for-requires (
   head-of-reads.Asked,
   head-of-reads.Learnt,
   skeleton-below t,
   skeleton.Post,
-  hole-reads.Asked,
-  hole-reads.Learnt,
+  hole-for-reads.Asked,
+  hole-for-reads.Learnt,
   argument-of-reads.Asked,
   argument-of-reads.Learnt,
   apply-reads.Asked,
   apply-reads.Learnt,
 ) (skeleton-application-at t) skeleton-application.Post
-skeleton-application-hole-requires t c κs = search needs
+skeleton-application-hole-for-requires t c κs = (outlinable-tree _ _ _ (c .before .before .before .before .before .before .before .before .pre .1 .0), c .before .before .before .before .before .before .before .before .pre .1 .0 .most)
 
 skeleton-application-returns : (t : ℕ) → skeleton-application-lts.Need-returns (
   head-of-reads.Asked,
   head-of-reads.Learnt,
   skeleton-below t,
   skeleton.Post,
-  hole-reads.Asked,
-  hole-reads.Learnt,
+  hole-for-reads.Asked,
+  hole-for-reads.Learnt,
   argument-of-reads.Asked,
   argument-of-reads.Learnt,
   apply-reads.Asked,
   apply-reads.Learnt,
 ) (skeleton-application-at t) skeleton-application.Post
-skeleton-application-returns t c = outlined-hole _ _ _ _ _ (c .hole .ensures) _
+skeleton-application-returns t c = c .hole-for .ensures _ _
 
 skeleton-application-argument-of-requires :
     (t : ℕ) → skeleton-application-lts.Need-argument-of-requires (
@@ -376,8 +376,8 @@ skeleton-application-argument-of-requires :
       head-of-reads.Learnt,
       skeleton-below t,
       skeleton.Post,
-      hole-reads.Asked,
-      hole-reads.Learnt,
+      hole-for-reads.Asked,
+      hole-for-reads.Learnt,
       argument-of-reads.Asked,
       argument-of-reads.Learnt,
       apply-reads.Asked,
@@ -391,8 +391,8 @@ skeleton-application-skeleton-requires-2 :
       head-of-reads.Learnt,
       skeleton-below t,
       skeleton.Post,
-      hole-reads.Asked,
-      hole-reads.Learnt,
+      hole-for-reads.Asked,
+      hole-for-reads.Learnt,
       argument-of-reads.Asked,
       argument-of-reads.Learnt,
       apply-reads.Asked,
@@ -405,8 +405,8 @@ skeleton-application-mul-n : (t : ℕ) → skeleton-application-lts.Need-mul-n (
   head-of-reads.Learnt,
   skeleton-below t,
   skeleton.Post,
-  hole-reads.Asked,
-  hole-reads.Learnt,
+  hole-for-reads.Asked,
+  hole-for-reads.Learnt,
   argument-of-reads.Asked,
   argument-of-reads.Learnt,
   apply-reads.Asked,
@@ -419,8 +419,8 @@ skeleton-application-mul-m : (t : ℕ) → skeleton-application-lts.Need-mul-m (
   head-of-reads.Learnt,
   skeleton-below t,
   skeleton.Post,
-  hole-reads.Asked,
-  hole-reads.Learnt,
+  hole-for-reads.Asked,
+  hole-for-reads.Learnt,
   argument-of-reads.Asked,
   argument-of-reads.Learnt,
   apply-reads.Asked,
@@ -433,8 +433,8 @@ skeleton-application-sub-apply : (t : ℕ) → skeleton-application-lts.Need-sub
   head-of-reads.Learnt,
   skeleton-below t,
   skeleton.Post,
-  hole-reads.Asked,
-  hole-reads.Learnt,
+  hole-for-reads.Asked,
+  hole-for-reads.Learnt,
   argument-of-reads.Asked,
   argument-of-reads.Learnt,
   apply-reads.Asked,
@@ -447,8 +447,8 @@ skeleton-application-part-apply-start : (t : ℕ) → skeleton-application-lts.N
   head-of-reads.Learnt,
   skeleton-below t,
   skeleton.Post,
-  hole-reads.Asked,
-  hole-reads.Learnt,
+  hole-for-reads.Asked,
+  hole-for-reads.Learnt,
   argument-of-reads.Asked,
   argument-of-reads.Learnt,
   apply-reads.Asked,
@@ -461,8 +461,8 @@ skeleton-application-part-apply-end : (t : ℕ) → skeleton-application-lts.Nee
   head-of-reads.Learnt,
   skeleton-below t,
   skeleton.Post,
-  hole-reads.Asked,
-  hole-reads.Learnt,
+  hole-for-reads.Asked,
+  hole-for-reads.Learnt,
   argument-of-reads.Asked,
   argument-of-reads.Learnt,
   apply-reads.Asked,
@@ -475,8 +475,8 @@ skeleton-application-sub-apply-2 : (t : ℕ) → skeleton-application-lts.Need-s
   head-of-reads.Learnt,
   skeleton-below t,
   skeleton.Post,
-  hole-reads.Asked,
-  hole-reads.Learnt,
+  hole-for-reads.Asked,
+  hole-for-reads.Learnt,
   argument-of-reads.Asked,
   argument-of-reads.Learnt,
   apply-reads.Asked,
@@ -490,8 +490,8 @@ skeleton-application-part-apply-start-2 :
       head-of-reads.Learnt,
       skeleton-below t,
       skeleton.Post,
-      hole-reads.Asked,
-      hole-reads.Learnt,
+      hole-for-reads.Asked,
+      hole-for-reads.Learnt,
       argument-of-reads.Asked,
       argument-of-reads.Learnt,
       apply-reads.Asked,
@@ -504,8 +504,8 @@ skeleton-application-part-apply-end-2 : (t : ℕ) → skeleton-application-lts.N
   head-of-reads.Learnt,
   skeleton-below t,
   skeleton.Post,
-  hole-reads.Asked,
-  hole-reads.Learnt,
+  hole-for-reads.Asked,
+  hole-for-reads.Learnt,
   argument-of-reads.Asked,
   argument-of-reads.Learnt,
   apply-reads.Asked,
@@ -518,8 +518,8 @@ skeleton-application-apply-requires : (t : ℕ) → skeleton-application-lts.Nee
   head-of-reads.Learnt,
   skeleton-below t,
   skeleton.Post,
-  hole-reads.Asked,
-  hole-reads.Learnt,
+  hole-for-reads.Asked,
+  hole-for-reads.Learnt,
   argument-of-reads.Asked,
   argument-of-reads.Learnt,
   apply-reads.Asked,
@@ -532,8 +532,8 @@ skeleton-application-returns-2 : (t : ℕ) → skeleton-application-lts.Need-ret
   head-of-reads.Learnt,
   skeleton-below t,
   skeleton.Post,
-  hole-reads.Asked,
-  hole-reads.Learnt,
+  hole-for-reads.Asked,
+  hole-for-reads.Learnt,
   argument-of-reads.Asked,
   argument-of-reads.Learnt,
   apply-reads.Asked,
@@ -590,8 +590,8 @@ pub +skeleton+skeleton-abstraction+skeleton-application-spec : {M : Type 1} → 
       head-of-reads.Learnt,
       skeleton-below t,
       skeleton.Post,
-      hole-reads.Asked,
-      hole-reads.Learnt,
+      hole-for-reads.Asked,
+      hole-for-reads.Learnt,
       argument-of-reads.Asked,
       argument-of-reads.Learnt,
       apply-reads.Asked,
@@ -602,7 +602,7 @@ pub +skeleton+skeleton-abstraction+skeleton-application-spec : {M : Type 1} → 
     (skeleton-application-head-of-requires t)
     (skeleton-application-skeleton-requires t)
     (skeleton-application-array-read-if1 t)
-    (skeleton-application-hole-requires t)
+    (skeleton-application-hole-for-requires t)
     (skeleton-application-returns t)
     (skeleton-application-argument-of-requires t)
     (skeleton-application-skeleton-requires-2 t)

@@ -59,7 +59,7 @@ part-may-be-end : tie.Need-part-may-be-end
 part-may-be-end c = search needs
 
 may-be-requires : tie.Need-may-be-requires
-may-be-requires c κs = skeleton-comparable _ _ (c .before .before .before .before .before .before .before .before .before .before .before .before .before .before .before .before .before .before .before .pre .1 .skeleton-table) _ _ (looks _ _ _ _ (c .before .before .before .before .before .before .before .before .before .before .before .before .before .before .before .before .before .before .before .pre .0) _ (c .before .before .before .before .before .before .before .before .before .before .before .before .before .before .before .item-at .ensures .0) _ _ _ (placed-at _ _ _ _ _ _ _ (c .before .before .before .before .before .before .before .before .before .before .place-argument .ensures) (c .before .before .before .before .before .before .placed .given .1)) .second)
+may-be-requires c κs = let l = looks _ _ _ _ (c .before .before .before .before .before .before .before .before .before .before .before .before .before .before .before .before .before .before .before .pre .0) _ (c .before .before .before .before .before .before .before .before .before .before .before .before .before .before .before .item-at .ensures .0) _ _ _ (placed-at _ _ _ _ _ _ _ (c .before .before .before .before .before .before .before .before .before .before .place-argument .ensures) (c .before .before .before .before .before .before .placed .given .1)) in skeleton-comparable _ _ (c .before .before .before .before .before .before .before .before .before .before .before .before .before .before .before .before .before .before .before .pre .1 .skeleton-table) _ _ (l .second) (l .most)
 
 same-length-3 : tie.Need-same-length-3
 same-length-3 c = search needs

@@ -5,7 +5,7 @@ use native.Mathlib.Omega.{arith}
 use borrow.Author.Tests.{not-false}
 use borrow.Author.Needs.{needs}
 use Rattle.agenda.proofs.Deciding.{walkable, decided-open, comparing, decided-dead, decided-live}
-use Rattle.agenda.proofs.Outlining.{part-outlines, goal-target, skeleton-tree, skeleton-comparable, decided-refused, exact-form}
+use Rattle.agenda.proofs.Outlining.{part-outlines, skeleton-tree, judges, decided-refused, exact-form}
 use Rattle.agenda.proofs.ground.decide.Statement.{statement}
 use Rattle.agenda.proofs.ground.decide.Tie as tie
 
@@ -40,7 +40,7 @@ part-is-possible-end : tie.Need-part-is-possible-end
 part-is-possible-end c = search needs
 
 is-possible-requires : tie.Need-is-possible-requires
-is-possible-requires c κs = skeleton-comparable _ _ (c .before .before .before .before .before .before .before .before .skeleton-at .ensures .table) _ _ (goal-target _ _ _ _ (c .before .before .before .before .before .before .before .before .before .before .before .before .before .before .before .pre .0) (c .before .before .before .before .before .before .before .before .before .before .before .before .before .before .before .pre .1) _ (c .before .before .before .before .before .before .before .before .before .before .before .item-at .ensures .0))
+is-possible-requires c κs = judges _ _ _ _ (c .before .before .before .before .before .before .before .before .before .before .before .before .before .before .before .pre .0) (c .before .before .before .before .before .before .before .before .before .before .before .before .before .before .before .pre .1) _ (c .before .before .before .before .before .before .before .before .before .before .before .item-at .ensures .0) _ _ (c .before .before .before .before .before .before .before .before .skeleton-at .ensures)
 
 same-length : tie.Need-same-length
 same-length c = search needs

@@ -1,0 +1,81 @@
+-- A skeleton applied to a term: an abstraction that fits the skeleton comes, with the term put in, to what fits the applied skeleton. By the
+-- law of fitting for applications, as every term fits itself. Assumes nothing.
+use mathlib.Core.Path.{_≡_, refl, sym, ap, subst}
+use mathlib.Core.Bool.{Bool, true, false}
+use mathlib.Core.List.{List}
+use Prim.Native.Nat.{ℕ, _-_, _*_, _≤_}
+use native.Mathlib.Omega.{arith}
+use lib.ListN.{length, take, drop}
+use lib.Seq.{length-sets}
+use Rattle.terms.specs.Term.{Term, lam}
+use Rattle.terms.specs.Table.{encode}
+use Rattle.terms.proofs.Table.{encode-length}
+use Rattle.matching.proofs.Skeletons.{Fits, fits-refl, closed-apply}
+use Rattle.records.specs.Parts.{Part, Whole, Ends}
+use Rattle.records.proofs.Parts.{size-some, part-one, part-bytes, whole, at-start}
+use Rattle.sweeping.specs.Swept.{sweptBytes, Applied}
+use Rattle.sweeping.proofs.Stores.{stored}
+use Rattle.sweeping.proofs.Contraction.{table-length}
+use Rattle.skeletons.specs.Outlined.{Comparable, MayBe, Applicable, MayBuild}
+use Rattle.skeletons.specs.Contracted.{Application, Writes, Applies}
+
+module _ (c s : List ℕ) (e t : ℕ) (x : Applicable c s e t) where
+  pub argument-whole : Whole s e
+  argument-whole = whole s e (x .argument) (x .part)
+
+  module _ (end : ℕ) (m : Ends s e end) where
+    abbrev table : List ℕ
+    table = take (end - e) (drop e s)
+
+    argument-bytes : table ≡ encode (x .argument)
+    argument-bytes = part-bytes s e (end - e) (x .argument) (x .part) (omega (arith, m .exact (x .argument) (x .part)))
+
+    pub applied : Applied c table
+    applied =
+        let n = table-length c (x .skeleton) (x .bytes) in
+        let k = table-length table (x .argument) argument-bytes in
+        record {
+          head = x .skeleton;
+          argument = x .argument;
+          head-bytes = x .bytes;
+          argument-bytes = argument-bytes;
+          head-least = x .least;
+          argument-least = omega (arith, k, size-some (x .argument));
+          head-most = omega (arith, n, x .few);
+          argument-most = omega (arith, k, x .argument-few);
+          depth = x .depth;
+          shallow = x .shallow;
+          closed = closed-apply (x .depth) (x .skeleton) (x .argument) (x .closed) (x .argument-closed);
+        }
+
+    module _ (out after : List ℕ) (n : ℕ) (w : Applies c table out n after) (h : length out ≡ sweptBytes) where
+      built : Writes (Application (x .skeleton) (x .argument)) out n after
+      built = w .written (x .skeleton) (x .argument) (x .bytes) argument-bytes
+
+      built-bytes : take (n * 4 - 0) (drop 0 after) ≡ encode (built .skeleton)
+      built-bytes =
+          stored out after (encode (built .skeleton)) (n * 4) (built .bytes) (omega (arith, built .sized, encode-length (built .skeleton))) (omega (arith, h, w .few))
+
+      pub built-within : n * 4 ≤ length after
+      built-within = omega (arith, h, w .few, ap length (built .bytes), length-sets out 0 (encode (built .skeleton)))
+
+      built-part : Part (take (n * 4 - 0) (drop 0 after)) 0 (built .skeleton)
+      built-part = at-start (take (n * 4 - 0) (drop 0 after)) (built .skeleton) built-bytes
+
+      pub built-comparable : Comparable (take (n * 4 - 0) (drop 0 after)) s t
+      built-comparable = record {
+        skeleton = whole (take (n * 4 - 0) (drop 0 after)) 0 (built .skeleton) built-part;
+        least = omega (arith, built-part .some, built-part .within);
+        term = x .target;
+        within = x .target .least;
+        most = x .most;
+      }
+
+      pub built-answer : (r : Bool) → MayBe (take (n * 4 - 0) (drop 0 after)) s t r → MayBuild c s e t r
+      unfolding MayBe MayBuild
+      built-answer true q = tt
+      built-answer false q = λ y u z b i j k f g.
+          let p : x .skeleton ≡ y = part-one c 0 (x .skeleton) y (at-start c (x .skeleton) (x .bytes)) i in
+          let o : x .argument ≡ u = part-one s e (x .argument) u (x .part) j in
+          let v = built .holds .fits (lam b) u (subst (λ (d : Term). Fits d (lam b)) (sym p) f) (subst (Fits (x .argument)) o (fits-refl (x .argument))) in
+          q (built .skeleton) z built-part k (subst (Fits (built .skeleton)) g v)

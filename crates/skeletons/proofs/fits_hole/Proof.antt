@@ -1,0 +1,51 @@
+-- `skeletons::fits_hole` meets its contract: any term may stand in hole 0, and in any other hole a closed one. By the hole's number and how the
+-- walk over the term ends. Assumes nothing.
+use Rattle.skeletons.proofs.Comparison.{compared-any, compared-closed, compared-loose}
+use borrow.Author.Needs.{needs}
+use Rattle.skeletons.proofs.fits_hole.Statement.{statement}
+use Rattle.skeletons.proofs.fits_hole.Tie as tie
+
+number-at-requires : tie.Need-number-at-requires
+number-at-requires c κs = search needs
+
+end-at-requires : tie.Need-end-at-requires
+end-at-requires c κs = search needs
+
+add-t10 : tie.Need-add-t10
+add-t10 c = search needs
+
+returns : tie.Need-returns
+returns c = compared-any _ _ _ _ (c .before .before .before .before .before .pre .1) _ _ (c .before .before .number-at .ensures .0) (c .before .if1 .taken) (c .before .before .before .before .before .pre .0 .skeleton) (c .end-at .ensures)
+
+ask-at-requires : tie.Need-ask-at-requires
+ask-at-requires c κs = search needs
+
+enum-known-closed : tie.Need-enum-known-closed
+enum-known-closed c = search needs
+
+add-t14 : tie.Need-add-t14
+add-t14 c = search needs
+
+enum-told : tie.Need-enum-told
+enum-told c = search needs
+
+returns-2 : tie.Need-returns-2
+returns-2 c = compared-closed _ _ _ _ (c .before .before .before .before .before .before .before .before .pre .1) _ (c .before .before .before .ask-at .ensures) _ (c .before .closed .given .1) (c .before .before .before .before .before .before .before .before .pre .0 .skeleton)
+
+returns-3 : tie.Need-returns-3
+returns-3 c = compared-loose _ _ _ _ (c .before .before .before .before .before .before .before .pre .1) _ (c .before .before .ask-at .ensures) (c .enum-told .given .1) _ (c .before .before .before .before .number-at .ensures .0) (c .before .before .before .if1 .left)
+
+pub fits-hole-spec : {M : Type 1} → statement M
+fits-hole-spec =
+    tie.close
+    (tie.spec
+    number-at-requires
+    end-at-requires
+    add-t10
+    returns
+    ask-at-requires
+    enum-known-closed
+    add-t14
+    enum-told
+    returns-2
+    returns-3)
