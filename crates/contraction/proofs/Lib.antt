@@ -1,1 +1,2 @@
 pub mod Reducts
+pub mod Arguments

@@ -1,7 +1,7 @@
 -- The reduct of a part from the reducts of its own parts: an application by the tests that the code makes, which are the definition's, and
 -- everything else as it is. By the part's kind, which its first record shows. Assumes nothing.
 use mathlib.Core.Path.{_≡_, refl, sym, ap, _∙_, subst}
-use mathlib.Core.Bool.{Bool, true, false}
+use mathlib.Core.Bool.{Bool, true, false, _||_}
 use mathlib.Core.List.{List, []}
 use Prim.Native.Nat.{ℕ, suc, _+_, _-_, _*_, _/_, _≤_}
 use native.Mathlib.Omega.{arith}
@@ -13,11 +13,14 @@ use Rattle.terms.specs.Sweep.{contract}
 use Rattle.terms.specs.Table.{bytes, encode, IsTable}
 use Rattle.terms.proofs.Locals.{rigid}
 use Rattle.terms.proofs.Table.{encode-length}
-use Rattle.matching.proofs.Contraction.{applied, reduct, closed-redex, reduct-closed}
+use Rattle.matching.proofs.Guards.{guarded}
+use Rattle.matching.proofs.Contraction.{isPassed, applied, reduct, closed-redex, reduct-closed}
 use Rattle.records.specs.Parts.{Part, Tree}
+use Rattle.records.specs.Tests.{Equals}
 use Rattle.records.proofs.Parts.{size-some, whole, kind-at, at-start, leaf-size, application-of, abstraction-of}
 use Rattle.sweeping.specs.declared.Length.{Length}
 use Rattle.sweeping.specs.declared.Length.the-variants.{Records, TooLong}
+use Rattle.sweeping.specs.Swept.{Applied}
 use Rattle.sweeping.specs.Writers.{replace, Wrote, Used}
 use Rattle.sweeping.proofs.Stores.{stored, written-then}
 use Rattle.sweeping.proofs.Contraction.{table-length, application-bytes, redex-size, redex-bytes}
@@ -48,6 +51,9 @@ module _ (f a : List ℕ) (z : getD f 0 0 ≡ 1) (next n : ℕ) (u : Used f 4 0 
       reduced (contract (app x y)) out after ((length f - 4 + n * (length a - 4)) / 4) (omega arith) (omega arith)
       (redex-bytes f a z next n u out after to end w x y e g)
 
+pub redex-tree : (f a : List ℕ) → Applied f a → Tree f
+redex-tree f a x = record { tree = x .head; bytes = x .head-bytes; least = x .head-least }
+
 -- which of the two is an application's reduct
 module _ (f a out : List ℕ) (r : Length) (after : List ℕ) where
   no-redex : ¬ (getD f 0 0 ≡ 1) → (x y : Term) → f ≡ encode x → applied x y ≡ app x y
@@ -61,19 +67,32 @@ module _ (f a out : List ℕ) (r : Length) (after : List ℕ) where
   applies-other n w x y e g = rw (no-redex n x y e) (w x y e g)
 
   module _ (z : getD f 0 0 ≡ 1) (t : Bool) (test : (y : Term) → Part a 0 y → t ≡ rigid y) where
-    pub applies-flexible : t ≡ false → Joins f a out r after → Applies f a out r after
-    applies-flexible o w x y e g =
+    contracts : Contracts f a out r after → (x y : Term) (e : f ≡ encode x) → a ≡ encode y → isPassed y (abstraction-of f x e z .b) ≡ true → Reduced (applied x y) out r after
+    contracts w x y e g k =
         let v = abstraction-of f x e z in
-        let k : rigid y ≡ false = sym (test y (at-start a y g)) ∙ o in
-        let i : applied x y ≡ app x y = rw (v .is, k) in
+        let i : applied x y ≡ contract (app x y) = rw (v .is, k) in
         rw i (w x y e g)
 
     pub applies-rigid : t ≡ true → Contracts f a out r after → Applies f a out r after
     applies-rigid o w x y e g =
-        let v = abstraction-of f x e z in
         let k : rigid y ≡ true = sym (test y (at-start a y g)) ∙ o in
-        let i : applied x y ≡ contract (app x y) = rw (v .is, k) in
-        rw i (w x y e g)
+        contracts w x y e g (ap (λ (i : Bool). i || guarded 0 (abstraction-of f x e z .b)) k)
+
+    module _ (o : t ≡ false) (m : List ℕ) (body : (b : Term) → f ≡ encode (lam b) → m ≡ encode b) (u : Bool) (guard : Equals m (guarded 0) u) where
+      not-rigid : (x y : Term) (e : f ≡ encode x) → a ≡ encode y → isPassed y (abstraction-of f x e z .b) ≡ u
+      not-rigid x y e g =
+          let v = abstraction-of f x e z in
+          let k : rigid y ≡ false = sym (test y (at-start a y g)) ∙ o in
+          ap (λ (i : Bool). i || guarded 0 (v .b)) k ∙ sym (guard (v .b) (body (v .b) (v .bytes)))
+
+      pub applies-guarded : u ≡ true → Contracts f a out r after → Applies f a out r after
+      applies-guarded q w x y e g = contracts w x y e g (not-rigid x y e g ∙ q)
+
+      pub applies-kept : u ≡ false → Joins f a out r after → Applies f a out r after
+      applies-kept q w x y e g =
+          let v = abstraction-of f x e z in
+          let i : applied x y ≡ app x y = rw (v .is, not-rigid x y e g ∙ q) in
+          rw i (w x y e g)
 
 -- the parts of what is reducible
 module _ (l m : List ℕ) (x : Reducible l) where

@@ -1,10 +1,12 @@
-// The reduct of a pattern: its redexes contracted where the argument is rigid.
+// The reduct of a pattern: its redexes contracted where the argument is rigid, or where the local stands only as the argument of a constant.
 //
-// Such redexes make the search exponential, and they needn't wait for the sweep: a rigid argument never sweeps to an abstraction, so that
-// the reduct has the pattern's own listing, as `matching` shows. The crate goes bottom-up through the parts of a table and writes the reduct
-// of each into an array of its own. It promises that what it writes is the table of the reduct, and says "too long" where that of some part
-// is above 32 records. It rests on `records` for single records and parts, on `abstractions` for the test of an argument, and on `sweeping`
-// for the substitution.
+// Such redexes make the search exponential, and they needn't wait for the sweep: a rigid argument never sweeps to an abstraction, and below a
+// constant an abstraction meets no argument, so that the reduct has the pattern's own listing, as `matching` shows. The crate goes bottom-up
+// through the parts of a table and writes the reduct of each into an array of its own. It promises that what it writes is the table of the
+// reduct, and says "too long" where that of some part is above 32 records. It rests on `records` for single records and parts, on
+// `abstractions` for the test of an argument, and on `sweeping` for the substitution.
+
+mod guards;
 
 use records::Kind;
 use records::RECORD;
@@ -48,7 +50,7 @@ fn join(f: &[u8], a: &[u8], out: &mut [u8; PATTERN_BYTES]) -> Length
     Length::Records(n / RECORD)
 }
 
-// Applies f to a, both reduced: the redex is contracted if it is one and a is rigid.
+// Applies f to a, both reduced: the redex is contracted if it is one, and a is rigid or the local guarded.
 fn apply(f: &[u8], a: &[u8], out: &mut [u8; PATTERN_BYTES]) -> Length
     requires { ⌜ Applicable (now f) (now a) ⌝ }
     ensures { λ r. ⌜ Applies (now (f .entry)) (now (a .entry)) (now (out .entry)) r (now (out .exit)) ⌝ }
@@ -57,6 +59,9 @@ fn apply(f: &[u8], a: &[u8], out: &mut [u8; PATTERN_BYTES]) -> Length
         return join(f, a, out);
     }
     if abstractions::is_rigid(a, 0) {
+        return contract_redex(f, a, out);
+    }
+    if guards::is_guarded(records::body_of(f), 0) {
         return contract_redex(f, a, out);
     }
     join(f, a, out)

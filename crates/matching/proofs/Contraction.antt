@@ -1,21 +1,23 @@
--- A redex whose argument never sweeps to an abstraction can be contracted before the sweep: shifting and substitution pass a sweep and a
--- filling, shown once for all that is done to the locals from a number on. Assumes nothing.
+-- A redex whose argument never sweeps to an abstraction, or whose local stands only as the argument of a constant, can be contracted before
+-- the sweep: shifting and substitution pass a sweep and a filling, shown once for all that is done to the locals from a number on. Assumes
+-- nothing.
 --   Passes h        h k does something to the locals of a term that aren't below k, and passes binders
 --   Numbered C W t  C holds of the number of each constant of t, and W of that of each variable
---   applied f a     f applied to a, with the redex contracted if it is one and a is rigid
---   reduct p        p with its redexes contracted bottom-up where the argument is rigid
+--   isPassed a b    the redex of the abstraction over b and the argument a can be contracted so
+--   applied f a     f applied to a, contracted if it is such a redex
+--   reduct p        p with such redexes contracted bottom-up
 use mathlib.Core.Path.{_≡_, refl, sym, ap, ap₂, _∙_, subst}
-use mathlib.Core.Bool.{Bool, true, false, cond}
-use mathlib.Core.Logic.{inl, inr, ⊎-elim}
+use mathlib.Core.Bool.{Bool, true, false, cond, _||_}
+use mathlib.Core.Logic.{_⊎_, inl, inr, ⊎-elim}
 use mathlib.Core.List.{List}
 use Prim.Native.Nat.{ℕ, suc, _+_, _-_, _≤_, _<_}
 use native.Mathlib.Omega.{arith}
 use lib.Dec.{eqb}
 use borrow.Author.Tests.{lt-ltb, le-ltb}
-use Rattle.terms.specs.Term.{Term, app, lam, loc, con, var, Closed, Occurs, Below, shift, unshift, substitute, isAbstraction, isEta}
+use Rattle.terms.specs.Term.{Term, app, lam, loc, con, var, Closed, Occurs, Below, shift, unshift, uses, substitute, isAbstraction, isEta}
 use Rattle.terms.specs.Sweep.{sweep, contract, fill}
 use Rattle.terms.specs.Listing.{Line, Full}
-use Rattle.terms.proofs.Tests.{by-ltb, by-eqb}
+use Rattle.terms.proofs.Tests.{by-ltb, by-eqb, or-true}
 use Rattle.terms.proofs.Shift.{isEta-shift, isAbstraction-shift, shift-unshift}
 use Rattle.terms.proofs.Substitute.{by-substitute, substitute-here, substitute-low, substitute-high, substitute-shift, substitute-unused, unused-substitute, isEta-substitute}
 use Rattle.terms.proofs.Sweep.{contract-app}
@@ -27,6 +29,7 @@ use Rattle.matching.proofs.Lists.{Lists, lists-same, lists-more}
 use Rattle.matching.proofs.Lister.{Sweeps}
 use Rattle.matching.proofs.Partial.{full-lists, lists-full}
 use Rattle.matching.proofs.Step.{isAbstraction-unshift, contract-to-other}
+use Rattle.matching.proofs.Guards.{guarded, Guarded, guarded-is, guarded-unshift, guarded-fill, guarded-sweep, guarded-head}
 
 pub record Passes (h : ℕ → Term → Term) : Type 0 where
   pub application : (k : ℕ) (f a : Term) → h k (app f a) ≡ app (h k f) (h k a)
@@ -131,48 +134,71 @@ module _ (F : Term → Term) (local : (n : ℕ) → F (loc n) ≡ loc n) where
       by-ltb (λ s. F (cond s (loc n) (cond (eqb n k) (shift k 0 e) (loc (n - 1)))) ≡ cond s (loc n) (cond (eqb n k) (shift k 0 u) (loc (n - 1)))) n k (λ l. local n)
       (λ l. by-eqb (λ s. F (cond s (shift k 0 e) (loc (n - 1))) ≡ cond s (shift k 0 u) (loc (n - 1))) n k (λ q. p) (λ q. local (n - 1)))
 
--- the sweep
-module _ (h : ℕ → Term → Term) (x : Passes h) (head : (k : ℕ) (t : Term) → isAbstraction (h k t) ≡ isAbstraction t) where
-  kept-application : (k : ℕ) (f a : Term) → isAbstraction f ≡ false → contract (app (h k f) (h k a)) ≡ h k (contract (app f a))
-  kept-application k f a l =
-      contract-app (h k f) (h k a) (rw (head k f, l) tt) ∙ sym (x .application k f a) ∙ ap (h k) (sym (contract-app f a (rw l tt)))
+-- the sweep of terms of which S holds; of their swept forms G holds, so that h leaves their heads as they are
+module _ (h : ℕ → Term → Term) (x : Passes h) (G : ℕ → Term → Type 0) (head : (k : ℕ) (t : Term) → G k t → isAbstraction (h k t) ≡ isAbstraction t) where
+  kept-application : (k : ℕ) (f a : Term) → G k f → isAbstraction f ≡ false → contract (app (h k f) (h k a)) ≡ h k (contract (app f a))
+  kept-application k f a c l =
+      contract-app (h k f) (h k a) (rw (head k f c, l) tt) ∙ sym (x .application k f a) ∙ ap (h k) (sym (contract-app f a (rw l tt)))
 
-  contract-application : (k : ℕ) (f a : Term) → contract (app (h k f) (h k a)) ≡ h k (contract (app f a))
-  contract-application k (app f b) a = kept-application k (app f b) a refl
-  contract-application k (lam b) a = rw (x .abstraction k b) (sym (passes-substitute h x k 0 k a b (omega arith)))
-  contract-application k (loc n) a = kept-application k (loc n) a refl
-  contract-application k (con n) a = kept-application k (con n) a refl
-  contract-application k (var n) a = kept-application k (var n) a refl
+  contract-application : (k : ℕ) (f a : Term) → G k f → contract (app (h k f) (h k a)) ≡ h k (contract (app f a))
+  contract-application k (app f b) a c = kept-application k (app f b) a c refl
+  contract-application k (lam b) a c = rw (x .abstraction k b) (sym (passes-substitute h x k 0 k a b (omega arith)))
+  contract-application k (loc n) a c = kept-application k (loc n) a c refl
+  contract-application k (con n) a c = kept-application k (con n) a c refl
+  contract-application k (var n) a c = kept-application k (var n) a c refl
 
-  module _ (eta : (k : ℕ) (t : Term) → isEta (h (suc k) t) ≡ isEta t) where
-    isProper-passes : (k : ℕ) (s : Term) → isProper s ≡ false → isProper (h (suc k) s) ≡ false
-    isProper-passes k (app m a) o = rw (eta k (app m a), x .application (suc k) m a, head (suc k) m) o
-    isProper-passes k (lam b) o = rw (eta k (lam b))
-    isProper-passes k (loc n) o = rw (eta k (loc n))
-    isProper-passes k (con n) o = rw (eta k (con n))
-    isProper-passes k (var n) o = rw (eta k (var n))
+  module _
+      (eta : (k : ℕ) (t : Term) → isEta (h (suc k) t) ≡ isEta t)
+      (first : (k : ℕ) (m a : Term) → G k (app m a) → G k m)
+      (outer : (k : ℕ) (m : Term) → uses 0 m ≡ false → G (suc k) m → G k (unshift 1 0 m)) where
+    isProper-passes : (k : ℕ) (s : Term) → G (suc k) s → isProper s ≡ false → isProper (h (suc k) s) ≡ false
+    isProper-passes k (app m a) c o = rw (eta k (app m a), x .application (suc k) m a, head (suc k) m (first (suc k) m a c)) o
+    isProper-passes k (lam b) c o = rw (eta k (lam b))
+    isProper-passes k (loc n) c o = rw (eta k (loc n))
+    isProper-passes k (con n) c o = rw (eta k (con n))
+    isProper-passes k (var n) c o = rw (eta k (var n))
 
-    contract-lambda : (k : ℕ) (s : Term) → contract (lam (h (suc k) s)) ≡ h k (contract (lam s))
-    contract-lambda k s = go (abstracted s)
+    contract-lambda : (k : ℕ) (s : Term) → G (suc k) s → contract (lam (h (suc k) s)) ≡ h k (contract (lam s))
+    contract-lambda k s c = go (abstracted s)
       where
         go : Abstracted s → contract (lam (h (suc k) s)) ≡ h k (contract (lam s))
         go (out m p u l w) =
             let q : isAbstraction (unshift 1 0 m) ≡ false = isAbstraction-unshift m u ∙ l in
-            rw w (contract-to-other (h (suc k) s) (h k (unshift 1 0 m)) (head k (unshift 1 0 m) ∙ q) .1
+            let d : G k (unshift 1 0 m) = outer k m u (first (suc k) m (loc 0) (subst (G (suc k)) p c)) in
+            rw w (contract-to-other (h (suc k) s) (h k (unshift 1 0 m)) (head k (unshift 1 0 m) d ∙ q) .1
             (ap (h (suc k)) p ∙ x .application (suc k) m (loc 0)
             ∙ ap₂ app (ap (h (suc k)) (sym (shift-unshift 0 m u)) ∙ passes-shift h x 1 0 k (suc k) (unshift 1 0 m) (omega arith) (omega arith)) (x .low (suc k) 0 (omega arith))))
-        go (kept o w) = rw (w, isProper-passes k s o) (sym (x .abstraction k s))
+        go (kept o w) = rw (w, isProper-passes k s c o) (sym (x .abstraction k s))
 
-    module _ (g : ℕ → Term → Term) (y : Passes g) (local : (k n : ℕ) → sweep (g k (loc n)) ≡ h k (loc n)) where
-      sweep-passes : (k : ℕ) (t : Term) → sweep (g k t) ≡ h k (sweep t)
-      sweep-passes k (app f a) = rw (y .application k f a, sweep-passes k f, sweep-passes k a) (contract-application k (sweep f) (sweep a))
-      sweep-passes k (lam b) = rw (y .abstraction k b, sweep-passes (suc k) b) (contract-lambda k (sweep b))
-      sweep-passes k (loc n) = local k n
-      sweep-passes k (con n) = rw (y .constant k n, x .constant k n)
-      sweep-passes k (var n) = rw (y .variable k n, x .variable k n)
+    module _
+        (g : ℕ → Term → Term) (y : Passes g) (local : (k n : ℕ) → sweep (g k (loc n)) ≡ h k (loc n))
+        (S : ℕ → Term → Type 0) (swept : (k : ℕ) (t : Term) → S k t → G k (sweep t))
+        (parts : (k : ℕ) (f a : Term) → S k (app f a) → S k f × ((a ≡ loc k) ⊎ S k a)) (under : (k : ℕ) (b : Term) → S k (lam b) → S (suc k) b) where
+      sweep-passes : (k : ℕ) (t : Term) → S k t → sweep (g k t) ≡ h k (sweep t)
+      sweep-passes k (app f a) s =
+          let p = parts k f a s in
+          let q : sweep (g k a) ≡ h k (sweep a) = ⊎-elim (λ e. rw e (local k k)) (sweep-passes k a) (p .1) in
+          rw (y .application k f a, sweep-passes k f (p .0), q) (contract-application k (sweep f) (sweep a) (swept k f (p .0)))
+      sweep-passes k (lam b) s =
+          rw (y .abstraction k b, sweep-passes (suc k) b (under k b s)) (contract-lambda k (sweep b) (swept (suc k) b (under k b s)))
+      sweep-passes k (loc n) s = local k n
+      sweep-passes k (con n) s = rw (y .constant k n, x .constant k n)
+      sweep-passes k (var n) s = rw (y .variable k n, x .variable k n)
+
+-- of every term: h leaves every head as it is
+module _
+    (h : ℕ → Term → Term) (x : Passes h) (head : (k : ℕ) (t : Term) → isAbstraction (h k t) ≡ isAbstraction t)
+    (eta : (k : ℕ) (t : Term) → isEta (h (suc k) t) ≡ isEta t)
+    (g : ℕ → Term → Term) (y : Passes g) (local : (k n : ℕ) → sweep (g k (loc n)) ≡ h k (loc n)) where
+  abbrev Every : ℕ → Term → Type 0
+  Every k t = Unit {0}
+
+  sweep-every : (k : ℕ) (t : Term) → sweep (g k t) ≡ h k (sweep t)
+  sweep-every k t =
+      sweep-passes h x Every (λ k t c. head k t) eta (λ k m a c. tt) (λ k m u c. tt) g y local Every (λ k t c. tt) (λ k f a c. (tt, inr tt)) (λ k b c. tt) k t tt
 
 pub sweep-shift : (d c : ℕ) (t : Term) → sweep (shift d c t) ≡ shift d c (sweep t)
-sweep-shift d c t = sweep-passes (shift d) (shift-passes d) (isAbstraction-shift d) (isEta-shift d) (shift d) (shift-passes d) (shift-at sweep (λ n. refl) d) c t
+sweep-shift d c t = sweep-every (shift d) (shift-passes d) (isAbstraction-shift d) (isEta-shift d) (shift d) (shift-passes d) (shift-at sweep (λ n. refl) d) c t
 
 isAbstraction-put : (e : Term) → isAbstraction e ≡ false → (k : ℕ) (t : Term) → isAbstraction (substitute k e t) ≡ isAbstraction t
 isAbstraction-put e r k (app f a) = refl
@@ -181,10 +207,25 @@ isAbstraction-put e r k (loc n) = by-substitute (λ s. isAbstraction s ≡ false
 isAbstraction-put e r k (con n) = refl
 isAbstraction-put e r k (var n) = refl
 
-pub sweep-substitute : (k : ℕ) (e q : Term) → isAbstraction (sweep e) ≡ false → sweep (substitute k e q) ≡ substitute k (sweep e) (sweep q)
-sweep-substitute k e q r =
-    sweep-passes (λ j t. substitute j (sweep e) t) (substitute-passes (sweep e)) (isAbstraction-put (sweep e) r) (λ j t. isEta-substitute j (sweep e) t)
-    (λ j t. substitute j e t) (substitute-passes e) (λ j n. substitute-at sweep (λ i. refl) j e (sweep e) n (sweep-shift j 0 e)) k q
+module _ (e : Term) where
+  abbrev before : ℕ → Term → Term
+  before j t = substitute j e t
+
+  abbrev after : ℕ → Term → Term
+  after j t = substitute j (sweep e) t
+
+  put-local : (j n : ℕ) → sweep (before j (loc n)) ≡ after j (loc n)
+  put-local j n = substitute-at sweep (λ i. refl) j e (sweep e) n (sweep-shift j 0 e)
+
+  pub sweep-substitute : (k : ℕ) (q : Term) → isAbstraction (sweep e) ≡ false → sweep (substitute k e q) ≡ substitute k (sweep e) (sweep q)
+  sweep-substitute k q r =
+      sweep-every after (substitute-passes (sweep e)) (isAbstraction-put (sweep e) r) (λ j t. isEta-substitute j (sweep e) t) before (substitute-passes e) put-local k q
+
+  pub sweep-guarded : (k : ℕ) (q : Term) → Guarded k q → sweep (substitute k e q) ≡ substitute k (sweep e) (sweep q)
+  sweep-guarded k q g =
+      sweep-passes after (substitute-passes (sweep e)) Guarded (guarded-head (sweep e)) (λ j t. isEta-substitute j (sweep e) t) (λ j m a c. c .0)
+      (λ j m u c. guarded-unshift 0 j m (omega arith) u c) before (substitute-passes e) put-local Guarded guarded-sweep
+      (λ j f a c. (c .0, ⊎-elim (λ p. inl (p .0)) inr (c .1))) (λ j b c. c) k q g
 
 shift-zero : (c : ℕ) (t : Term) → shift 0 c t ≡ t
 shift-zero c (app f a) = ap₂ app (shift-zero c f) (shift-zero c a)
@@ -194,8 +235,8 @@ shift-zero c (con n) = refl
 shift-zero c (var n) = refl
 
 -- the redex: the head's swept form is the abstraction over the swept body, or what the abstraction was over, applied to its local
-pub sweep-redex : (q e : Term) → isAbstraction (sweep e) ≡ false → sweep (app (lam q) e) ≡ sweep (substitute 0 e q)
-sweep-redex q e r = go (abstracted (sweep q)) ∙ sym (sweep-substitute 0 e q r)
+pub sweep-redex : (q e : Term) → sweep (substitute 0 e q) ≡ substitute 0 (sweep e) (sweep q) → sweep (app (lam q) e) ≡ sweep (substitute 0 e q)
+sweep-redex q e r = go (abstracted (sweep q)) ∙ sym r
   where
     go : Abstracted (sweep q) → sweep (app (lam q) e) ≡ substitute 0 (sweep e) (sweep q)
     go (out m p u l w) =
@@ -220,10 +261,13 @@ module _ (φ : ℕ → Term) (v : Values φ) where
       fill-passes (λ j t. substitute j e t) (λ j t. substitute j (fill φ e) t) (substitute-passes e) (substitute-passes (fill φ e))
       (λ j n. substitute-at (fill φ) (λ i. refl) j e (fill φ e) n (fill-shift j 0 e)) k q
 
--- the pattern with its redexes contracted where the argument is rigid, bottom-up
+-- the pattern with its redexes contracted where the argument is rigid or the local guarded, bottom-up
+abbrev pub isPassed : Term → Term → Bool
+isPassed a b = rigid a || guarded 0 b
+
 abbrev pub applied : Term → Term → Term
 applied (app f b) a = app (app f b) a
-applied (lam b) a = cond (rigid a) (substitute 0 a b) (app (lam b) a)
+applied (lam b) a = cond (isPassed a b) (substitute 0 a b) (app (lam b) a)
 applied (loc n) a = app (loc n) a
 applied (con n) a = app (con n) a
 applied (var n) a = app (var n) a
@@ -236,11 +280,11 @@ reduct (con n) = con n
 reduct (var n) = var n
 
 -- the two cases of an application
-pub by-applied : (P : Term → Type 0) (f a : Term) → P (app f a) → ((b : Term) → f ≡ lam b → rigid a ≡ true → P (substitute 0 a b)) → P (applied f a)
+pub by-applied : (P : Term → Type 0) (f a : Term) → P (app f a) → ((b : Term) → f ≡ lam b → isPassed a b ≡ true → P (substitute 0 a b)) → P (applied f a)
 by-applied P (app f b) a y z = y
-by-applied P (lam b) a y z = go (rigid a) refl
+by-applied P (lam b) a y z = go (isPassed a b) refl
   where
-    go : (r : Bool) → rigid a ≡ r → P (cond r (substitute 0 a b) (app (lam b) a))
+    go : (r : Bool) → isPassed a b ≡ r → P (cond r (substitute 0 a b) (app (lam b) a))
     go true e = z b refl e
     go false e = y
 by-applied P (loc n) a y z = y
@@ -249,10 +293,15 @@ by-applied P (var n) a y z = y
 
 -- it sweeps to the same, whatever the values
 module _ (φ : ℕ → Term) (v : Values φ) where
+  passed-substitute : (a b : Term) → isPassed a b ≡ true → sweep (substitute 0 (fill φ a) (fill φ b)) ≡ substitute 0 (sweep (fill φ a)) (sweep (fill φ b))
+  passed-substitute a b r =
+      ⊎-elim (λ o. sweep-substitute (fill φ a) 0 (fill φ b) (rigid-sweep φ a o))
+      (λ o. sweep-guarded (fill φ a) 0 (fill φ b) (guarded-fill φ v 0 b (guarded-is 0 b o))) (or-true (rigid a) (guarded 0 b) r)
+
   pub sweep-applied : (f a : Term) → sweep (fill φ (applied f a)) ≡ sweep (fill φ (app f a))
   sweep-applied f a =
       by-applied (λ t. sweep (fill φ t) ≡ sweep (fill φ (app f a))) f a refl
-      (λ b p r. rw (p, fill-substitute φ v 0 a b) (sym (sweep-redex (fill φ b) (fill φ a) (rigid-sweep φ a r))))
+      (λ b p r. rw (p, fill-substitute φ v 0 a b) (sym (sweep-redex (fill φ b) (fill φ a) (passed-substitute a b r))))
 
   pub reduct-sweep : (p : Term) → sweep (fill φ (reduct p)) ≡ sweep (fill φ p)
   reduct-sweep (app f a) = sweep-applied (reduct f) (reduct a) ∙ ap₂ (λ g b. contract (app g b)) (reduct-sweep f) (reduct-sweep a)

@@ -19,6 +19,7 @@ pub mod Choices
 pub mod Alternatives
 pub mod Tables
 pub mod Cases
+pub mod Guards
 pub mod Contraction
 pub mod Repeated
 pub mod Known

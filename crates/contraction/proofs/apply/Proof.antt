@@ -1,5 +1,5 @@
--- `contraction::apply` meets its contract, by the two tests that tell whether a redex is contracted. Assumes nothing.
-use Rattle.contraction.proofs.Reducts.{applies-other, applies-flexible, applies-rigid}
+-- `contraction::apply` meets its contract, by the three tests that tell whether a redex is contracted. Assumes nothing.
+use Rattle.contraction.proofs.Reducts.{redex-tree, applies-other, applies-rigid, applies-guarded, applies-kept}
 use borrow.Author.Needs.{needs}
 use Rattle.contraction.proofs.apply.Statement.{statement}
 use Rattle.contraction.proofs.apply.Tie as tie
@@ -14,7 +14,7 @@ returns : tie.Need-returns
 returns c = applies-other _ _ _ _ _ (c .before .before .if1 .taken) (c .join .ensures)
 
 is-rigid-requires : tie.Need-is-rigid-requires
-is-rigid-requires c κs = c .before .before .before .before .before .pre .argument
+is-rigid-requires c κs = search needs
 
 contract-redex-requires : tie.Need-contract-redex-requires
 contract-redex-requires c κs = (c .before .before .before .before .before .before .before .before .pre .redex (c .before .before .before .if1 .left), c .before .before .before .if1 .left)
@@ -22,11 +22,23 @@ contract-redex-requires c κs = (c .before .before .before .before .before .befo
 returns-2 : tie.Need-returns-2
 returns-2 c = applies-rigid _ _ _ _ _ (c .before .before .before .before .if1 .left) _ (c .before .before .before .is-rigid .ensures) (c .before .before .if2 .taken) (c .contract-redex .ensures)
 
+body-of-requires : tie.Need-body-of-requires
+body-of-requires c κs = (redex-tree _ _ (c .before .before .before .before .before .before .before .pre .redex (c .before .before .if1 .left)), c .before .before .if1 .left)
+
+is-guarded-requires : tie.Need-is-guarded-requires
+is-guarded-requires c κs = search needs
+
+contract-redex-requires-2 : tie.Need-contract-redex-requires-2
+contract-redex-requires-2 c κs = (c .before .before .before .before .before .before .before .before .before .before .before .pre .redex (c .before .before .before .before .before .before .if1 .left), c .before .before .before .before .before .before .if1 .left)
+
+returns-3 : tie.Need-returns-3
+returns-3 c = applies-guarded _ _ _ _ _ (c .before .before .before .before .before .before .before .if1 .left) _ (c .before .before .before .before .before .before .is-rigid .ensures) (c .before .before .before .before .before .if2 .left) _ (c .before .before .before .before .body-of .ensures .1) _ (c .before .before .before .is-guarded .ensures) (c .before .before .if3 .taken) (c .contract-redex2 .ensures)
+
 join-requires-2 : tie.Need-join-requires-2
 join-requires-2 c κs = search needs
 
-returns-3 : tie.Need-returns-3
-returns-3 c = applies-flexible _ _ _ _ _ (c .before .before .before .before .if1 .left) _ (c .before .before .before .is-rigid .ensures) (c .before .before .if2 .left) (c .join2 .ensures)
+returns-4 : tie.Need-returns-4
+returns-4 c = applies-kept _ _ _ _ _ (c .before .before .before .before .before .before .before .if1 .left) _ (c .before .before .before .before .before .before .is-rigid .ensures) (c .before .before .before .before .before .if2 .left) _ (c .before .before .before .before .body-of .ensures .1) _ (c .before .before .before .is-guarded .ensures) (c .before .before .if3 .left) (c .join2 .ensures)
 
 pub apply-spec : {M : Type 1} → statement M
 apply-spec =
@@ -38,5 +50,9 @@ apply-spec =
     is-rigid-requires
     contract-redex-requires
     returns-2
+    body-of-requires
+    is-guarded-requires
+    contract-redex-requires-2
+    returns-3
     join-requires-2
-    returns-3)
+    returns-4)

@@ -1,0 +1,321 @@
+-- `contraction::guards::is_guarded` meets its contract. Each way out is one case of the definition, told from a table; the measure is the
+-- table's length. Assumes nothing.
+use lib.ListN.{length}
+use native.Mathlib.Omega.{arith}
+use borrow.Author.Tests.{not-true, not-false}
+use borrow.Author.Needs.{needs}
+use Rattle.contraction.proofs.Arguments.{guarded-leaf, guarded-body, guarded-stop, guarded-constant, guarded-argument}
+use Prim.Native.Nat.{ℕ, _<_}
+use borrow.Fn.Kinds.{In}
+use borrow.Fn.PlainCycle.{Measures, is, falls, and}
+use Rattle.contraction.proofs.guards.is_guarded.Reads as is-guarded
+use Rattle.contraction.proofs.guards.is_guarded.Kinds as is-guarded-kinds
+use Rattle.contraction.proofs.guards.+is_guarded.Lts-is_guarded as is-guarded-lts
+use Rattle.contraction.proofs.guards.has_constant_head.Reads as has-constant-head-reads
+use Rattle.contraction.proofs.guards.is_local.Reads as is-local-reads
+use Rattle.records.proofs.argument_of.Reads as argument-of-reads
+use Rattle.records.proofs.body_of.Reads as body-of-reads
+use Rattle.records.proofs.head_of.Reads as head-of-reads
+use Rattle.contraction.proofs.guards.+is_guarded.{statement}
+use Rattle.contraction.proofs.guards.+is_guarded.Tie.{close}
+
+abbrev μ-is-guarded : Measures 1 is-guarded-kinds.ps ℕ
+μ-is-guarded κs a = length (a .0 .now)
+
+abbrev is-guarded-at : ℕ → In 1 is-guarded-kinds.ps
+is-guarded-at t =
+    and 1 is-guarded-kinds.ps (is 1 is-guarded-kinds.ps μ-is-guarded t) is-guarded.Pre
+
+abbrev is-guarded-below : ℕ → In 1 is-guarded-kinds.ps
+is-guarded-below t =
+    and 1 is-guarded-kinds.ps (falls 1 is-guarded-kinds.ps _<_ μ-is-guarded t) is-guarded.Pre
+
+is-guarded-shared-slice-read-kind : (t : ℕ) → is-guarded-lts.Need-shared-slice-read-kind (
+  head-of-reads.Asked,
+  head-of-reads.Learnt,
+  is-guarded-below t,
+  is-guarded.Post,
+  argument-of-reads.Asked,
+  argument-of-reads.Learnt,
+  is-local-reads.Asked,
+  is-local-reads.Learnt,
+  has-constant-head-reads.Asked,
+  has-constant-head-reads.Learnt,
+  body-of-reads.Asked,
+  body-of-reads.Learnt,
+) (is-guarded-at t) is-guarded.Post
+is-guarded-shared-slice-read-kind t c = search needs
+
+is-guarded-head-of-requires : (t : ℕ) → is-guarded-lts.Need-head-of-requires (
+  head-of-reads.Asked,
+  head-of-reads.Learnt,
+  is-guarded-below t,
+  is-guarded.Post,
+  argument-of-reads.Asked,
+  argument-of-reads.Learnt,
+  is-local-reads.Asked,
+  is-local-reads.Learnt,
+  has-constant-head-reads.Asked,
+  has-constant-head-reads.Learnt,
+  body-of-reads.Asked,
+  body-of-reads.Learnt,
+) (is-guarded-at t) is-guarded.Post
+is-guarded-head-of-requires t c κs = (c .before .before .before .before .pre .1 .0, c .if1 .taken)
+
+is-guarded-is-guarded-requires : (t : ℕ) → is-guarded-lts.Need-is-guarded-requires (
+  head-of-reads.Asked,
+  head-of-reads.Learnt,
+  is-guarded-below t,
+  is-guarded.Post,
+  argument-of-reads.Asked,
+  argument-of-reads.Learnt,
+  is-local-reads.Asked,
+  is-local-reads.Learnt,
+  has-constant-head-reads.Asked,
+  has-constant-head-reads.Learnt,
+  body-of-reads.Asked,
+  body-of-reads.Learnt,
+) (is-guarded-at t) is-guarded.Post
+is-guarded-is-guarded-requires t c κs = (omega (arith, c .head-of .ensures .0 .shorter), (c .head-of .ensures .0 .tree, omega (arith, c .head-of .ensures .0 .shorter, c .before .before .before .before .before .pre .1 .1)))
+
+is-guarded-returns : (t : ℕ) → is-guarded-lts.Need-returns (
+  head-of-reads.Asked,
+  head-of-reads.Learnt,
+  is-guarded-below t,
+  is-guarded.Post,
+  argument-of-reads.Asked,
+  argument-of-reads.Learnt,
+  is-local-reads.Asked,
+  is-local-reads.Learnt,
+  has-constant-head-reads.Asked,
+  has-constant-head-reads.Learnt,
+  body-of-reads.Asked,
+  body-of-reads.Learnt,
+) (is-guarded-at t) is-guarded.Post
+is-guarded-returns t c = guarded-stop _ _ (c .before .before .before .if1 .taken) _ (c .before .before .head-of .ensures .1) _ (c .before .is-guarded .ensures) (not-true _ (c .if2 .taken))
+
+is-guarded-argument-of-requires : (t : ℕ) → is-guarded-lts.Need-argument-of-requires (
+  head-of-reads.Asked,
+  head-of-reads.Learnt,
+  is-guarded-below t,
+  is-guarded.Post,
+  argument-of-reads.Asked,
+  argument-of-reads.Learnt,
+  is-local-reads.Asked,
+  is-local-reads.Learnt,
+  has-constant-head-reads.Asked,
+  has-constant-head-reads.Learnt,
+  body-of-reads.Asked,
+  body-of-reads.Learnt,
+) (is-guarded-at t) is-guarded.Post
+is-guarded-argument-of-requires t c κs = (c .before .before .before .before .before .before .before .pre .1 .0, c .before .before .before .if1 .taken)
+
+is-guarded-is-local-requires : (t : ℕ) → is-guarded-lts.Need-is-local-requires (
+  head-of-reads.Asked,
+  head-of-reads.Learnt,
+  is-guarded-below t,
+  is-guarded.Post,
+  argument-of-reads.Asked,
+  argument-of-reads.Learnt,
+  is-local-reads.Asked,
+  is-local-reads.Learnt,
+  has-constant-head-reads.Asked,
+  has-constant-head-reads.Learnt,
+  body-of-reads.Asked,
+  body-of-reads.Learnt,
+) (is-guarded-at t) is-guarded.Post
+is-guarded-is-local-requires t c κs = c .argument-of .ensures .0 .tree
+
+is-guarded-has-constant-head-requires : (t : ℕ) → is-guarded-lts.Need-has-constant-head-requires (
+  head-of-reads.Asked,
+  head-of-reads.Learnt,
+  is-guarded-below t,
+  is-guarded.Post,
+  argument-of-reads.Asked,
+  argument-of-reads.Learnt,
+  is-local-reads.Asked,
+  is-local-reads.Learnt,
+  has-constant-head-reads.Asked,
+  has-constant-head-reads.Learnt,
+  body-of-reads.Asked,
+  body-of-reads.Learnt,
+) (is-guarded-at t) is-guarded.Post
+is-guarded-has-constant-head-requires t c κs = c .before .before .before .before .before .head-of .ensures .0 .tree
+
+is-guarded-returns-2 : (t : ℕ) → is-guarded-lts.Need-returns-2 (
+  head-of-reads.Asked,
+  head-of-reads.Learnt,
+  is-guarded-below t,
+  is-guarded.Post,
+  argument-of-reads.Asked,
+  argument-of-reads.Learnt,
+  is-local-reads.Asked,
+  is-local-reads.Learnt,
+  has-constant-head-reads.Asked,
+  has-constant-head-reads.Learnt,
+  body-of-reads.Asked,
+  body-of-reads.Learnt,
+) (is-guarded-at t) is-guarded.Post
+is-guarded-returns-2 t c = guarded-constant _ _ (c .before .before .before .before .before .before .before .if1 .taken) _ (c .before .before .before .before .before .before .head-of .ensures .1) _ (c .before .before .before .before .before .is-guarded .ensures) (not-false _ (c .before .before .before .before .if2 .left)) _ (c .before .before .before .argument-of .ensures .1) _ (c .before .before .is-local .ensures) (c .before .if3 .taken) _ (c .has-constant-head .ensures)
+
+is-guarded-is-guarded-requires-2 : (t : ℕ) → is-guarded-lts.Need-is-guarded-requires-2 (
+  head-of-reads.Asked,
+  head-of-reads.Learnt,
+  is-guarded-below t,
+  is-guarded.Post,
+  argument-of-reads.Asked,
+  argument-of-reads.Learnt,
+  is-local-reads.Asked,
+  is-local-reads.Learnt,
+  has-constant-head-reads.Asked,
+  has-constant-head-reads.Learnt,
+  body-of-reads.Asked,
+  body-of-reads.Learnt,
+) (is-guarded-at t) is-guarded.Post
+is-guarded-is-guarded-requires-2 t c κs = (omega (arith, c .before .before .argument-of .ensures .0 .shorter), (c .before .before .argument-of .ensures .0 .tree, omega (arith, c .before .before .argument-of .ensures .0 .shorter, c .before .before .before .before .before .before .before .before .before .before .pre .1 .1)))
+
+is-guarded-returns-3 : (t : ℕ) → is-guarded-lts.Need-returns-3 (
+  head-of-reads.Asked,
+  head-of-reads.Learnt,
+  is-guarded-below t,
+  is-guarded.Post,
+  argument-of-reads.Asked,
+  argument-of-reads.Learnt,
+  is-local-reads.Asked,
+  is-local-reads.Learnt,
+  has-constant-head-reads.Asked,
+  has-constant-head-reads.Learnt,
+  body-of-reads.Asked,
+  body-of-reads.Learnt,
+) (is-guarded-at t) is-guarded.Post
+is-guarded-returns-3 t c = guarded-argument _ _ (c .before .before .before .before .before .before .before .if1 .taken) _ (c .before .before .before .before .before .before .head-of .ensures .1) _ (c .before .before .before .before .before .is-guarded .ensures) (not-false _ (c .before .before .before .before .if2 .left)) _ (c .before .before .before .argument-of .ensures .1) _ (c .before .before .is-local .ensures) (c .before .if3 .left) _ (c .is-guarded2 .ensures)
+
+is-guarded-body-of-requires : (t : ℕ) → is-guarded-lts.Need-body-of-requires (
+  head-of-reads.Asked,
+  head-of-reads.Learnt,
+  is-guarded-below t,
+  is-guarded.Post,
+  argument-of-reads.Asked,
+  argument-of-reads.Learnt,
+  is-local-reads.Asked,
+  is-local-reads.Learnt,
+  has-constant-head-reads.Asked,
+  has-constant-head-reads.Learnt,
+  body-of-reads.Asked,
+  body-of-reads.Learnt,
+) (is-guarded-at t) is-guarded.Post
+is-guarded-body-of-requires t c κs = (c .before .before .before .before .before .before .pre .1 .0, c .if4 .taken)
+
+is-guarded-add-is-guarded : (t : ℕ) → is-guarded-lts.Need-add-is-guarded (
+  head-of-reads.Asked,
+  head-of-reads.Learnt,
+  is-guarded-below t,
+  is-guarded.Post,
+  argument-of-reads.Asked,
+  argument-of-reads.Learnt,
+  is-local-reads.Asked,
+  is-local-reads.Learnt,
+  has-constant-head-reads.Asked,
+  has-constant-head-reads.Learnt,
+  body-of-reads.Asked,
+  body-of-reads.Learnt,
+) (is-guarded-at t) is-guarded.Post
+is-guarded-add-is-guarded t c = omega (arith, c .before .before .before .before .before .before .before .pre .1 .0 .least, c .before .before .before .before .before .before .before .pre .1 .1)
+
+is-guarded-is-guarded-requires-3 : (t : ℕ) → is-guarded-lts.Need-is-guarded-requires-3 (
+  head-of-reads.Asked,
+  head-of-reads.Learnt,
+  is-guarded-below t,
+  is-guarded.Post,
+  argument-of-reads.Asked,
+  argument-of-reads.Learnt,
+  is-local-reads.Asked,
+  is-local-reads.Learnt,
+  has-constant-head-reads.Asked,
+  has-constant-head-reads.Learnt,
+  body-of-reads.Asked,
+  body-of-reads.Learnt,
+) (is-guarded-at t) is-guarded.Post
+is-guarded-is-guarded-requires-3 t c κs = (omega (arith, c .body-of .ensures .0 .shorter), (c .body-of .ensures .0 .tree, omega (arith, c .body-of .ensures .0 .shorter, c .before .before .before .before .before .before .before .pre .1 .1)))
+
+is-guarded-returns-4 : (t : ℕ) → is-guarded-lts.Need-returns-4 (
+  head-of-reads.Asked,
+  head-of-reads.Learnt,
+  is-guarded-below t,
+  is-guarded.Post,
+  argument-of-reads.Asked,
+  argument-of-reads.Learnt,
+  is-local-reads.Asked,
+  is-local-reads.Learnt,
+  has-constant-head-reads.Asked,
+  has-constant-head-reads.Learnt,
+  body-of-reads.Asked,
+  body-of-reads.Learnt,
+) (is-guarded-at t) is-guarded.Post
+is-guarded-returns-4 t c = guarded-body _ _ (c .before .before .if4 .taken) _ (c .before .body-of .ensures .1) _ (c .is-guarded3 .ensures)
+
+is-guarded-is-local-requires-2 : (t : ℕ) → is-guarded-lts.Need-is-local-requires-2 (
+  head-of-reads.Asked,
+  head-of-reads.Learnt,
+  is-guarded-below t,
+  is-guarded.Post,
+  argument-of-reads.Asked,
+  argument-of-reads.Learnt,
+  is-local-reads.Asked,
+  is-local-reads.Learnt,
+  has-constant-head-reads.Asked,
+  has-constant-head-reads.Learnt,
+  body-of-reads.Asked,
+  body-of-reads.Learnt,
+) (is-guarded-at t) is-guarded.Post
+is-guarded-is-local-requires-2 t c κs = c .before .before .before .before .before .before .pre .1 .0
+
+is-guarded-returns-5 : (t : ℕ) → is-guarded-lts.Need-returns-5 (
+  head-of-reads.Asked,
+  head-of-reads.Learnt,
+  is-guarded-below t,
+  is-guarded.Post,
+  argument-of-reads.Asked,
+  argument-of-reads.Learnt,
+  is-local-reads.Asked,
+  is-local-reads.Learnt,
+  has-constant-head-reads.Asked,
+  has-constant-head-reads.Learnt,
+  body-of-reads.Asked,
+  body-of-reads.Learnt,
+) (is-guarded-at t) is-guarded.Post
+is-guarded-returns-5 t c = guarded-leaf _ _ (c .before .before .before .if1 .left) (c .before .if4 .left) _ (c .is-local2 .ensures)
+
+pub +is-guarded-spec : {M : Type 1} → statement M
++is-guarded-spec = close μ-is-guarded λ t. is-guarded-lts.spec (
+  head-of-reads.Asked,
+  head-of-reads.Learnt,
+  is-guarded-below t,
+  is-guarded.Post,
+  argument-of-reads.Asked,
+  argument-of-reads.Learnt,
+  is-local-reads.Asked,
+  is-local-reads.Learnt,
+  has-constant-head-reads.Asked,
+  has-constant-head-reads.Learnt,
+  body-of-reads.Asked,
+  body-of-reads.Learnt,
+)
+    (is-guarded-at t)
+    is-guarded.Post
+    (is-guarded-shared-slice-read-kind t)
+    (is-guarded-head-of-requires t)
+    (is-guarded-is-guarded-requires t)
+    (is-guarded-returns t)
+    (is-guarded-argument-of-requires t)
+    (is-guarded-is-local-requires t)
+    (is-guarded-has-constant-head-requires t)
+    (is-guarded-returns-2 t)
+    (is-guarded-is-guarded-requires-2 t)
+    (is-guarded-returns-3 t)
+    (is-guarded-body-of-requires t)
+    (is-guarded-add-is-guarded t)
+    (is-guarded-is-guarded-requires-3 t)
+    (is-guarded-returns-4 t)
+    (is-guarded-is-local-requires-2 t)
+    (is-guarded-returns-5 t)
