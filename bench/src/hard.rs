@@ -79,7 +79,9 @@ fn cases_of(n: usize) -> Vec<Case> {
     // A copy of `\ k1` takes three records of the recipe, so no more than 31 have room.
     let most = n.min(31);
     let recipe = spine("k2", &[r"\ k1"], most);
-    cases.push(Case { pattern: r"@ \ @ p0 @ k3 #0 \ k1", copies: most, known: line(&format!(r"\ {recipe}")), recipe });
+    for pattern in [r"@ \ @ p0 @ k3 #0 \ k1", r"@ \ @ p0 @ #0 k3 \ k1"] {
+        cases.push(Case { pattern, copies: most, known: line(&format!(r"\ {recipe}")), recipe: recipe.clone() });
+    }
     cases
 }
 

@@ -154,13 +154,13 @@ module _ (k : ℕ) (P W : List ℕ) (s : Agenda) (a : List Entry) where
 
     pub choices-next :
         (gs hs : List Goal) (l : Line) (n : ℕ) → Copies n hs → (φ : ℕ → Term)
-        → Choices c j gs hs l φ ↔ (Choices (set c j 0) (j + 1) gs hs l φ ⊎ Choices (set c j 1) (j + 1) gs hs l φ)
+        → Choices c j gs hs l φ ↔ (Choices (set c j 1) (j + 1) gs hs l φ ⊎ Choices (set c j 0) (j + 1) gs hs l φ)
     choices-next gs [] l n w φ = absurd w
     choices-next gs (match p t ∷ hs) l n w φ = absurd w
     choices-next gs (build f t e ∷ hs) l n w φ =
         let r = chosen-next φ f t e (chosenIn c) (chosenIn (set c j 0)) (chosenIn (set c j 1)) j (same-below 0) (same-below 1) kept-here replaced-here in (
-          λ q. ⊎-elim (λ u. inl (q .0, (more (set c j 0) u, q .1 .1), q .2)) (λ u. inr (q .0, (more (set c j 1) u, q .1 .1), q .2)) (r .0 (q .1 .0)),
-          ⊎-elim (λ q. (q .0, (r .1 (inl (less (set c j 0) (q .1 .0))), q .1 .1), q .2)) (λ q. (q .0, (r .1 (inr (less (set c j 1) (q .1 .0))), q .1 .1), q .2)),
+          λ q. ⊎-elim (λ u. inr (q .0, (more (set c j 0) u, q .1 .1), q .2)) (λ u. inl (q .0, (more (set c j 1) u, q .1 .1), q .2)) (r .0 (q .1 .0)),
+          ⊎-elim (λ q. (q .0, (r .1 (inr (less (set c j 1) (q .1 .0))), q .1 .1), q .2)) (λ q. (q .0, (r .1 (inl (less (set c j 0) (q .1 .0))), q .1 .1), q .2)),
         )
       where
         more : (d : List ℕ) → Bodies.Chosen f t e (chosenIn d) (suc j) φ → Bodies.Chosen f t e (chosenIn d) (j + 1) φ
@@ -171,10 +171,10 @@ module _ (k : ℕ) (P W : List ℕ) (s : Agenda) (a : List Entry) where
 
     pub choices-apart :
         (gs hs : List Goal) (l : Line) (n : ℕ) → Copies n hs → j < n → (φ : ℕ → Term)
-        → Choices (set c j 0) (j + 1) gs hs l φ → Choices (set c j 1) (j + 1) gs hs l φ → ⊥
-    choices-apart gs [] l n w g φ p q = absurd w
-    choices-apart gs (match u t ∷ hs) l n w g φ p q = absurd w
-    choices-apart gs (build f t e ∷ hs) l n w g φ p q =
+        → Choices (set c j 1) (j + 1) gs hs l φ → Choices (set c j 0) (j + 1) gs hs l φ → ⊥
+    choices-apart gs [] l n w g φ q p = absurd w
+    choices-apart gs (match u t ∷ hs) l n w g φ q p = absurd w
+    choices-apart gs (build f t e ∷ hs) l n w g φ q p =
         chosen-apart φ f t e (chosenIn c) (chosenIn (set c j 0)) (chosenIn (set c j 1)) j (same-below 0) (same-below 1) kept-here replaced-here (omega arith)
         (subst (λ z. Bodies.Chosen f t e (chosenIn (set c j 0)) z φ) (omega arith) (p .1 .0))
         (subst (λ z. Bodies.Chosen f t e (chosenIn (set c j 1)) z φ) (omega arith) (q .1 .0))

@@ -275,45 +275,45 @@ module _ (P W : List ℕ) (s : Agenda) (a : List Entry) (limit : ℕ) (L X : Lis
     inside : j < length c
     inside = omega (arith, z .most, z .sized)
 
-    module _ (W₁ L₁ X₁ : List ℕ) (r : Tally) (y : Searched relinking (Choices (set c j 0) (j + 1)) P W s a limit L X done W₁ L₁ X₁ r) where
+    module _ (W₁ L₁ X₁ : List ℕ) (r : Tally) (y : Searched relinking (Choices (set c j 1) (j + 1)) P W s a limit L X done W₁ L₁ X₁ r) where
       pub searched-stop : limit < r .lines → Searched relinking (Choices c j) P W s a limit L X done W₁ L₁ X₁ r
       searched-stop g = record {
         kept = y .kept;
         upto = y .upto;
         records = y .records;
         answer = λ gs hs l x.
-            tallied-same P limit (Choices c j gs hs l) (λ φ. Choices (set c j 0) (j + 1) gs hs l φ ⊎ Choices (set c j 1) (j + 1) gs hs l φ) (outcome L X done) (outcome L₁ X₁ r)
+            tallied-same P limit (Choices c j gs hs l) (λ φ. Choices (set c j 1) (j + 1) gs hs l φ ⊎ Choices (set c j 0) (j + 1) gs hs l φ) (outcome L X done) (outcome L₁ X₁ r)
             (λ φ v. choices-next relinking P W s a c j inside gs hs l n (z .are gs hs l x) φ)
-            (tallied-stop P limit (Choices (set c j 0) (j + 1) gs hs l) (Choices (set c j 1) (j + 1) gs hs l) (outcome L X done) (outcome L₁ X₁ r)
+            (tallied-stop P limit (Choices (set c j 1) (j + 1) gs hs l) (Choices (set c j 0) (j + 1) gs hs l) (outcome L X done) (outcome L₁ X₁ r)
             (λ φ v. choices-apart relinking P W s a c j inside gs hs l n (z .are gs hs l x) h φ) g (y .answer gs hs l x)
-            (choices-listing relinking P W s a gs hs l (j + 1) (set c j 1) x));
+            (choices-listing relinking P W s a gs hs l (j + 1) (set c j 0) x));
       }
 
       module _ (b : Begins relinking P W s a limit L X done) (e : length W₁ ≡ length W) (g : r .lines ≤ limit) where
         back : Kept W W₁ (s .top)
         back = let y₁ = b .ready .bounds in record { same = y .kept; from = omega (arith, y₁ .whole, y₁ .top); to = omega (arith, y₁ .whole, y₁ .top) }
 
-        pub choosing-next : Choosing P W₁ s a (set c j 1) (j + 1) n
+        pub choosing-next : Choosing P W₁ s a (set c j 0) (j + 1) n
         choosing-next = record {
           upto = omega arith;
           most = z .most;
-          sized = length-set c j 1 ∙ z .sized;
+          sized = length-set c j 0 ∙ z .sized;
           are = λ gs hs l x.
               let y₁ = b .ready .bounds in
               z .are gs hs l (state-kept relinking P W₁ W s a gs hs l (record { same = sym (y .kept); from = omega (arith, y₁ .whole, y₁ .top); to = omega (arith, y₁ .whole, y₁ .top) }) x);
         }
 
         pub searched-both :
-            (W₂ L₂ X₂ : List ℕ) (r₂ : Tally) → Searched relinking (Choices (set c j 1) (j + 1)) P W₁ s a limit L₁ X₁ r W₂ L₂ X₂ r₂
+            (W₂ L₂ X₂ : List ℕ) (r₂ : Tally) → Searched relinking (Choices (set c j 0) (j + 1)) P W₁ s a limit L₁ X₁ r W₂ L₂ X₂ r₂
             → Searched relinking (Choices c j) P W s a limit L X done W₂ L₂ X₂ r₂
         searched-both W₂ L₂ X₂ r₂ u = record {
           kept = u .kept ∙ y .kept;
           upto = u .upto;
           records = u .records;
           answer = λ gs hs l x.
-              tallied-same P limit (Choices c j gs hs l) (λ φ. Choices (set c j 0) (j + 1) gs hs l φ ⊎ Choices (set c j 1) (j + 1) gs hs l φ) (outcome L X done) (outcome L₂ X₂ r₂)
+              tallied-same P limit (Choices c j gs hs l) (λ φ. Choices (set c j 1) (j + 1) gs hs l φ ⊎ Choices (set c j 0) (j + 1) gs hs l φ) (outcome L X done) (outcome L₂ X₂ r₂)
               (λ φ v. choices-next relinking P W s a c j inside gs hs l n (z .are gs hs l x) φ)
-              (tallied-or P limit (Choices (set c j 0) (j + 1) gs hs l) (Choices (set c j 1) (j + 1) gs hs l) (outcome L X done) (outcome L₁ X₁ r) (outcome L₂ X₂ r₂)
+              (tallied-or P limit (Choices (set c j 1) (j + 1) gs hs l) (Choices (set c j 0) (j + 1) gs hs l) (outcome L X done) (outcome L₁ X₁ r) (outcome L₂ X₂ r₂)
               (λ φ v. choices-apart relinking P W s a c j inside gs hs l n (z .are gs hs l x) h φ) g (y .answer gs hs l x)
               (u .answer gs hs l (state-kept relinking P W W₁ s a gs hs l back x)));
         }

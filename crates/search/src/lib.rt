@@ -134,7 +134,7 @@ fn attempt_body(
     search(p, work, next, a, limit, lines, values, done)
 }
 
-// All bodies with the choices made for the first k copies of the argument, of n: at the next one it stays, and then it is replaced.
+// All bodies with the choices made for the first k copies of the argument, of n: the next one is replaced, and then it stays.
 fn bodies(
     p: &[u8],
     work: &mut [u8],
@@ -154,15 +154,9 @@ fn bodies(
     if n <= k {
         return attempt_body(p, work, s, a, chosen, limit, lines, values, done);
     }
-    let mut kept = chosen;
-    kept[k] = 0;
-    let found = bodies(p, work, s, a, kept, k + 1, n, limit, lines, values, done);
-    if limit < found.lines {
-        return found;
-    }
     let mut replaced = chosen;
     replaced[k] = 1;
-    bodies(
+    let found = bodies(
         p,
         work,
         s,
@@ -173,8 +167,14 @@ fn bodies(
         limit,
         lines,
         values,
-        found,
-    )
+        done,
+    );
+    if limit < found.lines {
+        return found;
+    }
+    let mut kept = chosen;
+    kept[k] = 0;
+    bodies(p, work, s, a, kept, k + 1, n, limit, lines, values, found)
 }
 
 // The first goal put off is one to build.

@@ -501,13 +501,13 @@ bodies-returns : (t : ℕ) → bodies-lts.Need-returns (
 ) (bodies-at t) bodies.Post
 bodies-returns t c = searched-last _ _ _ _ _ _ _ _ _ _ _ (c .before .before .before .before .before .before .before .before .before .before .before .before .before .before .before .pre .1 .2) _ _ _ _ (c .before .before .before .before .before .before .before .before .before .before .if1 .taken) (c .before .before .before .before .before .before .attempt-body .ensures)
 
-bodies-array-write-kept : (t : ℕ) → bodies-lts.Need-array-write-kept (
+bodies-array-write-replaced : (t : ℕ) → bodies-lts.Need-array-write-replaced (
   attempt-body-below t,
   attempt-body.Post,
   bodies-below t,
   bodies.Post,
 ) (bodies-at t) bodies.Post
-bodies-array-write-kept t c = search needs
+bodies-array-write-replaced t c = search needs
 
 bodies-add-bodies : (t : ℕ) → bodies-lts.Need-add-bodies (
   attempt-body-below t,
@@ -523,7 +523,7 @@ bodies-bodies-requires : (t : ℕ) → bodies-lts.Need-bodies-requires (
   bodies-below t,
   bodies.Post,
 ) (bodies-at t) bodies.Post
-bodies-bodies-requires t c κs = (omega arith, (c .before .before .before .before .before .before .before .before .pre .1 .0, c .before .before .before .before .before .before .before .before .pre .1 .1, let z = c .before .before .before .before .before .before .before .before .pre .1 .2 in record { upto = omega arith; most = z .most; sized = length-set (c .before .before .before .before .before .before .before .before .args .chosen) (c .before .before .before .before .before .before .before .before .args .k) 0 ∙ z .sized; are = z .are }))
+bodies-bodies-requires t c κs = (omega arith, (c .before .before .before .before .before .before .before .before .pre .1 .0, c .before .before .before .before .before .before .before .before .pre .1 .1, let z = c .before .before .before .before .before .before .before .before .pre .1 .2 in record { upto = omega arith; most = z .most; sized = length-set (c .before .before .before .before .before .before .before .before .args .chosen) (c .before .before .before .before .before .before .before .before .args .k) 1 ∙ z .sized; are = z .are }))
 
 bodies-same-length-4 : (t : ℕ) → bodies-lts.Need-same-length-4 (
   attempt-body-below t,
@@ -557,13 +557,13 @@ bodies-returns-2 : (t : ℕ) → bodies-lts.Need-returns-2 (
 ) (bodies-at t) bodies.Post
 bodies-returns-2 t c = searched-stop _ _ _ _ _ _ _ _ _ _ _ (c .before .before .before .before .before .before .before .before .before .before .before .before .before .before .before .before .before .pre .1 .2) (c .before .before .before .before .before .before .before .before .before .before .before .before .if1 .left) _ _ _ _ (c .before .before .before .before .before .before .before .before .bodies .ensures) (c .if2 .taken)
 
-bodies-array-write-replaced : (t : ℕ) → bodies-lts.Need-array-write-replaced (
+bodies-array-write-kept : (t : ℕ) → bodies-lts.Need-array-write-kept (
   attempt-body-below t,
   attempt-body.Post,
   bodies-below t,
   bodies.Post,
 ) (bodies-at t) bodies.Post
-bodies-array-write-replaced t c = search needs
+bodies-array-write-kept t c = search needs
 
 bodies-add-bodies-2 : (t : ℕ) → bodies-lts.Need-add-bodies-2 (
   attempt-body-below t,
@@ -1578,14 +1578,14 @@ pub +advance+attempt+attempt-body+bodies+branch+build+cheapest+flexible+postpone
     (bodies-same-length-2 t)
     (bodies-same-length-3 t)
     (bodies-returns t)
-    (bodies-array-write-kept t)
+    (bodies-array-write-replaced t)
     (bodies-add-bodies t)
     (bodies-bodies-requires t)
     (bodies-same-length-4 t)
     (bodies-same-length-5 t)
     (bodies-same-length-6 t)
     (bodies-returns-2 t)
-    (bodies-array-write-replaced t)
+    (bodies-array-write-kept t)
     (bodies-add-bodies-2 t)
     (bodies-bodies-requires-2 t)
     (bodies-same-length-7 t)
