@@ -1,6 +1,6 @@
 -- Whether a local is guarded, told from a table: an application by its head and its argument, an abstraction by its body, any other term by
 -- its one record. By the term's kind, which its first record shows. Assumes nothing.
-use mathlib.Core.Path.{_≡_, refl, sym, ap, _∙_, subst}
+use mathlib.Core.Path.{_≡_, refl, sym, ap, _∙_}
 use mathlib.Core.Bool.{Bool, true, false, not}
 use mathlib.Core.List.{List}
 use Prim.Native.Nat.{ℕ, suc, _+_}

@@ -7,7 +7,7 @@
 use mathlib.Core.Path.{_≡_, refl, sym, ap, _∙_, subst}
 use mathlib.Core.Bool.{Bool, true, false, not, cond, _&&_}
 use mathlib.Core.Logic.{_⊎_, inl, inr, ⊎-elim}
-use Prim.Native.Nat.{ℕ, suc, _+_, _-_, _≤_, _<_}
+use Prim.Native.Nat.{ℕ, suc, _+_, _-_, _≤_}
 use native.Mathlib.Omega.{arith}
 use lib.Dec.{T, eqb}
 use borrow.Author.Tests.{eqb-true, eqb-false, le-ltb}
@@ -15,7 +15,7 @@ use Rattle.terms.specs.Term.{Term, app, lam, loc, con, var, Closed, shift, unsh
 use Rattle.terms.specs.Sweep.{contract, sweep, fill}
 use Rattle.terms.proofs.Tests.{by-ltb, or-false}
 use Rattle.terms.proofs.Substitute.{by-substitute, substitute-high}
-use Rattle.terms.proofs.Sweep.{contract-app, sweep-normal}
+use Rattle.terms.proofs.Sweep.{contract-app}
 use Rattle.terms.proofs.Contracted.{Abstracted, Abstracted.out, Abstracted.kept, abstracted}
 use Rattle.matching.proofs.Lines.{Values}
 

@@ -1,6 +1,6 @@
 -- A skeleton applied to a term: an abstraction that fits the skeleton comes, with the term put in, to what fits the applied skeleton. By the
 -- law of fitting for applications, as every term fits itself. Assumes nothing.
-use mathlib.Core.Path.{_≡_, refl, sym, ap, subst}
+use mathlib.Core.Path.{_≡_, sym, ap, subst}
 use mathlib.Core.Bool.{Bool, true, false}
 use mathlib.Core.List.{List}
 use Prim.Native.Nat.{ℕ, _-_, _*_, _≤_}
