@@ -37,7 +37,7 @@ static void *list(void *unused) {
 
 static void *sweep(void *unused) {
     (void)unused;
-    onestep_sweep(first, first_length, lines, 32, values, 0, second, sizeof second, work, TABLE);
+    onestep_sweep(first, first_length, lines, ONESTEP_LINE, values, 0, second, sizeof second, work, TABLE);
     return NULL;
 }
 

@@ -14,13 +14,15 @@ use Rattle.terms.specs.Term.{Term, app, lam, loc, con, var, size, shift}
 use Rattle.terms.specs.Table.{bytes, encode}
 use Rattle.terms.proofs.Shift.{size-shift}
 use Rattle.terms.proofs.Table.{encode-length}
-use Rattle.matching.proofs.Bodies.{copies, choose, body, Leaf, copies-here, body-here, copies-app, body-app, copies-lam, body-lam, copies-leaf, body-leaf}
+use Rattle.matching.proofs.Bodies.{copies, choose, body, Leaf, copies-here, body-here, copies-app, body-app, copies-lam, body-lam}
+use Rattle.matching.proofs.Bodies.{copies-leaf, body-leaf}
 use Rattle.records.specs.declared.Walk.{Walk}
 use Rattle.records.specs.declared.Walk.the-variants.{Upto, No}
 use Rattle.records.specs.Parts.{Part, Whole}
-use Rattle.records.proofs.Parts.{size-some, whole, kind-at, application, abstraction, argument-part, whole-head, whole-body, whole-argument, ends-app, ends-lam, ends-leaf}
+use Rattle.records.proofs.Parts.{size-some, whole, kind-at, application, abstraction, argument-part, whole-head, whole-body, whole-argument}
+use Rattle.records.proofs.Parts.{ends-app, ends-lam, ends-leaf}
 use Rattle.sweeping.specs.Writers.{Fits, Wrote}
-use Rattle.sweeping.proofs.Stores.{written-then}
+use Rattle.copying.proofs.Stores.{written-then}
 use Rattle.abstractions.specs.Tests.{Compares, Shifted, Compared}
 use Rattle.abstractions.specs.Bodies.{chosenIn, Counting, Counts, Choosing, Chose, Body}
 use Rattle.abstractions.proofs.Tests.{compared-ends, compared-yes, compared-no}
@@ -53,7 +55,8 @@ module _ (l : List ℕ) (at d e : ℕ) where
     exact = λ t y u v. sym (copies-here y d t (compared-yes l at e (Shifted d 0) w x t y u v h i));
   }
 
-  pub counts-application : (h next n m : ℕ) → Apart l at d e → getD l at 0 ≡ 0 → Counts l (at + 4) d e h n → Counts l h d e next m → Counts l at d e next (n + m)
+  pub counts-application : (h next n m : ℕ) → Apart l at d e → getD l at 0 ≡ 0 → Counts l (at + 4) d e h n → Counts l h d e next m
+      → Counts l at d e next (n + m)
   counts-application h next n m far z x y = record {
     ends = ends-app l at h next z (x .ends) (y .ends);
     few = omega (arith, x .few, y .few);
@@ -70,7 +73,8 @@ module _ (l : List ℕ) (at d e : ℕ) where
     few = omega (arith, x .few);
     exact = λ t s u v.
         let a = abstraction l at t u z in
-        let p : copies s d t ≡ copies s (suc d) (a .b) = ap (copies s d) (a .is) ∙ copies-lam s d (a .b) (λ q. far .differs t s u v (a .is ∙ q)) in
+        let p : copies s d t ≡ copies s (suc d) (a .b) =
+        ap (copies s d) (a .is) ∙ copies-lam s d (a .b) (λ q. far .differs t s u v (a .is ∙ q)) in
         x .exact (a .b) s (a .body) v ∙ ap (λ (j : ℕ). copies s j (a .b)) (add-one d) ∙ sym p;
   }
 
@@ -120,11 +124,13 @@ module _ (l : List ℕ) (at d : ℕ) (m : List ℕ) (k : ℕ) (out : List ℕ) (
 
 -- the bytes of a body, part by part
 module _ (l : List ℕ) (at d e : ℕ) (m : List ℕ) (k : ℕ) (out : List ℕ) (o : ℕ) where
-  pub body-copy : (p : List ℕ) (h end : ℕ) (w : Walk) → w ≡ Upto h → Compared l at e (Shifted d 0) w → Whole l at → Chose l at d m k out o p end → Body l at d e m k out o p h end (k + 1)
+  pub body-copy : (p : List ℕ) (h end : ℕ) (w : Walk) → w ≡ Upto h → Compared l at e (Shifted d 0) w → Whole l at
+      → Chose l at d m k out o p end → Body l at d e m k out o p h end (k + 1)
   body-copy p h end w i x a y =
       let n = compared-ends l at e (Shifted d 0) h w i x in
       let c : (t s : Term) → Part l at t → Part l e s → t ≡ shift d 0 s = λ t s u v. compared-yes l at e (Shifted d 0) w x t s u v h i in
-      let f : (t s : Term) → Part l at t → Part l e s → body s d t (chosenIn m) k ≡ choose (chosenIn m k) d t = λ t s u v. body-here s d t (chosenIn m) k (c t s u v) in
+      let f : (t s : Term) → Part l at t → Part l e s → body s d t (chosenIn m) k ≡ choose (chosenIn m k) d t =
+      λ t s u v. body-here s d t (chosenIn m) k (c t s u v) in
       record {
         ends = n;
         short = omega (arith, n .exact (a .tree) (a .part), y .exact (a .tree) (a .part), size-choose (chosenIn m k) d (a .tree));
@@ -135,7 +141,8 @@ module _ (l : List ℕ) (at d e : ℕ) (m : List ℕ) (k : ℕ) (out : List ℕ)
       }
 
   module _ (far : Apart l at d e) where
-    pub body-application : (p q r : List ℕ) (h n i next end j : ℕ) → getD l at 0 ≡ 0 → p ≡ sets out o (bytes 0 0 []) → Body l (at + 4) d e m k p (o + 4) q h n i → Body l h d e m i q n r next end j → Body l at d e m k out o r next end j
+    pub body-application : (p q r : List ℕ) (h n i next end j : ℕ) → getD l at 0 ≡ 0 → p ≡ sets out o (bytes 0 0 [])
+        → Body l (at + 4) d e m k p (o + 4) q h n i → Body l h d e m i q n r next end j → Body l at d e m k out o r next end j
     body-application p q r h n i next end j z b x y = record {
       ends = ends-app l at h next z (x .ends) (y .ends);
       short = omega (arith, x .short, y .short);
@@ -145,26 +152,32 @@ module _ (l : List ℕ) (at d e : ℕ) (m : List ℕ) (k : ℕ) (out : List ℕ)
       bytes = λ t s u v. go t s u v .2;
     }
       where
-        go : (t s : Term) → Part l at t → Part l e s → (j ≡ k + copies s d t) × (end ≡ o + 4 * size (body s d t (chosenIn m) k)) × (r ≡ sets out o (encode (body s d t (chosenIn m) k)))
+        go : (t s : Term) → Part l at t → Part l e s → (j ≡ k + copies s d t) × (end ≡ o + 4 * size (body s d t (chosenIn m) k))
+            × (r ≡ sets out o (encode (body s d t (chosenIn m) k)))
         go t s u v =
             let a = application l at t u z in
             let w = argument-part l at h t (x .ends) a in
             let apart : ¬ (app (a .f) (a .a) ≡ shift d 0 s) = λ g. far .differs t s u v (a .is ∙ g) in
             let number : i ≡ k + copies s d (a .f) = x .number (a .f) s (a .head) v in
-            let count : copies s d t ≡ copies s d (a .f) + copies s d (a .a) = ap (copies s d) (a .is) ∙ copies-app s d (a .f) (a .a) apart in
+            let count : copies s d t ≡ copies s d (a .f) + copies s d (a .a) =
+            ap (copies s d) (a .is) ∙ copies-app s d (a .f) (a .a) apart in
             let is : body s d t (chosenIn m) k ≡ app (body s d (a .f) (chosenIn m) k) (body s d (a .a) (chosenIn m) i) =
             ap (λ (g : Term). body s d g (chosenIn m) k) (a .is) ∙ body-app s d (a .f) (a .a) (chosenIn m) k apart
             ∙ ap (λ (g : ℕ). app (body s d (a .f) (chosenIn m) k) (body s d (a .a) (chosenIn m) g)) (sym number) in
             let f = x .exact (a .f) s (a .head) v in
             let g = y .exact (a .a) s w v in
-            let last : n ≡ o + length (bytes 0 0 (encode (body s d (a .f) (chosenIn m) k))) = omega (arith, encode-length (body s d (a .f) (chosenIn m) k)) in
-            let first = written-then (bytes 0 0 []) (encode (body s d (a .f) (chosenIn m) k)) out p q o (o + 4) b (x .bytes (a .f) s (a .head) v) refl in (
+            let last : n ≡ o + length (bytes 0 0 (encode (body s d (a .f) (chosenIn m) k))) =
+            omega (arith, encode-length (body s d (a .f) (chosenIn m) k)) in
+            let first = written-then (bytes 0 0 []) (encode (body s d (a .f) (chosenIn m) k)) out p q o (o + 4) b
+            (x .bytes (a .f) s (a .head) v) refl in (
               omega (arith, y .number (a .a) s w v),
               rw is (omega arith),
-              rw is (written-then (bytes 0 0 (encode (body s d (a .f) (chosenIn m) k))) (encode (body s d (a .a) (chosenIn m) i)) out q r o n first (y .bytes (a .a) s w v) last),
+              rw is (written-then (bytes 0 0 (encode (body s d (a .f) (chosenIn m) k))) (encode (body s d (a .a) (chosenIn m) i))
+                  out q r o n first (y .bytes (a .a) s w v) last),
             )
 
-    pub body-abstraction : (p q : List ℕ) (next end j : ℕ) → getD l at 0 ≡ 1 → p ≡ sets out o (bytes 1 0 []) → Body l (at + 4) (d + 1) e m k p (o + 4) q next end j → Body l at d e m k out o q next end j
+    pub body-abstraction : (p q : List ℕ) (next end j : ℕ) → getD l at 0 ≡ 1 → p ≡ sets out o (bytes 1 0 [])
+        → Body l (at + 4) (d + 1) e m k p (o + 4) q next end j → Body l at d e m k out o q next end j
     body-abstraction p q next end j z b x = record {
       ends = ends-lam l at next z (x .ends);
       short = omega (arith, x .short);
@@ -174,7 +187,8 @@ module _ (l : List ℕ) (at d e : ℕ) (m : List ℕ) (k : ℕ) (out : List ℕ)
       bytes = λ t s u v. go t s u v .2;
     }
       where
-        go : (t s : Term) → Part l at t → Part l e s → (j ≡ k + copies s d t) × (end ≡ o + 4 * size (body s d t (chosenIn m) k)) × (q ≡ sets out o (encode (body s d t (chosenIn m) k)))
+        go : (t s : Term) → Part l at t → Part l e s → (j ≡ k + copies s d t) × (end ≡ o + 4 * size (body s d t (chosenIn m) k))
+            × (q ≡ sets out o (encode (body s d t (chosenIn m) k)))
         go t s u v =
             let a = abstraction l at t u z in
             let apart : ¬ (lam (a .b) ≡ shift d 0 s) = λ g. far .differs t s u v (a .is ∙ g) in
@@ -186,10 +200,12 @@ module _ (l : List ℕ) (at d e : ℕ) (m : List ℕ) (k : ℕ) (out : List ℕ)
             let f = x .exact (a .b) s (a .body) v in (
               x .number (a .b) s (a .body) v ∙ ap (k +_) (sym count),
               rw is (omega arith),
-              rw is (written-then (bytes 1 0 []) (encode (body s (d + 1) (a .b) (chosenIn m) k)) out p q o (o + 4) b (x .bytes (a .b) s (a .body) v) refl),
+              rw is (written-then (bytes 1 0 []) (encode (body s (d + 1) (a .b) (chosenIn m) k)) out p q o (o + 4) b
+                  (x .bytes (a .b) s (a .body) v) refl),
             )
 
-    pub body-other : (p : List ℕ) (next end : ℕ) → Whole l at → ¬ (getD l at 0 ≡ 0) → ¬ (getD l at 0 ≡ 1) → Wrote (shift 1) l at d out o p next end → Body l at d e m k out o p next end k
+    pub body-other : (p : List ℕ) (next end : ℕ) → Whole l at → ¬ (getD l at 0 ≡ 0) → ¬ (getD l at 0 ≡ 1)
+        → Wrote (shift 1) l at d out o p next end → Body l at d e m k out o p next end k
     body-other p next end a z i w = record {
       ends = w .ends;
       short = omega (arith, w .ends .exact (a .tree) (a .part), w .exact (a .tree) (a .part), size-shift 1 d (a .tree));
@@ -204,7 +220,8 @@ module _ (l : List ℕ) (at d e : ℕ) (m : List ℕ) (k : ℕ) (out : List ℕ)
 
 -- what writing a body needs: the locals of a term with few binders above it have numbers that fit
 module _ (l : List ℕ) (at d e last k room o : ℕ) (t : Term) (p : Part l at t) where
-  choosing : Whole l e → length l ≤ tableBytes → Fits (shift 1 d t) → d + size t ≤ numbers → o + 4 * size t ≤ room → k + size t ≤ last → Choosing l at d e last k room o
+  choosing : Whole l e → length l ≤ tableBytes → Fits (shift 1 d t) → d + size t ≤ numbers → o + 4 * size t ≤ room → k + size t ≤ last
+      → Choosing l at d e last k room o
   choosing a h f s r c = record {
     source = record {
       tree = t;
@@ -249,14 +266,16 @@ module _ (l : List ℕ) (at d e last k room o : ℕ) (x : Choosing l at d e last
         choosing l (at + 4) d e last k rest (o + 4) (a .f) (a .head) (x .argument) (x .most) (f .0) (omega (arith, s .shallow))
         (omega (arith, s .enough, size-shift 1 d (s .tree))) (omega (arith, x .choices))
 
-    pub choosing-argument : (m p q : List ℕ) (h n i : ℕ) → getD l at 0 ≡ 0 → Body l (at + 4) d e m k p (o + 4) q h n i → Choosing l h d e last i rest n
+    pub choosing-argument : (m p q : List ℕ) (h n i : ℕ) → getD l at 0 ≡ 0 → Body l (at + 4) d e m k p (o + 4) q h n i
+        → Choosing l h d e last i rest n
     choosing-argument m p q h n i z y =
         let s = x .source in
         let a = application l at (s .tree) (s .part) z in
         let b = ap size (a .is) in
         let g = y .ends .exact (a .f) (a .head) in
         let f : Fits (shift 1 d (app (a .f) (a .a))) = subst (λ (t : Term). Fits (shift 1 d t)) (a .is) (s .fits) in
-        choosing l h d e last i rest n (a .a) (argument-part l at h (s .tree) (y .ends) a) (x .argument) (x .most) (f .1) (omega (arith, s .shallow))
+        choosing l h d e last i rest n (a .a) (argument-part l at h (s .tree) (y .ends) a) (x .argument) (x .most) (f .1)
+        (omega (arith, s .shallow))
         (omega (arith, s .enough, size-shift 1 d (s .tree), y .short)) (omega (arith, x .choices, y .few))
 
     pub choosing-body : getD l at 0 ≡ 1 → Choosing l (at + 4) (d + 1) e last k rest (o + 4)
@@ -265,5 +284,6 @@ module _ (l : List ℕ) (at d e last k room o : ℕ) (x : Choosing l at d e last
         let a = abstraction l at (s .tree) (s .part) z in
         let n = ap size (a .is) in
         let f : Fits (shift 1 (suc d) (a .b)) = subst (λ (t : Term). Fits (shift 1 d t)) (a .is) (s .fits) in
-        choosing l (at + 4) (d + 1) e last k rest (o + 4) (a .b) (a .body) (x .argument) (x .most) (subst (λ (j : ℕ). Fits (shift 1 j (a .b))) (sym (add-one d)) f)
+        choosing l (at + 4) (d + 1) e last k rest (o + 4) (a .b) (a .body) (x .argument) (x .most)
+        (subst (λ (j : ℕ). Fits (shift 1 j (a .b))) (sym (add-one d)) f)
         (omega (arith, s .shallow)) (omega (arith, s .enough, size-shift 1 d (s .tree))) (omega (arith, x .choices))

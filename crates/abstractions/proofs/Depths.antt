@@ -1,5 +1,5 @@
--- The depths of a part's records, written one behind another: what writing those of its parts needs, and what was written for a term when its
--- parts' depths were. By the term's kind, which its first record shows; an argument's depths stand behind the head's. Assumes nothing.
+-- The depths of a part's records, written one behind another: what writing those of its parts needs, and what was written for a term when
+-- its parts' depths were. By the term's kind, which its first record shows; an argument's depths stand behind the head's. Assumes nothing.
 use mathlib.Core.Path.{_≡_, refl, sym, ap, _∙_, subst}
 use mathlib.Core.List.{List}
 use mathlib.Core.Logic.{_⊎_, inl, inr, ⊎-elim}
@@ -16,10 +16,12 @@ use Rattle.abstractions.specs.Occurrences.{DepthOf, DepthSource, WroteDe
 use Rattle.abstractions.proofs.Occurrences.{index-app, index-lam, index-leaf}
 
 -- what a caller reads, and what it shows: the depths of a whole part, from index 0 on
-pub depth-written : (l : List ℕ) (at : ℕ) (out after : List ℕ) (r : ℕ) → WroteDepths l at 0 out 0 after r → (j : ℕ) → DepthOf l at j (getD after j 0)
+pub depth-written : (l : List ℕ) (at : ℕ) (out after : List ℕ) (r : ℕ) → WroteDepths l at 0 out 0 after r → (j : ℕ)
+    → DepthOf l at j (getD after j 0)
 depth-written l at out after r x j t p h = ap (λ (i : ℕ). getD after i 0) (omega arith) ∙ x .depths t p j h
 
-pub depth-source : (l : List ℕ) (at d room o : ℕ) (t : Term) → Part l at t → o + size t ≤ room → d + size t ≤ 256 → DepthSource l at d room o
+pub depth-source : (l : List ℕ) (at d room o : ℕ) (t : Term) → Part l at t → o + size t ≤ room → d + size t ≤ 256
+    → DepthSource l at d room o
 depth-source l at d room o t p e s = record {
   tree = t;
   part = p;
@@ -47,7 +49,8 @@ module _ (l : List ℕ) (at d o : ℕ) where
         let v = application l at (x .tree) (x .part) z in
         let n = ap size (v .is) in
         let m = e .exact (v .f) (v .head) in
-        depth-source l h d rest (o + (h - at) / 4) (v .a) (argument-part l at h (x .tree) e v) (omega (arith, x .enough)) (omega (arith, x .shallow))
+        depth-source l h d rest (o + (h - at) / 4) (v .a) (argument-part l at h (x .tree) e v) (omega (arith, x .enough))
+        (omega (arith, x .shallow))
 
     pub depths-body : getD l at 0 ≡ 1 → DepthSource l (at + 4) (d + 1) rest (o + 1)
     depths-body z =
@@ -69,7 +72,8 @@ module _ (l : List ℕ) (at d o : ℕ) where
     at-index : (after : List ℕ) (i j k : ℕ) → i ≡ j → getD after j 0 ≡ k → getD after i 0 ≡ k
     at-index after i j k e p = ap (λ (n : ℕ). getD after n 0) e ∙ p
 
-    pub depths-application : (q after : List ℕ) (h r : ℕ) → getD l at 0 ≡ 0 → WroteDepths l (at + 4) d (set out o d) (o + 1) q h → WroteDepths l h d q (o + (h - at) / 4) after r → WroteDepths l at d out o after r
+    pub depths-application : (q after : List ℕ) (h r : ℕ) → getD l at 0 ≡ 0 → WroteDepths l (at + 4) d (set out o d) (o + 1) q h
+        → WroteDepths l h d q (o + (h - at) / 4) after r → WroteDepths l at d out o after r
     depths-application q after h r z x y = record {
       ends = ends-app l at h r z (x .ends) (y .ends);
       depths = λ t p j i.
@@ -78,9 +82,12 @@ module _ (l : List ℕ) (at d o : ℕ) where
           let m = x .ends .exact (v .f) (v .head) in
           let n : j < size (app (v .f) (v .a)) = omega (arith, ap size (v .is)) in
           index-app (At after) d (v .f) (v .a)
-          (at-index after (o + 0) o d (omega arith) (y .others (v .a) w o (inl (omega arith)) ∙ x .others (v .f) (v .head) o (inl (omega arith)) ∙ own))
-          (λ k u. y .others (v .a) w (o + suc k) (inl (omega arith)) ∙ at-index q (o + suc k) (o + 1 + k) (partAt d (v .f) k .0) (omega arith) (x .depths (v .f) (v .head) k u))
-          (λ k u. at-index after (o + suc (size (v .f) + k)) (o + (h - at) / 4 + k) (partAt d (v .a) k .0) (omega arith) (y .depths (v .a) w k u))
+          (at-index after (o + 0) o d (omega arith)
+          (y .others (v .a) w o (inl (omega arith)) ∙ x .others (v .f) (v .head) o (inl (omega arith)) ∙ own))
+          (λ k u. y .others (v .a) w (o + suc k) (inl (omega arith))
+          ∙ at-index q (o + suc k) (o + 1 + k) (partAt d (v .f) k .0) (omega arith) (x .depths (v .f) (v .head) k u))
+          (λ k u. at-index after (o + suc (size (v .f) + k)) (o + (h - at) / 4 + k) (partAt d (v .a) k .0) (omega arith)
+          (y .depths (v .a) w k u))
           j n
           ∙ ap (λ (u : Term). partAt d u j .0) (sym (v .is));
       others = λ t p i c.
@@ -93,7 +100,8 @@ module _ (l : List ℕ) (at d o : ℕ) where
           ∙ other i (⊎-elim (λ u e. omega arith) (λ u e. omega arith) c);
     }
 
-    pub depths-abstraction : (after : List ℕ) (r : ℕ) → getD l at 0 ≡ 1 → WroteDepths l (at + 4) (d + 1) (set out o d) (o + 1) after r → WroteDepths l at d out o after r
+    pub depths-abstraction : (after : List ℕ) (r : ℕ) → getD l at 0 ≡ 1 → WroteDepths l (at + 4) (d + 1) (set out o d) (o + 1) after r
+        → WroteDepths l at d out o after r
     depths-abstraction after r z x = record {
       ends = ends-lam l at r z (x .ends);
       depths = λ t p j i.

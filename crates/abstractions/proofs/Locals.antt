@@ -27,7 +27,8 @@ mark-or true true n = refl
 mark-or true false n = refl
 mark-or false b n = refl
 
-mark-set : (m : List ℕ) (n depth j : ℕ) → depth ≤ n → j < length m → getD (set m (n - depth) 1) j 0 ≡ cond (eqb n (j + depth)) 1 (getD m j 0)
+mark-set : (m : List ℕ) (n depth j : ℕ) → depth ≤ n → j < length m
+    → getD (set m (n - depth) 1) j 0 ≡ cond (eqb n (j + depth)) 1 (getD m j 0)
 mark-set m n depth j h i = go (eqb n (j + depth)) refl
   where
     go : (b : Bool) → eqb n (j + depth) ≡ b → getD (set m (n - depth) 1) j 0 ≡ cond b 1 (getD m j 0)
@@ -46,27 +47,31 @@ module _ (l : List ℕ) (at depth : ℕ) where
     marks-head z =
         let v = application l at (x .tree) (x .part) z in
         let c : Closed (depth + n) (app (v .f) (v .a)) = subst (Closed (depth + n)) (v .is) (x .closed) in
-        marks-of l (at + 4) depth k (v .f) (v .head) (subst (λ (i : ℕ). Closed (depth + i) (v .f)) (sym s) (c .0)) (omega (arith, ap size (v .is), x .shallow))
+        marks-of l (at + 4) depth k (v .f) (v .head) (subst (λ (i : ℕ). Closed (depth + i) (v .f)) (sym s) (c .0))
+        (omega (arith, ap size (v .is), x .shallow))
 
     pub marks-argument : (h : ℕ) → getD l at 0 ≡ 0 → Ends l (at + 4) h → Marks l h depth k
     marks-argument h z e =
         let v = application l at (x .tree) (x .part) z in
         let c : Closed (depth + n) (app (v .f) (v .a)) = subst (Closed (depth + n)) (v .is) (x .closed) in
-        marks-of l h depth k (v .a) (argument-part l at h (x .tree) e v) (subst (λ (i : ℕ). Closed (depth + i) (v .a)) (sym s) (c .1)) (omega (arith, ap size (v .is), x .shallow))
+        marks-of l h depth k (v .a) (argument-part l at h (x .tree) e v) (subst (λ (i : ℕ). Closed (depth + i) (v .a)) (sym s) (c .1))
+        (omega (arith, ap size (v .is), x .shallow))
 
     pub marks-body : getD l at 0 ≡ 1 → Marks l (at + 4) (depth + 1) k
     marks-body z =
         let v = abstraction l at (x .tree) (x .part) z in
         let c : Closed (depth + n) (lam (v .b)) = subst (Closed (depth + n)) (v .is) (x .closed) in
         let i : suc (depth + n) ≡ depth + 1 + k = omega arith in
-        marks-of l (at + 4) (depth + 1) k (v .b) (v .body) (subst (λ (j : ℕ). Closed j (v .b)) i c) (omega (arith, ap size (v .is), x .shallow))
+        marks-of l (at + 4) (depth + 1) k (v .b) (v .body) (subst (λ (j : ℕ). Closed j (v .b)) i c)
+        (omega (arith, ap size (v .is), x .shallow))
 
     pub marks-local : (i : ℕ) → getD l at 0 ≡ 2 → i ≡ numberAt l at → i < depth + n
     marks-local i z e = subst (Closed (depth + n)) (local-at l at i (x .tree) (x .part) z e) (x .closed)
 
   -- what was marked
   module _ (m : List ℕ) where
-    pub marked-application : (p q : List ℕ) (h r : ℕ) → getD l at 0 ≡ 0 → length p ≡ length m → Marked l (at + 4) depth m p h → Marked l h depth p q r → Marked l at depth m q r
+    pub marked-application : (p q : List ℕ) (h r : ℕ) → getD l at 0 ≡ 0 → length p ≡ length m → Marked l (at + 4) depth m p h
+        → Marked l h depth p q r → Marked l at depth m q r
     marked-application p q h r z s x y = record {
       ends = ends-app l at h r z (x .ends) (y .ends);
       marks = λ t w j i.
@@ -114,7 +119,8 @@ module _ (l : List ℕ) (at depth : ℕ) where
 abbrev pub Marking : ℕ → Term → List ℕ → Type 0
 Marking n t m = (j : ℕ) → j < n → getD m j 0 ≡ cond (uses j t) 1 0
 
-pub marking : (l : List ℕ) (at : ℕ) (before after : List ℕ) (r : ℕ) (t : Term) → Zeros before → Marked l at 0 before after r → Part l at t → Marking (length before) t after
+pub marking : (l : List ℕ) (at : ℕ) (before after : List ℕ) (r : ℕ) (t : Term) → Zeros before → Marked l at 0 before after r → Part l at t
+    → Marking (length before) t after
 marking l at before after r t z x w j h =
     let e : j + 0 ≡ j = omega arith in
     x .marks t w j h ∙ ap₂ (λ (i k : ℕ). cond (uses i t) 1 k) e (z j)

@@ -31,8 +31,10 @@ movable-two d c f a = (λ p. heads-same f a (shift d c (unshift d c f)) (shift d
 
 pub movable-under : (d c : ℕ) (b : Term) → Movable d c (lam b) ↔ Movable d (c + 1) b
 movable-under d c b =
-    let e : suc c ≡ c + 1 = omega arith in
-    (λ p. subst (λ (k : ℕ). Movable d k b) e (bodies-same b (shift d (suc c) (unshift d (suc c) b)) p), λ p. ap lam (subst (λ (k : ℕ). Movable d k b) (sym e) p))
+    let e : suc c ≡ c + 1 = omega arith in (
+      λ p. subst (λ (k : ℕ). Movable d k b) e (bodies-same b (shift d (suc c) (unshift d (suc c) b)) p),
+      λ p. ap lam (subst (λ (k : ℕ). Movable d k b) (sym e) p),
+    )
 
 pub inside-high : (n c d : ℕ) → c ≤ n → Says (ltb n (c + d)) (Inside c d n)
 inside-high n c d h = go (ltb n (c + d)) refl
@@ -80,7 +82,8 @@ take-less : (p q : List ℕ) (n m : ℕ) → n ≤ m → take m p ≡ take m q �
 take-less p q n m h e = sym (take-take n m p h) ∙ ap (take n) e ∙ take-take n m q h
 
 -- the byte behind what was written, under another name
-wrote-end : (l : List ℕ) (at c d : ℕ) (out : List ℕ) (o : ℕ) (p : List ℕ) (h m n : ℕ) → m ≡ n → Wrote (unshift d) l at c out o p h m → Wrote (unshift d) l at c out o p h n
+wrote-end : (l : List ℕ) (at c d : ℕ) (out : List ℕ) (o : ℕ) (p : List ℕ) (h m n : ℕ) → m ≡ n → Wrote (unshift d) l at c out o p h m
+    → Wrote (unshift d) l at c out o p h n
 wrote-end l at c d out o p h m n e w = subst (Wrote (unshift d) l at c out o p h) e w
 
 module _ (l : List ℕ) (at c d o : ℕ) where
@@ -136,7 +139,8 @@ module _ (l : List ℕ) (at c d o : ℕ) where
     lowered-ends after h r e x = walked-ends l at (Movable d c) h r e (x .walked)
 
     -- by cases of the walk, with what was written
-    leaves-upto : (after : List ℕ) (h m : ℕ) → m ≡ o + (h - at) → Wrote (unshift d) l at c out o after h m → Leaves l at c d out o after (Upto h)
+    leaves-upto : (after : List ℕ) (h m : ℕ) → m ≡ o + (h - at) → Wrote (unshift d) l at c out o after h m
+        → Leaves l at c d out o after (Upto h)
     unfolding Leaves
     leaves-upto after h m e w = wrote-end l at c d out o after h m (o + (h - at)) e w
 
@@ -146,7 +150,8 @@ module _ (l : List ℕ) (at c d o : ℕ) where
 
     module _ (p q : List ℕ) (z : getD l at 0 ≡ 0) (e : p ≡ sets out o (bytes 0 0 [])) where
       -- the head's bytes end where the argument's begin
-      head-wrote : (h : ℕ) (r : Walk) → r ≡ Upto h → Ends l (at + 4) h → Leaves l (at + 4) c d p (o + 4) q r → Wrote (unshift d) l (at + 4) c p (o + 4) q h (o + (h - at))
+      head-wrote : (h : ℕ) (r : Walk) → r ≡ Upto h → Ends l (at + 4) h → Leaves l (at + 4) c d p (o + 4) q r
+          → Wrote (unshift d) l (at + 4) c p (o + 4) q h (o + (h - at))
       unfolding Leaves
       head-wrote h r i n x =
           let w : Leaves l (at + 4) c d p (o + 4) q (Upto h) = subst (Leaves l (at + 4) c d p (o + 4) q) i x in
@@ -159,10 +164,14 @@ module _ (l : List ℕ) (at c d o : ℕ) where
           ap (take o) (w .bytes (v .f) (v .head)) ∙ take-sets (encode (unshift d c (v .f))) p o (o + 4) (omega arith) ∙ ap (take o) e
           ∙ take-sets (bytes 0 0 []) out o o (omega arith)
 
-      pub lowered-application : (after : List ℕ) (h : ℕ) (r s : Walk) → Whole l at → r ≡ Upto h → Lowered l (at + 4) c d p (o + 4) q r → Lowered l h c d q (o + (h - at)) after s → Lowered l at c d out o after s
+      pub lowered-application : (after : List ℕ) (h : ℕ) (r s : Walk) → Whole l at → r ≡ Upto h → Lowered l (at + 4) c d p (o + 4) q r
+          → Lowered l h c d q (o + (h - at)) after s → Lowered l at c d out o after s
       unfolding Leaves
       lowered-application after h r s a i x y =
-          record { walked = walked-app l at (Movable d c) (Movable d c) (Movable d c) h r s z (movable-two d c) i (x .walked) (y .walked); leaves = go s (y .walked) (y .leaves) }
+          record {
+            walked = walked-app l at (Movable d c) (Movable d c) (Movable d c) h r s z (movable-two d c) i (x .walked) (y .walked);
+            leaves = go s (y .walked) (y .leaves);
+          }
         where
           ends : Ends l (at + 4) h
           ends = walked-ends l (at + 4) (Movable d c) h r i (x .walked)
@@ -186,10 +195,14 @@ module _ (l : List ℕ) (at c d o : ℕ) where
             leaves = take-less q p o (o + 4) (omega arith) w ∙ ap (take o) e ∙ take-sets (bytes 0 0 []) out o o (omega arith);
           }
 
-    pub lowered-abstraction : (p q : List ℕ) (r : Walk) → getD l at 0 ≡ 1 → p ≡ sets out o (bytes 1 0 []) → Lowered l (at + 4) (c + 1) d p (o + 4) q r → Lowered l at c d out o q r
+    pub lowered-abstraction : (p q : List ℕ) (r : Walk) → getD l at 0 ≡ 1 → p ≡ sets out o (bytes 1 0 [])
+        → Lowered l (at + 4) (c + 1) d p (o + 4) q r → Lowered l at c d out o q r
     unfolding Leaves
     lowered-abstraction p q r z e x =
-        record { walked = walked-lam l at (Movable d c) (Movable d (c + 1)) r z (movable-under d c) (x .walked); leaves = go r (x .walked) (x .leaves) }
+        record {
+          walked = walked-lam l at (Movable d c) (Movable d (c + 1)) r z (movable-under d c) (x .walked);
+          leaves = go r (x .walked) (x .leaves);
+        }
       where
         go : (r : Walk) → Walked l (at + 4) (Movable d (c + 1)) r → Leaves l (at + 4) (c + 1) d p (o + 4) q r → Leaves l at c d out o q r
         go (Upto h) w y =
@@ -199,20 +212,26 @@ module _ (l : List ℕ) (at c d o : ℕ) where
         go No w y = take-less q p o (o + 4) (omega arith) y ∙ ap (take o) e ∙ take-sets (bytes 1 0 []) out o o (omega arith)
 
     module _ (n : ℕ) (i : n ≡ numberAt l at) where
-      pub lowered-local : (p : List ℕ) (m : ℕ) → Whole l at → getD l at 0 ≡ 2 → ¬ Inside c d n → loc m ≡ unshift d c (loc n) → p ≡ sets out o (bytes 2 m []) → Lowered l at c d out o p (Upto (at + 4))
+      pub lowered-local : (p : List ℕ) (m : ℕ) → Whole l at → getD l at 0 ≡ 2 → ¬ Inside c d n → loc m ≡ unshift d c (loc n)
+          → p ≡ sets out o (bytes 2 m []) → Lowered l at c d out o p (Upto (at + 4))
       lowered-local p m x z j u e = record {
-        walked = walked-leaf l at (Movable d c) x (λ q. omega arith) (λ q. omega arith) (part-local l at (Movable d c) z (subst (λ (k : ℕ). Movable d c (loc k)) i (movable-local n c d j)));
-        leaves = leaves-upto p (at + 4) (o + 4) (omega arith) (wrote-local (unshift d) (unshifts d) l at c out o p n (o + 4) (loc m) x z i u e (omega arith));
+        walked = walked-leaf l at (Movable d c) x (λ q. omega arith) (λ q. omega arith)
+            (part-local l at (Movable d c) z (subst (λ (k : ℕ). Movable d c (loc k)) i (movable-local n c d j)));
+        leaves = leaves-upto p (at + 4) (o + 4) (omega arith)
+            (wrote-local (unshift d) (unshifts d) l at c out o p n (o + 4) (loc m) x z i u e (omega arith));
       }
 
       pub lowered-local-no : getD l at 0 ≡ 2 → Inside c d n → Lowered l at c d out o out No
       lowered-local-no z j = record {
-        walked = walked-no l at (Movable d c) (part-local l at (λ t. ¬ Movable d c t) z (subst (λ (k : ℕ). ¬ Movable d c (loc k)) i (movable-local-no n c d j)));
+        walked = walked-no l at (Movable d c)
+            (part-local l at (λ t. ¬ Movable d c t) z (subst (λ (k : ℕ). ¬ Movable d c (loc k)) i (movable-local-no n c d j)));
         leaves = leaves-no out refl;
       }
 
-      pub lowered-other : (p : List ℕ) → Whole l at → Other l at → p ≡ sets out o (bytes (getD l at 0) n []) → Lowered l at c d out o p (Upto (at + 4))
+      pub lowered-other : (p : List ℕ) → Whole l at → Other l at → p ≡ sets out o (bytes (getD l at 0) n [])
+          → Lowered l at c d out o p (Upto (at + 4))
       lowered-other p x z e = record {
-        walked = walked-leaf l at (Movable d c) x (z .no-application) (z .no-abstraction) (part-other l at (Movable d c) (z .no-application) (z .no-abstraction) (z .no-local) (λ k. refl) (λ k. refl));
+        walked = walked-leaf l at (Movable d c) x (z .no-application) (z .no-abstraction)
+            (part-other l at (Movable d c) (z .no-application) (z .no-abstraction) (z .no-local) (λ k. refl) (λ k. refl));
         leaves = leaves-upto p (at + 4) (o + 4) (omega arith) (wrote-other (unshift d) (unshifts d) l at c out o p n x z i e);
       }

@@ -13,14 +13,16 @@ use Rattle.matching.proofs.Occurrences.{partAt, Copy, partAt-head, partAt-argum
 use Rattle.records.specs.declared.Walk.{Walk}
 use Rattle.records.specs.declared.Walk.the-variants.{Upto, No}
 use Rattle.records.specs.Parts.{Part, Whole, Ends}
-use Rattle.records.proofs.Parts.{Application, whole-head, whole-body, whole-argument, kind-at, leaf-size, application, abstraction, argument-part, ends-app, ends-lam, ends-leaf}
+use Rattle.records.proofs.Parts.{Application, whole-head, whole-body, whole-argument, kind-at, leaf-size, application, abstraction}
+use Rattle.records.proofs.Parts.{argument-part, ends-app, ends-lam, ends-leaf}
 use Rattle.abstractions.specs.Tests.{Shifted, Compared}
 use Rattle.abstractions.specs.Occurrences.{Looks, CopyAt, NoneBefore, Before, Earlier}
 use Rattle.abstractions.proofs.Tests.{heads-same, bodies-same, compared-yes, compared-no}
 
 -- the j-th part of a term is the term itself, or a part of its own parts
 module _ (R : ℕ → ℕ × Term → Type 0) (d : ℕ) where
-  pub index-app : (f a : Term) → R 0 (d, app f a) → ((i : ℕ) → i < size f → R (suc i) (partAt d f i)) → ((i : ℕ) → i < size a → R (suc (size f + i)) (partAt d a i)) → (j : ℕ) → j < size (app f a) → R j (partAt d (app f a) j)
+  pub index-app : (f a : Term) → R 0 (d, app f a) → ((i : ℕ) → i < size f → R (suc i) (partAt d f i))
+      → ((i : ℕ) → i < size a → R (suc (size f + i)) (partAt d a i)) → (j : ℕ) → j < size (app f a) → R j (partAt d (app f a) j)
   index-app f a q x y zero h = q
   index-app f a q x y (suc j) h = go (decLt j (size f))
     where
@@ -31,7 +33,8 @@ module _ (R : ℕ → ℕ × Term → Type 0) (d : ℕ) where
           subst (λ (k : ℕ). R k (partAt d (app f a) k)) e
           (subst (R (suc (size f + (j - size f)))) (sym (partAt-argument d f a (j - size f))) (y (j - size f) (omega arith)))
 
-  pub index-lam : (b : Term) → R 0 (d, lam b) → ((i : ℕ) → i < size b → R (suc i) (partAt (suc d) b i)) → (j : ℕ) → j < size (lam b) → R j (partAt d (lam b) j)
+  pub index-lam : (b : Term) → R 0 (d, lam b) → ((i : ℕ) → i < size b → R (suc i) (partAt (suc d) b i)) → (j : ℕ) → j < size (lam b)
+      → R j (partAt d (lam b) j)
   index-lam b q x zero h = q
   index-lam b q x (suc j) h = x j (omega arith)
 
@@ -48,11 +51,14 @@ app-parts l at f a p =
     let v = application l at (app f a) p (kind-at l at (app f a) p) in
     let s = heads-same f a (v .f) (v .a) (v .is) in (
       subst (Part l (at + 4)) (sym (s .0)) (v .head),
-      subst (λ (u : Term). Part l (at + 4 + 4 * size u) a) (sym (s .0)) (subst (Part l (at + 4 + 4 * size (v .f))) (sym (s .1)) (v .argument)),
+      subst (λ (u : Term). Part l (at + 4 + 4 * size u) a) (sym (s .0))
+          (subst (Part l (at + 4 + 4 * size (v .f))) (sym (s .1)) (v .argument)),
     )
 
 lam-part : (l : List ℕ) (at : ℕ) (b : Term) → Part l at (lam b) → Part l (at + 4) b
-lam-part l at b p = let v = abstraction l at (lam b) p (kind-at l at (lam b) p) in subst (Part l (at + 4)) (sym (bodies-same b (v .b) (v .is))) (v .body)
+lam-part l at b p =
+    let v = abstraction l at (lam b) p (kind-at l at (lam b) p) in
+    subst (Part l (at + 4)) (sym (bodies-same b (v .b) (v .is))) (v .body)
 
 moved : (l : List ℕ) (i j : ℕ) (t : Term) → i ≡ j → Part l i t → Part l j t
 moved l i j t e p = subst (λ (k : ℕ). Part l k t) e p
@@ -69,11 +75,15 @@ part-at l at d (app f a) j p h =
     j h
 part-at l at d (lam b) j p h =
     index-lam (λ i q. Part l (at + 4 * i) (q .1)) d b (moved l at (at + 4 * 0) (lam b) (omega arith) p)
-    (λ i m. moved l (at + 4 + 4 * i) (at + 4 * suc i) (partAt (suc d) b i .1) (omega arith) (part-at l (at + 4) (suc d) b i (lam-part l at b p) m))
+    (λ i m. moved l (at + 4 + 4 * i) (at + 4 * suc i) (partAt (suc d) b i .1) (omega arith)
+    (part-at l (at + 4) (suc d) b i (lam-part l at b p) m))
     j h
-part-at l at d (loc n) j p h = index-leaf (λ i q. Part l (at + 4 * i) (q .1)) d (loc n) (moved l at (at + 4 * 0) (loc n) (omega arith) p) j h
-part-at l at d (con n) j p h = index-leaf (λ i q. Part l (at + 4 * i) (q .1)) d (con n) (moved l at (at + 4 * 0) (con n) (omega arith) p) j h
-part-at l at d (var n) j p h = index-leaf (λ i q. Part l (at + 4 * i) (q .1)) d (var n) (moved l at (at + 4 * 0) (var n) (omega arith) p) j h
+part-at l at d (loc n) j p h =
+    index-leaf (λ i q. Part l (at + 4 * i) (q .1)) d (loc n) (moved l at (at + 4 * 0) (loc n) (omega arith) p) j h
+part-at l at d (con n) j p h =
+    index-leaf (λ i q. Part l (at + 4 * i) (q .1)) d (con n) (moved l at (at + 4 * 0) (con n) (omega arith) p) j h
+part-at l at d (var n) j p h =
+    index-leaf (λ i q. Part l (at + 4 * i) (q .1)) d (var n) (moved l at (at + 4 * 0) (var n) (omega arith) p) j h
 
 -- a part behind the first of an application: one of the head's, or one of the argument's
 head-index : (d : ℕ) (t f a : Term) (i k : ℕ) → t ≡ app f a → i ≡ suc k → k < size f → partAt d t i ≡ partAt d f k
@@ -100,17 +110,38 @@ module _ (l : List ℕ) (at e d : ℕ) (x : Looks l at e d) where
   pub looks-head : getD l at 0 ≡ 0 → Looks l (at + 4) e d
   looks-head z =
       let w = whole-head l at (x .first) z in
-      record { first = w; second = x .second; least = w .least; second-least = x .second-least; most = x .most; shallow = omega (arith, x .shallow) }
+      record {
+        first = w;
+        second = x .second;
+        least = w .least;
+        second-least = x .second-least;
+        most = x .most;
+        shallow = omega (arith, x .shallow);
+      }
 
   pub looks-argument : (h : ℕ) → getD l at 0 ≡ 0 → Ends l (at + 4) h → Looks l h e d
   looks-argument h z n =
       let w = whole-argument l at h (x .first) z n in
-      record { first = w; second = x .second; least = w .least; second-least = x .second-least; most = x .most; shallow = omega (arith, x .shallow, n .more) }
+      record {
+        first = w;
+        second = x .second;
+        least = w .least;
+        second-least = x .second-least;
+        most = x .most;
+        shallow = omega (arith, x .shallow, n .more);
+      }
 
   pub looks-body : getD l at 0 ≡ 1 → Looks l (at + 4) e (d + 1)
   looks-body z =
       let w = whole-body l at (x .first) z in
-      record { first = w; second = x .second; least = w .least; second-least = x .second-least; most = x .most; shallow = omega (arith, x .shallow) }
+      record {
+        first = w;
+        second = x .second;
+        least = w .least;
+        second-least = x .second-least;
+        most = x .most;
+        shallow = omega (arith, x .shallow);
+      }
 
 -- looking for a copy before byte goal
 none-before : (l : List ℕ) (at goal e d h : ℕ) (w : Walk) → w ≡ Upto h → Before l at goal e d w → NoneBefore l at goal e d h
@@ -141,11 +172,18 @@ module _ (l : List ℕ) (at goal e d : ℕ) where
       before-stop w g q = λ x y p t.
           let m : Before l (at + 4) goal e d No = subst (Before l (at + 4) goal e d) g q in
           let v = application l at x p z in
-          let (i, h, s, c) = m (v .f) y (v .head) t in
-          (suc i, omega (arith, ap size (v .is)), omega arith, subst (λ (u : ℕ × Term). Copy u y) (sym (head-index d x (v .f) (v .a) (suc i) i (v .is) refl h)) c)
+          let (i, h, s, c) = m (v .f) y (v .head) t in (
+            suc i,
+            omega (arith, ap size (v .is)),
+            omega arith,
+            subst (λ (u : ℕ × Term). Copy u y) (sym (head-index d x (v .f) (v .a) (suc i) i (v .is) refl h)) c,
+          )
 
       -- the parts of the head and those of the argument
-      none-app : (h : ℕ) → NoneBefore l (at + 4) goal e d h → ((x y : Term) → Part l at x → Part l e y → (v : Application l at x) → (i : ℕ) → i < size (v .a) → at + 4 * suc (size (v .f) + i) < goal → ¬ Copy (partAt d (v .a) i) y) → (x y : Term) → Part l at x → Part l e y → (i : ℕ) → i < size x → at + 4 * i < goal → ¬ Copy (partAt d x i) y
+      none-app : (h : ℕ) → NoneBefore l (at + 4) goal e d h
+          → ((x y : Term) → Part l at x → Part l e y → (v : Application l at x) → (i : ℕ) → i < size (v .a)
+          → at + 4 * suc (size (v .f) + i) < goal → ¬ Copy (partAt d (v .a) i) y)
+          → (x y : Term) → Part l at x → Part l e y → (i : ℕ) → i < size x → at + 4 * i < goal → ¬ Copy (partAt d x i) y
       unfolding CopyAt
       none-app h q k x y p t i s =
           let v = application l at x p z in
@@ -189,8 +227,12 @@ module _ (l : List ℕ) (at goal e d : ℕ) where
         before-argument No o = λ x y p t.
             let v = application l at x p z in
             let k = head-ends .exact (v .f) (v .head) in
-            let (i, r, s, c) = o (v .a) y (argument-part l at h x head-ends v) t in
-            (suc (size (v .f) + i), omega (arith, ap size (v .is)), omega arith, subst (λ (u : ℕ × Term). Copy u y) (sym (argument-index d x (v .f) (v .a) (suc (size (v .f) + i)) i (v .is) refl)) c)
+            let (i, r, s, c) = o (v .a) y (argument-part l at h x head-ends v) t in (
+              suc (size (v .f) + i),
+              omega (arith, ap size (v .is)),
+              omega arith,
+              subst (λ (u : ℕ × Term). Copy u y) (sym (argument-index d x (v .f) (v .a) (suc (size (v .f) + i)) i (v .is) refl)) c,
+            )
 
     pub before-body : (s : Walk) → getD l at 0 ≡ 1 → Before l (at + 4) goal e (d + 1) s → Before l at goal e d s
     unfolding Before CopyAt

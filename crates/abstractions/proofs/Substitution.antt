@@ -59,7 +59,8 @@ reached l b k e t p r i q =
     let m : Substituted l b k e t (Upto p) = subst (Substituted l b k e t) i q in
     record { body-ends = m .0; target-ends = m .1; replaced = m .2 }
 
-pub refused : (l : List ℕ) (b k e t : ℕ) (r : Pairing) → r ≡ No → Substituted l b k e t r → (x y z : Term) → Part l b x → Part l e y → Part l t z → ¬ Replaced k x y z
+pub refused : (l : List ℕ) (b k e t : ℕ) (r : Pairing) → r ≡ No → Substituted l b k e t r → (x y z : Term) → Part l b x → Part l e y
+    → Part l t z → ¬ Replaced k x y z
 unfolding Substituted
 refused l b k e t r i q = let m : Substituted l b k e t No = subst (Substituted l b k e t) i q in m
 
@@ -78,12 +79,14 @@ module _ (l : List ℕ) (b k e t : ℕ) where
     ends-local a = ends-leaf l b (λ q. omega arith) (λ q. omega arith) a
 
     module _ (h : n ≡ k) where
-      pub substituted-copy : (j : ℕ) (r : Walk) → Whole l b → r ≡ walk.Upto j → Compared l t e (Shifted k 0) r → Substituted l b k e t (Upto (record { first = b + 4; second = j }))
+      pub substituted-copy : (j : ℕ) (r : Walk) → Whole l b → r ≡ walk.Upto j → Compared l t e (Shifted k 0) r
+          → Substituted l b k e t (Upto (record { first = b + 4; second = j }))
       unfolding Substituted
       substituted-copy j r a u q = (
         ends-local a,
         compared-ends l t e (Shifted k 0) j r u q,
-        λ x y z p s v. compared-yes l t e (Shifted k 0) r q z y v s j u ∙ sym (ap (substitute k y) (at-local x p) ∙ substitute-here k y n h),
+        λ x y z p s v. compared-yes l t e (Shifted k 0) r q z y v s j u
+            ∙ sym (ap (substitute k y) (at-local x p) ∙ substitute-here k y n h),
       )
 
       pub substituted-copy-no : (r : Walk) → r ≡ walk.No → Compared l t e (Shifted k 0) r → Substituted l b k e t No
@@ -99,7 +102,8 @@ module _ (l : List ℕ) (b k e t : ℕ) where
       unfolding Substituted
       substituted-local-kind o = λ x y z p s v g. o (kind-at l t z v ∙ ap kind (g ∙ other-local x y p))
 
-      pub substituted-local : (j : ℕ) → Whole l b → Whole l t → getD l t 0 ≡ 2 → j ≡ numberAt l t → j ≡ m → Substituted l b k e t (Upto (record { first = b + 4; second = t + 4 }))
+      pub substituted-local : (j : ℕ) → Whole l b → Whole l t → getD l t 0 ≡ 2 → j ≡ numberAt l t → j ≡ m
+          → Substituted l b k e t (Upto (record { first = b + 4; second = t + 4 }))
       unfolding Substituted
       substituted-local j a c o u q = (
         ends-local a,
@@ -159,7 +163,8 @@ module _ (l : List ℕ) (b k e t : ℕ) where
               let v = application l t z g (sym c ∙ w) in
               v .is
               ∙ ap₂ app (come .replaced (u .f) y (v .f) (u .head) s (v .head))
-              (m .2 (u .a) y (v .a) (argument-part l b (p .first) x (come .body-ends) u) s (argument-part l t (p .second) z (come .target-ends) v))
+              (m .2 (u .a) y (v .a) (argument-part l b (p .first) x (come .body-ends) u) s
+              (argument-part l t (p .second) z (come .target-ends) v))
               ∙ ap (substitute k y) (sym (u .is)),
         )
         substituted-app No m = λ x y z f s g h.
@@ -200,13 +205,15 @@ module _ (l : List ℕ) (b k e t : ℕ) where
         λ x y z f s g.
             let u = abstraction l b x f w in
             let v = abstraction l t z g (sym c ∙ w) in
-            v .is ∙ ap lam (q .2 (u .b) y (v .b) (u .body) s (v .body) ∙ ap (λ (i : ℕ). substitute i y (u .b)) (add-one k)) ∙ ap (substitute k y) (sym (u .is)),
+            v .is ∙ ap lam (q .2 (u .b) y (v .b) (u .body) s (v .body) ∙ ap (λ (i : ℕ). substitute i y (u .b)) (add-one k))
+            ∙ ap (substitute k y) (sym (u .is)),
       )
       substituted-lam No q = λ x y z f s g h.
           let u = abstraction l b x f w in
           let v = abstraction l t z g (sym c ∙ w) in
           q (u .b) y (v .b) (u .body) s (v .body)
-          (bodies-same (v .b) (substitute (suc k) y (u .b)) (sym (v .is) ∙ h ∙ ap (substitute k y) (u .is)) ∙ ap (λ (i : ℕ). substitute i y (u .b)) (sym (add-one k)))
+          (bodies-same (v .b) (substitute (suc k) y (u .b)) (sym (v .is) ∙ h ∙ ap (substitute k y) (u .is))
+          ∙ ap (λ (i : ℕ). substitute i y (u .b)) (sym (add-one k)))
 
     module _ (n m : ℕ) (i : n ≡ numberAt l b) (j : m ≡ numberAt l t) (o : Other l b) where
       above : (x : Term) → Part l b x → 2 < kind x

@@ -18,7 +18,8 @@ use Rattle.records.specs.declared.Walk.the-variants.{Upto, No}
 use Rattle.records.specs.Record.{numberAt}
 use Rattle.records.specs.Parts.{Part, Whole, Ends}
 use Rattle.records.specs.Tests.{Says}
-use Rattle.records.proofs.Parts.{Application, whole, kind-at, number-at, application, abstraction, argument-part, ends-app, ends-lam, ends-leaf}
+use Rattle.records.proofs.Parts.{Application, whole, kind-at, number-at, application, abstraction, argument-part, ends-app, ends-lam}
+use Rattle.records.proofs.Parts.{ends-leaf}
 use Rattle.sweeping.proofs.Writers.{Other, local-at}
 use Rattle.abstractions.specs.Tests.{Compares, Shifted, Compared}
 
@@ -81,7 +82,8 @@ unfolding Compared
 compared-ends l at e P h w i x = let y : Compared l at e P (Upto h) = subst (Compared l at e P) i x in y .0
 
 -- what an answer says of the terms that stand there
-module _ (l : List ℕ) (at e : ℕ) (P : Term → Term → Type 0) (r : Walk) (q : Compared l at e P r) (x y : Term) (p : Part l at x) (t : Part l e y) where
+module _ (l : List ℕ) (at e : ℕ) (P : Term → Term → Type 0) (r : Walk) (q : Compared l at e P r) (x y : Term) (p : Part l at x)
+    (t : Part l e y) where
   pub compared-yes : (h : ℕ) → r ≡ Upto h → P x y
   unfolding Compared
   compared-yes h i = let m : Compared l at e P (Upto h) = subst (Compared l at e P) i q in m .1 x y p t
@@ -102,7 +104,8 @@ module _ (l : List ℕ) (at e c d : ℕ) where
       w = sym k ∙ z
 
       -- where the first's head ends, the second's does as far on
-      pub second-argument : (h : ℕ) (r : Walk) → r ≡ Upto h → Compared l (at + 4) (e + 4) (Shifted d c) r → (x y : Term) → Part l at x → (u : Application l at x) → (v : Application l e y) → Part l (e + (h - at)) (v .a)
+      pub second-argument : (h : ℕ) (r : Walk) → r ≡ Upto h → Compared l (at + 4) (e + 4) (Shifted d c) r → (x y : Term) → Part l at x
+          → (u : Application l at x) → (v : Application l e y) → Part l (e + (h - at)) (v .a)
       unfolding Compared
       second-argument h r i q x y p u v =
           let o : Compared l (at + 4) (e + 4) (Shifted d c) (Upto h) = subst (Compared l (at + 4) (e + 4) (Shifted d c)) i q in
@@ -110,7 +113,8 @@ module _ (l : List ℕ) (at e c d : ℕ) where
           let n : e + 4 + 4 * size (v .f) ≡ e + (h - at) = omega (arith, o .0 .exact (u .f) (u .head)) in
           subst (λ (j : ℕ). Part l j (v .a)) n (v .argument)
 
-      pub compared-app : (h : ℕ) (r s : Walk) → r ≡ Upto h → Compared l (at + 4) (e + 4) (Shifted d c) r → Compared l h (e + (h - at)) (Shifted d c) s → Compared l at e (Shifted d c) s
+      pub compared-app : (h : ℕ) (r s : Walk) → r ≡ Upto h → Compared l (at + 4) (e + 4) (Shifted d c) r
+          → Compared l h (e + (h - at)) (Shifted d c) s → Compared l at e (Shifted d c) s
       unfolding Compared
       compared-app h r s i q o = go s o
         where
@@ -159,7 +163,8 @@ module _ (l : List ℕ) (at e c d : ℕ) where
             few = x .few;
           }
 
-      pub compares-argument : (h : ℕ) (r : Walk) → r ≡ Upto h → Compared l (at + 4) (e + 4) (Shifted d c) r → Compares l at e c d → Compares l h (e + (h - at)) c d
+      pub compares-argument : (h : ℕ) (r : Walk) → r ≡ Upto h → Compared l (at + 4) (e + 4) (Shifted d c) r → Compares l at e c d
+          → Compares l h (e + (h - at)) c d
       compares-argument h r i q x =
           let u = application l at (x .first .tree) (x .first .part) z in
           let v = application l e (x .second .tree) (x .second .part) w in
@@ -198,13 +203,15 @@ module _ (l : List ℕ) (at e c d : ℕ) where
         λ x y p t.
             let u = abstraction l at x p z in
             let v = abstraction l e y t (sym k ∙ z) in
-            u .is ∙ ap lam (q .1 (u .b) (v .b) (u .body) (v .body) ∙ ap (λ (j : ℕ). shift d j (v .b)) (add-one c)) ∙ ap (shift d c) (sym (v .is)),
+            u .is ∙ ap lam (q .1 (u .b) (v .b) (u .body) (v .body) ∙ ap (λ (j : ℕ). shift d j (v .b)) (add-one c))
+            ∙ ap (shift d c) (sym (v .is)),
       )
       compared-lam No q = λ x y p t g.
           let u = abstraction l at x p z in
           let v = abstraction l e y t (sym k ∙ z) in
           q (u .b) (v .b) (u .body) (v .body)
-          (bodies-same (u .b) (shift d (suc c) (v .b)) (sym (u .is) ∙ g ∙ ap (shift d c) (v .is)) ∙ ap (λ (j : ℕ). shift d j (v .b)) (sym (add-one c)))
+          (bodies-same (u .b) (shift d (suc c) (v .b)) (sym (u .is) ∙ g ∙ ap (shift d c) (v .is))
+          ∙ ap (λ (j : ℕ). shift d j (v .b)) (sym (add-one c)))
 
     module _ (m n : ℕ) (i : m ≡ numberAt l at) (j : n ≡ numberAt l e) where
       pub compared-local : Whole l at → getD l at 0 ≡ 2 → loc m ≡ shift d c (loc n) → Compared l at e (Shifted d c) (Upto (at + 4))
@@ -241,7 +248,8 @@ module _ (l : List ℕ) (at e c d : ℕ) where
 
 -- a rigid head, by the first record
 module _ (l : List ℕ) (at : ℕ) where
-  pub rigid-application : (r : Bool) → getD l at 0 ≡ 0 → ((t : Term) → Part l (at + 4) t → r ≡ rigid t) → (t : Term) → Part l at t → r ≡ rigid t
+  pub rigid-application : (r : Bool) → getD l at 0 ≡ 0 → ((t : Term) → Part l (at + 4) t → r ≡ rigid t) → (t : Term)
+      → Part l at t → r ≡ rigid t
   rigid-application r z f t p = let v = application l at t p z in f (v .f) (v .head) ∙ ap rigid (sym (v .is))
 
   pub rigid-local : getD l at 0 ≡ 2 → (t : Term) → Part l at t → true ≡ rigid t

@@ -2,10 +2,13 @@
 -- is the target with some copies replaced by a local, by a choice at each.
 --   chosenIn m i                         choice i is made, in the table m of choices: its byte i isn't 0
 --   Counting l at d e                    terms stand in l from byte `at` and from byte e on, and d binders above the first can be counted
---   Counts l at d e next n               the term at byte `at` of l, below d binders, has n copies of the one at byte e, and ends at byte next
---   Choosing l at d e last k room o      a body can be written from byte o on, before byte `room`, with the choices from k on, before choice `last`
+--   Counts l at d e next n               the term at byte `at` of l, below d binders, has n copies of the one at byte e,
+--                                        and ends at byte next
+--   Choosing l at d e last k room o      a body can be written from byte o on, before byte `room`, with the choices from k on,
+--                                        before choice `last`
 --   Chose l at d m k out o after end     the copy at byte `at` of l was written into out from byte o on, by choice k
---   Body l at d e m k out o after next end j   the body by the choices from k on was written into out from byte o on, and choice j is the next
+--   Body l at d e m k out o after next end j   the body by the choices from k on was written into out from byte o on,
+--                                              and choice j is the next
 use mathlib.Core.Path.{_≡_}
 use mathlib.Core.Bool.{Bool}
 use mathlib.Core.List.{List}

@@ -1,11 +1,14 @@
 -- The parts of a part, numbered in table order as `matching` numbers them: how deep one stands, and whether one is a copy of a term.
 --   DepthOf l at j r         r binders stand between the start of the part at byte `at` and its j-th part
---   DepthSource l at d room o     a term stands in l from byte `at` on, and the depths of its records, counted from d, can be written from index o on,
+--   DepthSource l at d room o     a term stands in l from byte `at` on, and the depths of its records, counted from d,
+--                                 can be written from index o on,
 --                            before index `room`: they fit a byte
---   WroteDepths l at d out o after r  that term ends at byte r, the depth of its j-th record stands at index o + j, and what stands elsewhere is kept
+--   WroteDepths l at d out o after r  that term ends at byte r, the depth of its j-th record stands at index o + j,
+--                                     and what stands elsewhere is kept
 --   Looks l at e d           terms stand in l from byte `at` and from byte e on, and d binders above the first can be counted further
 --   CopyAt l at e d r        r says whether the part at byte `at` is the one at byte e, moved in below d binders
---   NoneBefore l at goal e d h  no part of the part at byte `at` that stands before byte goal is such a copy, and h is its end or in it, from goal on
+--   NoneBefore l at goal e d h  no part of the part at byte `at` that stands before byte goal is such a copy,
+--                               and h is its end or in it, from goal on
 --   Before l at goal e d r   the same for r, or one is
 --   Earlier l at j e r       r says whether one of the first j parts of the part at byte `at` is such a copy
 use mathlib.Core.Path.{_≡_}

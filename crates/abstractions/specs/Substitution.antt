@@ -1,7 +1,8 @@
 -- Whether one part is another with a third put for a local.
 --   Substitutes l b k e t       terms stand in l from bytes b, e and t on, and their locals can be compared where k is a local of the first
 --   Replaced k x y z            the term z is x with y put for local k
---   Substituted l b k e t r     a walk over the parts at bytes b and t came to both ends exactly if Replaced holds of the terms at b, e and t
+--   Substituted l b k e t r     a walk over the parts at bytes b and t came to both ends exactly if Replaced holds of the
+--                               terms at b, e and t
 use mathlib.Core.Path.{_≡_}
 use mathlib.Core.List.{List}
 use Prim.Native.Nat.{ℕ, _+_, _≤_}

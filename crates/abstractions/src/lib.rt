@@ -217,8 +217,8 @@ fn is_substituted_local(s: &[u8], b: usize, k: usize, e: usize, t: usize) -> Pai
     Pairing::No
 }
 
-// Whether the part of s at byte t is the part at byte b with the part at byte e put for local k. It goes over the two together, and over the
-// argument at each use of the local.
+// Whether the part of s at byte t is the part at byte b with the part at byte e put for local k. It goes over the two together, and over
+// the argument at each use of the local.
 pub fn is_substituted(s: &[u8], b: usize, k: usize, e: usize, t: usize) -> Pairing
     requires { ⌜ Substitutes (now s) b k e t ⌝ }
     ensures { λ r. ⌜ Substituted (now (s .entry)) b k e t r ⌝ }
@@ -255,8 +255,8 @@ pub struct Counted {
     pub count: usize,
 }
 
-// How many copies of the part at byte e the part at byte `at` has, which stands below d binders. A copy is the part at byte e shifted by the
-// binders above it; within a copy no other is counted.
+// How many copies of the part at byte e the part at byte `at` has, which stands below d binders. A copy is the part at byte e shifted by
+// the binders above it; within a copy no other is counted.
 pub fn copies(s: &[u8], at: usize, d: usize, e: usize) -> Counted
     requires { ⌜ Counting (now s) at d e ⌝ }
     ensures { λ r. ⌜ Counts (now (s .entry)) at d e (r .end) (r .count) ⌝ }
@@ -326,7 +326,8 @@ pub fn body_into(
     o: usize,
 ) -> Built
     requires { ⌜ Choosing (now s) at d e (length (now chosen)) k (length (now out)) o ⌝ }
-    ensures { λ r. ⌜ Body (now (s .entry)) at d e (now (chosen .entry)) k (now (out .entry)) o (now (out .exit)) (r .next) (r .end) (r .k) ⌝ }
+    ensures { λ r. ⌜ Body (now (s .entry)) at d e (now (chosen .entry)) k (now (out .entry)) o (now (out .exit))
+        (r .next) (r .end) (r .k) ⌝ }
 {
     let copy = copy_end(s, at, e, d);
     if let Walk::Upto(next) = copy {

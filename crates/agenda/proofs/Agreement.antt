@@ -1,6 +1,6 @@
--- Whether the head of a rigid argument is that of a part of the target, read from their records one after the other. Records of other kinds and
--- other constants tell them apart, and of two applications the heads do. Assumes nothing.
-use mathlib.Core.Path.{_≡_, refl, sym, ap, _∙_, subst}
+-- Whether the head of a rigid argument is that of a part of the target, read from their records one after the other. Records of other kinds
+-- and other constants tell them apart, and of two applications the heads do. Assumes nothing.
+use mathlib.Core.Path.{_≡_, refl, sym, _∙_, subst}
 use mathlib.Core.Bool.{Bool, true, false}
 use mathlib.Core.List.{List}
 use Prim.Native.Nat.{ℕ, _+_}
@@ -11,9 +11,8 @@ use Rattle.terms.specs.Term.{Term, app}
 use Rattle.terms.proofs.Locals.{rigid}
 use Rattle.matching.proofs.Prune.{Unlike, unlike-kind, unlike-head, unlike-constant}
 use Rattle.records.specs.Record.{numberAt}
-use Rattle.records.specs.Parts.{Part}
 use Rattle.records.proofs.Parts.{kind-at, number-at, application}
-use Rattle.agenda.specs.Applications.{Agree}
+use Rattle.agenda.specs.Heads.{Agree}
 
 module _ (P : List ℕ) (i : ℕ) (W : List ℕ) (j : ℕ) where
   pub agree : Agree P i W j true

@@ -20,7 +20,7 @@ use Rattle.records.specs.Parts.{Part}
 use Rattle.records.proofs.Parts.{part}
 use Rattle.assignments.specs.declared.Entry.{Entry}
 use Rattle.assignments.specs.declared.Entry.the-variants.{Open, Assigned}
-use Rattle.listing.specs.Outcome.{EntryHeld, Holds}
+use Rattle.assignments.specs.Held.{EntryHeld, Holds}
 use Rattle.agenda.specs.declared.Agenda.{Agenda}
 use Rattle.agenda.specs.declared.Item.{Item}
 use Rattle.agenda.specs.Items.{itemBytes, ItemAt}
@@ -35,15 +35,18 @@ pub record Kept (W X : List ℕ) (top : ℕ) : Type 0 where
 module _ (W X : List ℕ) (top : ℕ) (k : Kept W X top) where
   bytes-kept : (at n : ℕ) → at + n ≤ top → take n (drop at X) ≡ take n (drop at W)
   bytes-kept at n h =
-      sym (cut X (k .to)) ∙ ap (drop at) (sym (take-take (at + n) top X h) ∙ ap (take (at + n)) (k .same) ∙ take-take (at + n) top W h) ∙ cut W (k .from)
+      sym (cut X (k .to))
+      ∙ ap (drop at) (sym (take-take (at + n) top X h) ∙ ap (take (at + n)) (k .same) ∙ take-take (at + n) top W h) ∙ cut W (k .from)
     where
       cut : (l : List ℕ) → top ≤ length l → drop at (take (at + n) l) ≡ take n (drop at l)
       cut l c = ap (drop at) (take-add at n l) ∙ drop-at (take at l) (take n (drop at l)) at (length-take-le at l (omega arith))
 
   pub part-kept : (at : ℕ) (t : Term) → at + 4 * size t ≤ top → Part W at t → Part X at t
   part-kept at t h x =
-      let q : take (4 * size t) (drop at X) ≡ encode t = bytes-kept at (4 * size t) h ∙ ap (take (4 * size t)) (x .bytes) ∙ take-at (encode t) (x .rest) (4 * size t) (encode-length t) in
-      part X at t (drop (4 * size t) (drop at X)) (sym (take-append-drop (4 * size t) (drop at X)) ∙ ap (_++ drop (4 * size t) (drop at X)) q)
+      let q : take (4 * size t) (drop at X) ≡ encode t =
+      bytes-kept at (4 * size t) h ∙ ap (take (4 * size t)) (x .bytes) ∙ take-at (encode t) (x .rest) (4 * size t) (encode-length t) in
+      part X at t (drop (4 * size t) (drop at X))
+      (sym (take-append-drop (4 * size t) (drop at X)) ∙ ap (_++ drop (4 * size t) (drop at X)) q)
 
   pub byte-kept : (i : ℕ) → i < top → getD X i 0 ≡ getD W i 0
   byte-kept i h = sym (getD-take top X i 0 h) ∙ ap (λ (l : List ℕ). getD l i 0) (k .same) ∙ getD-take top W i 0 h
@@ -71,14 +74,17 @@ module _ (W X : List ℕ) (top : ℕ) (k : Kept W X top) where
       goal-kept at (match p t) h x = record {
         kind = byte-kept (at + 1) (omega arith) ∙ x .kind;
         part = subst (λ (i : ℕ). Part P (4 * i) p) (sym (byte-kept at (omega arith))) (x .part);
-        target = subst (λ (i : ℕ). Target X higher (size p) (4 * i) t) (sym (word-kept (at + 2) (omega arith))) (target-kept (size p) (targetAt W at) t (x .target));
+        target = subst (λ (i : ℕ). Target X higher (size p) (4 * i) t) (sym (word-kept (at + 2) (omega arith)))
+            (target-kept (size p) (targetAt W at) t (x .target));
         suits = x .suits;
       }
       goal-kept at (build f t e) h x = record {
         kind = byte-kept (at + 1) (omega arith) ∙ x .kind;
         part = subst (λ (i : ℕ). Part P (4 * i) f) (sym (byte-kept at (omega arith))) (x .part);
-        target = subst (λ (i : ℕ). Target X higher (suc (size f)) (4 * i) t) (sym (word-kept (at + 2) (omega arith))) (target-kept (suc (size f)) (targetAt W at) t (x .target));
-        argument = subst (λ (i : ℕ). Target X higher (suc (size f)) (4 * i) e) (sym (word-kept (at + 6) (omega arith))) (target-kept (suc (size f)) (argumentAt W at) e (x .argument));
+        target = subst (λ (i : ℕ). Target X higher (suc (size f)) (4 * i) t) (sym (word-kept (at + 2) (omega arith)))
+            (target-kept (suc (size f)) (targetAt W at) t (x .target));
+        argument = subst (λ (i : ℕ). Target X higher (suc (size f)) (4 * i) e) (sym (word-kept (at + 6) (omega arith)))
+            (target-kept (suc (size f)) (argumentAt W at) e (x .argument));
         suits = x .suits;
       }
 
@@ -87,7 +93,14 @@ module _ (W X : List ℕ) (top : ℕ) (k : Kept W X top) where
       chain-kept K at (g ∷ gs) x =
           let n = x .0 in
           let e = next-kept at (n .room) in (
-            record { kind = n .kind; low = n .low; room = omega (arith, n .room); even = n .even; falls = omega (arith, n .falls, e); goal = goal-kept at g (n .room) (n .goal) },
+            record {
+              kind = n .kind;
+              low = n .low;
+              room = omega (arith, n .room);
+              even = n .even;
+              falls = omega (arith, n .falls, e);
+              goal = goal-kept at g (n .room) (n .goal);
+            },
             subst (λ (i : ℕ). Chain K P X higher i gs) (sym e) (chain-kept K (nextAt W at) gs (x .1)),
           )
 
@@ -138,7 +151,8 @@ getD-stored vs l at i h k =
 pub part-stored : (t : Term) (l : List ℕ) (at : ℕ) → at + 4 * size t ≤ length l → Part (sets l at (encode t)) at t
 part-stored t l at h =
     part (sets l at (encode t)) at t (drop (at + length (encode t)) l)
-    (ap (drop at) (sets-eq (encode t) l at (omega (arith, encode-length t)) ∙ append-assoc (take at l) (encode t) (drop (at + length (encode t)) l))
+    (ap (drop at)
+    (sets-eq (encode t) l at (omega (arith, encode-length t)) ∙ append-assoc (take at l) (encode t) (drop (at + length (encode t)) l))
     ∙ drop-at (take at l) (encode t ++ drop (at + length (encode t)) l) at (length-take-le at l (omega arith)))
 
 -- storing at or above top keeps what is below
@@ -174,9 +188,11 @@ module _ (W X : List ℕ) (at : ℕ) (r : Item) (e : X ≡ sets W at (itemBytes 
   }
 
 -- and the list that it begins
-module _ (K : Goal → Type 0) (P X : List ℕ) (top at : ℕ) (r : Item) (x : ItemAt X at r) (low : 0 < at) (room : at + 8 ≤ top) (even : at % 4 ≡ 0) (falls : r .next < at) where
+module _ (K : Goal → Type 0) (P X : List ℕ) (top at : ℕ) (r : Item) (x : ItemAt X at r) (low : 0 < at) (room : at + 8 ≤ top)
+    (even : at % 4 ≡ 0) (falls : r .next < at) where
   pub chain-match :
-      (p t : Term) (gs : List Goal) → r .kind ≡ 0 → K (match p t) → Part P (r .part) p → Target X top (size p) (r .target) t → Listable variables (OccursIn P) (match p t)
+      (p t : Term) (gs : List Goal) → r .kind ≡ 0 → K (match p t) → Part P (r .part) p → Target X top (size p) (r .target) t
+      → Listable variables (OccursIn P) (match p t)
       → Chain K P X top (r .next) gs → Chain K P X top at (match p t ∷ gs)
   chain-match p t gs k q y z s c = (
     record {
@@ -196,7 +212,8 @@ module _ (K : Goal → Type 0) (P X : List ℕ) (top at : ℕ) (r : Item) (x : I
   )
 
   pub chain-build :
-      (f t e : Term) (gs : List Goal) → r .kind ≡ 1 → K (build f t e) → Part P (r .part) f → Target X top (suc (size f)) (r .target) t → Target X top (suc (size f)) (r .argument) e
+      (f t e : Term) (gs : List Goal) → r .kind ≡ 1 → K (build f t e) → Part P (r .part) f → Target X top (suc (size f)) (r .target) t
+      → Target X top (suc (size f)) (r .argument) e
       → Listable variables (OccursIn P) (build f t e) → Chain K P X top (r .next) gs → Chain K P X top at (build f t e ∷ gs)
   chain-build f t e gs k q y z w s c = (
     record {

@@ -1,5 +1,5 @@
--- Locals that a target has and a part of the pattern lacks, found by the marks of the target's locals. A local that is marked is one that the
--- target uses, since no mark was there before. Assumes nothing.
+-- Locals that a target has and a part of the pattern lacks, found by the marks of the target's locals. A local that is marked is one that
+-- the target uses, since no mark was there before. Assumes nothing.
 use mathlib.Core.Path.{_≡_, refl, ap, _∙_, subst}
 use mathlib.Core.Bool.{Bool, true, false, cond}
 use mathlib.Core.List.{List}
@@ -29,7 +29,8 @@ pub lacks-none : (P : List ℕ) (i : ℕ) (W : List ℕ) (j : ℕ) → Lacks P i
 unfolding Lacks
 lacks-none P i W j = tt
 
-pub lacks : (P : List ℕ) (i : ℕ) (W : List ℕ) (j : ℕ) (m : List ℕ) (k r : ℕ) (b : Bool) → k < patternRecords → Marked W j 0 (replicate patternRecords 0) m r → Unused P i k (getD m k 0) b → b ≡ true → Lacks P i W j true
+pub lacks : (P : List ℕ) (i : ℕ) (W : List ℕ) (j : ℕ) (m : List ℕ) (k r : ℕ) (b : Bool) → k < patternRecords
+    → Marked W j 0 (replicate patternRecords 0) m r → Unused P i k (getD m k 0) b → b ≡ true → Lacks P i W j true
 unfolding Lacks Unused
 lacks P i W j m k r b h x u e =
     let v = subst (Unused P i k (getD m k 0)) e u in
@@ -39,4 +40,9 @@ lacks P i W j m k r b h x u e =
     marked t z true q = q
     marked t z false q =
         let g = x .marks t z k (omega (arith, length-replicate {A = ℕ} patternRecords 0)) in
-        absurd (omega (arith, subst (Unused P i k (getD m k 0)) e u .0, g ∙ ap (λ (n : ℕ). cond (uses n t) 1 (getD (replicate patternRecords 0) k 0)) (add-zero k) ∙ ap (λ (c : Bool). cond c 1 (getD (replicate patternRecords 0) k 0)) q ∙ getD-replicate patternRecords k 0 0 h))
+        absurd (omega (
+          arith,
+          subst (Unused P i k (getD m k 0)) e u .0,
+          g ∙ ap (λ (n : ℕ). cond (uses n t) 1 (getD (replicate patternRecords 0) k 0)) (add-zero k)
+              ∙ ap (λ (c : Bool). cond c 1 (getD (replicate patternRecords 0) k 0)) q ∙ getD-replicate patternRecords k 0 0 h,
+        ))

@@ -1,14 +1,5 @@
-pub mod State
+pub mod Heads
 pub mod Items
-pub mod Moves
-pub mod Branches
-pub mod Ordering
-pub mod Applications
-pub mod Builds
-pub mod Opening
 pub mod Locals
-pub mod Ground
-pub mod Outlines
-pub mod Pairs
-pub mod Joins
-pub mod Repeated
+pub mod Moves
+pub mod State

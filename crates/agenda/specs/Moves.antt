@@ -7,17 +7,15 @@ use mathlib.Core.Path.{_≡_}
 use mathlib.Core.Logic.{_↔_}
 use mathlib.Core.List.{List}
 use Prim.Native.Nat.{ℕ, _+_, _-_, _*_, _<_, _≤_}
-use lib.ListN.{take, set}
-use Rattle.terms.specs.Figures.{variables, tableBytes}
+use lib.ListN.{take}
+use Rattle.terms.specs.Figures.{tableBytes}
 use Rattle.terms.specs.Term.{Term}
 use Rattle.terms.specs.Listing.{Line}
 use Rattle.matching.proofs.Lines.{Values}
 use Rattle.matching.proofs.Lists.{Predicate}
 use Rattle.matching.proofs.Goals.{Goal}
 use Rattle.assignments.specs.declared.Entry.{Entry}
-use Rattle.assignments.specs.declared.Entry.the-variants.{Assigned}
 use Rattle.agenda.specs.declared.Agenda.{Agenda}
-use Rattle.agenda.specs.declared.Step.{Step}
 use Rattle.agenda.specs.declared.Branch.{Branch}
 use Rattle.agenda.specs.declared.Decision.{Decision}
 use Rattle.agenda.specs.State.{State, Sat, Bounds, relinking}
@@ -36,7 +34,8 @@ pub record Moved (P W : List ℕ) (s : Agenda) (a : List Entry) (Q : Predicate) 
   pub state : State 0 P W s a gs hs line
   pub same : (φ : ℕ → Term) → Values φ → Q φ ↔ Sat gs hs line φ
 
-pub record Move (k : ℕ) (P W : List ℕ) (s : Agenda) (a : List Entry) (Q : Question) (W′ : List ℕ) (s′ : Agenda) (a′ : List Entry) : Type 0 where
+pub record Move (k : ℕ) (P W : List ℕ) (s : Agenda) (a : List Entry) (Q : Question) (W′ : List ℕ) (s′ : Agenda)
+    (a′ : List Entry) : Type 0 where
   pub go : (gs hs : List Goal) (l : Line) → State k P W s a gs hs l → Moved P W′ s′ a′ (Q gs hs l)
   pub kept : take (s .top) W′ ≡ take (s .top) W
   pub higher : s .top ≤ s′ .top
@@ -46,11 +45,6 @@ pub record Move (k : ℕ) (P W : List ℕ) (s : Agenda) (a : List Entry) (Q : Qu
 pub record Failed (k : ℕ) (P W : List ℕ) (s : Agenda) (a : List Entry) (Q : Question) (W′ : List ℕ) : Type 0 where
   pub none : (gs hs : List Goal) (l : Line) → State k P W s a gs hs l → (φ : ℕ → Term) → Values φ → ¬ Q gs hs l φ
   pub kept : take (s .top) W′ ≡ take (s .top) W
-
-unfoldable pub Stepped : List ℕ → List ℕ → Agenda → List Entry → List ℕ → Step → Type 0
-Stepped P W s a W′ Step.Failed = Failed 0 P W s a Sat W′
-Stepped P W s a W′ (Step.Left s′) = Move 0 P W s a Sat W′ s′ a
-Stepped P W s a W′ (Step.Assign b) = (b .variable < variables) × Move 0 P W s a Sat W′ (b .agenda) (set a (b .variable) (Assigned (b .span)))
 
 unfoldable pub Branched : List ℕ → List ℕ → Agenda → List Entry → Question → List ℕ → Branch → Type 0
 Branched P W s a Q W′ Branch.Failed = Failed relinking P W s a Q W′

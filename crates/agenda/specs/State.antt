@@ -1,5 +1,6 @@
 -- How the goals, targets and values of a search stand in the work area.
 --   patternAt, targetAt, nextAt, argumentAt   the four fields of a goal that stands at a byte of the work area, as bytes
+--   targetBytes             the most bytes of a target
 --   Target W top n at t     the term t stands in W from byte `at` on, below `top`, and is small enough for a part of n records to meet
 --   GoalAt P W top at g     the goal g stands in W at byte `at`
 --   Easy g, Hard g          g may stand in the list of the easy goals, or of those put off
@@ -26,7 +27,7 @@ use Rattle.matching.proofs.Lists.{Predicate}
 use Rattle.matching.proofs.Goals.{Goal, Goal.match, Goal.build, All, Listable}
 use Rattle.records.specs.Parts.{Part}
 use Rattle.assignments.specs.declared.Entry.{Entry}
-use Rattle.listing.specs.Outcome.{Holds}
+use Rattle.assignments.specs.Held.{Holds}
 use Rattle.agenda.specs.declared.Agenda.{Agenda}
 
 -- a goal is eight bytes: the pattern's part as a record number, 0 or 1 for the kind of goal, and as record numbers of two bytes each its
@@ -42,6 +43,9 @@ nextAt W at = 4 * wordAt W (at + 4)
 
 abbrev pub argumentAt : List ℕ → ℕ → ℕ
 argumentAt W at = 4 * wordAt W (at + 6)
+
+abbrev pub targetBytes : ℕ
+targetBytes = 4 * valueRecords
 
 -- a target grows by at most two records, and by one loose local, for each record of the pattern that is used up
 pub record Target (W : List ℕ) (top n at : ℕ) (t : Term) : Type 0 where

@@ -1,25 +1,14 @@
-// The agenda of a search: its goals in the work area, and one step of each kind.
+// The agenda of a search: its goals in the work area.
 //
-// A goal is a part of the pattern and a target that it has to sweep to. Goals, targets and assigned values stand in the work area below `top`,
-// where nothing is changed, so that all branches of a search share them and going back costs nothing. The crate reads and writes goals, takes
-// an easy goal, tries one way of an application whose head is unknown, writes one body of a goal to build, decides or refuses goals by what is
-// known of their parts, reads a variable's value off two goals, and chooses among the goals that were put off. Each step promises that the
-// agenda it leaves has exactly the assignments of the one before, or of the alternative it is for; or that there are none; and that the work
-// area suffices. It rests on `matching` for the mathematics, on `abstractions`, `sweeping`, `skeletons` and `records` for single terms, and on
-// `listing` for how entries hold a line.
+// A goal is a part of the pattern and a target that it has to sweep to. Goals, targets and assigned values stand in the work area below
+// `top`, where nothing is changed, so that all branches of a search share them and going back costs nothing. The crate reads and writes
+// goals, and tells what their heads and locals show. Its definitions say what an agenda means, what a step may make of it, and that the
+// work area suffices; the steps themselves are the crates above it. It rests on `matching` for the mathematics, on `records` and
+// `abstractions` for single terms, and on `assignments` for how entries hold a line.
 
-pub mod alternatives;
-pub mod builds;
-pub mod ground;
-mod joining;
-mod locals;
-pub mod order;
-pub mod outlines;
-mod pairs;
-pub mod repeated;
-pub mod steps;
+pub mod heads;
+pub mod locals;
 
-use assignments::Entry;
 use assignments::Span;
 use records::RECORD;
 use records::VALUE_RECORDS;
@@ -28,7 +17,7 @@ ghost use mathlib.Core.Path.{_≡_};
 ghost use Prim.Native.Nat.{_+_, _≤_};
 ghost use lib.ListN.{length};
 ghost use lib.Seq.{sets};
-ghost use Rattle.agenda.specs.Items.{itemBytes, ItemAt, Fits};
+ghost use Rattle.agenda.specs.Items.{itemBytes, ItemAt, Fits, matchItem, buildItem};
 
 // Where a search stands in the work area: the first free byte, and where its two lists of goals begin (0: none is left). Easy goals have
 // one way to go on; the others are put off until no easy one is left.
@@ -65,8 +54,8 @@ pub struct Skeleton {
 }
 
 // What is known of an application that was put off, before its ways are gone through: how many there are, where its argument begins in the
-// pattern, whether the argument has a rigid head, its skeleton, whether the application's head lacks a local of the target, and how many binders
-// stand above each record of the target.
+// pattern, whether the argument has a rigid head, its skeleton, whether the application's head lacks a local of the target, and how many
+// binders stand above each record of the target.
 pub struct Ways {
     pub count: usize,
     pub argument: usize,
@@ -110,6 +99,35 @@ impl Item {
 
 // The bytes of a goal in the work area.
 pub const ITEM: usize = 8;
+
+// The most bytes of a target.
+pub const TARGET_BYTES: usize = RECORD * VALUE_RECORDS;
+
+// The goal that a part sweeps to a target.
+pub fn match_item(part: usize, target: usize, next: usize) -> Item
+    ensures { λ r. ⌜ r ≡ matchItem part target next ⌝ }
+{
+    Item {
+        part,
+        kind: Item::MATCH,
+        target,
+        next,
+        argument: 0,
+    }
+}
+
+// The goal that a part builds a target from an argument's target.
+pub fn build_item(part: usize, target: usize, next: usize, argument: usize) -> Item
+    ensures { λ r. ⌜ r ≡ buildItem part target next argument ⌝ }
+{
+    Item {
+        part,
+        kind: Item::BUILD,
+        target,
+        next,
+        argument,
+    }
+}
 
 // The goal at byte `at`.
 pub fn item_at(work: &[u8], at: usize) -> Item

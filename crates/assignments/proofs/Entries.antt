@@ -33,13 +33,15 @@ pub open-at : (l : List ℕ) (i c : ℕ) → c ≡ wordAt l (4 * i + 2) → c �
 unfolding entryAt
 open-at l i c e z = simp (eq-eqb _ _ (sym e ∙ z))
 
-pub assigned-at : (l : List ℕ) (i c f : ℕ) → c ≡ wordAt l (4 * i + 2) → ¬ (c ≡ 0) → f ≡ wordAt l (4 * i) → Assigned (record { first = f; count = c }) ≡ entryAt l i
+pub assigned-at : (l : List ℕ) (i c f : ℕ) → c ≡ wordAt l (4 * i + 2) → ¬ (c ≡ 0) → f ≡ wordAt l (4 * i)
+    → Assigned (record { first = f; count = c }) ≡ entryAt l i
 unfolding entryAt
 assigned-at l i c f e z g = simp (ne-eqb _ _ (λ (h : wordAt l (4 * i + 2) ≡ 0). z (e ∙ h)), ← e, ← g)
 
 pub read-more : (l : List ℕ) (a : List Entry) (i : ℕ) (x : Entry) → i < length a → x ≡ entryAt l i → Read l a i → Read l (set a i x) (i + 1)
 read-more l a i x h e r k lt =
-    ⊎-elim (λ (q : k ≡ i). rw q (getD-set-same a i x Open h ∙ e)) (λ (q : k < i). getD-set-other a i k x Open (omega arith) ∙ r k q) (eq-or-lt-of-le (omega arith))
+    ⊎-elim (λ (q : k ≡ i). rw q (getD-set-same a i x Open h ∙ e)) (λ (q : k < i). getD-set-other a i k x Open (omega arith) ∙ r k q)
+    (eq-or-lt-of-le (omega arith))
 
 pub open-span : {x : Span} → Open ≡ Assigned x → ⊥
 open-span e = let z : _≡_ {A = ℕ} 0 1 = cc in omega arith
@@ -69,28 +71,38 @@ module _ (s : List ℕ) (a : List Entry) (i : ℕ) where
         omega (arith, g .1 .within)
 
     -- the records of the span are a value's
-    pub is-value : x .count ≤ valueRecords → 4 * (x .first + x .count) ≤ length s → ValueTable (take (4 * x .count) (drop (4 * x .first) s)) → IsGiven
+    pub is-value : x .count ≤ valueRecords → 4 * (x .first + x .count) ≤ length s
+        → ValueTable (take (4 * x .count) (drop (4 * x .first) s)) → IsGiven
     is-value m w t = (t .tree, record { span = x; is = e; most = m; within = w; bytes = t .bytes; value = t .value })
 
     pub no-value : ¬ ValueTable (take (4 * x .count) (drop (4 * x .first) s)) → ¬ IsGiven
     no-value n g =
         let b = g .1 .bytes in
         n (subst (λ y. ValueTable (take (4 * y .count) (drop (4 * y .first) s))) (same-span (g .0) (g .1))
-        (record { tree = g .0; bytes = b; value = g .1 .value; most = omega (arith, g .1 .most, ap length b, encode-length (g .0), length-take (4 * g .1 .span .count) (drop (4 * g .1 .span .first) s)) }))
+        (record {
+          tree = g .0;
+          bytes = b;
+          value = g .1 .value;
+          most = omega
+              (arith, g .1 .most, ap length b, encode-length (g .0), length-take (4 * g .1 .span .count) (drop (4 * g .1 .span .first) s));
+        }))
 
     pub says-given :
-        x .count ≤ valueRecords → 4 * (x .first + x .count) ≤ length s → (l : List ℕ) (r : Bool) → l ≡ take (4 * x .count) (drop (4 * x .first) s) → Says r (ValueTable l) → Says r IsGiven
+        x .count ≤ valueRecords → 4 * (x .first + x .count) ≤ length s → (l : List ℕ) (r : Bool)
+        → l ≡ take (4 * x .count) (drop (4 * x .first) s) → Says r (ValueTable l) → Says r IsGiven
     says-given m w l true p t = is-value m w (rw p at t)
     says-given m w l false p t = no-value (rw p at t)
 
 -- what an assigned entry says of the line
-entry-span : (l : List ℕ) (i : ℕ) (x : Span) → entryAt l i ≡ Assigned x → (1 ≤ wordAt l (4 * i + 2)) × (x .first ≡ wordAt l (4 * i)) × (x .count ≡ wordAt l (4 * i + 2))
+entry-span : (l : List ℕ) (i : ℕ) (x : Span) → entryAt l i ≡ Assigned x
+    → (1 ≤ wordAt l (4 * i + 2)) × (x .first ≡ wordAt l (4 * i)) × (x .count ≡ wordAt l (4 * i + 2))
 entry-span l i x e = go (ℕ-discrete (wordAt l (4 * i + 2)) 0)
   where
     go : Dec (wordAt l (4 * i + 2) ≡ 0) → (1 ≤ wordAt l (4 * i + 2)) × (x .first ≡ wordAt l (4 * i)) × (x .count ≡ wordAt l (4 * i + 2))
     go (yes z) = absurd (open-span (open-at l i (wordAt l (4 * i + 2)) refl z ∙ e))
     go (no z) =
-        let q = span-inj (record { first = wordAt l (4 * i); count = wordAt l (4 * i + 2) }) x (assigned-at l i (wordAt l (4 * i + 2)) (wordAt l (4 * i)) refl z refl ∙ e) in
+        let q = span-inj (record { first = wordAt l (4 * i); count = wordAt l (4 * i + 2) }) x
+        (assigned-at l i (wordAt l (4 * i + 2)) (wordAt l (4 * i)) refl z refl ∙ e) in
         (omega arith, sym (ap (λ y. y .first) q), sym (ap (λ y. y .count) q))
 
 -- what the line stores is what its entries give
@@ -118,7 +130,8 @@ module _ (l s : List ℕ) (a : List Entry) (r : Read l a variables) (i : ℕ) (h
 
 -- one record
 pub variable-here : (l : List ℕ) (at i n : ℕ) → getD l at 0 ≡ 4 → n ≡ numberAt l at → Says (eqb n i) (VariableAt l at i)
-variable-here l at i n k e = by-eqb (λ b. Says b (VariableAt l at i)) n i (λ p. record { kind = k; number = sym e ∙ p }) (λ p v. p (e ∙ v .number))
+variable-here l at i n k e =
+    by-eqb (λ b. Says b (VariableAt l at i)) n i (λ p. record { kind = k; number = sym e ∙ p }) (λ p v. p (e ∙ v .number))
 
 -- passes over the records and over the variables
 module _ (l : List ℕ) (i : ℕ) where
@@ -164,7 +177,8 @@ module _ (l : List ℕ) (at : ℕ) where
 -- the variables that a table mentions
 module _ (l : List ℕ) (i : ℕ) where
   -- a variable of the part at byte `at` is one of its records
-  occurs-at : (t : Term) (at : ℕ) → Part l at t → Occurs i t → (k : ℕ) × (k < size t) × ((q : ℕ) → q ≡ at + 4 * k → (getD l q 0 ≡ 4) × (numberAt l q ≡ i))
+  occurs-at : (t : Term) (at : ℕ) → Part l at t → Occurs i t
+      → (k : ℕ) × (k < size t) × ((q : ℕ) → q ≡ at + 4 * k → (getD l q 0 ≡ 4) × (numberAt l q ≡ i))
   occurs-at (app f a) at x (inl o) =
       let r = occurs-at f (at + 4) (head-part l at f a x) o in
       (suc (r .0), omega (arith, r .1), λ q e. r .2 q (omega arith))
@@ -184,10 +198,12 @@ module _ (l : List ℕ) (i : ℕ) where
 
   at-occurs : (t : Term) (at k q : ℕ) → Part l at t → q ≡ at + 4 * k → k < size t → getD l q 0 ≡ 4 → numberAt l q ≡ i → Occurs i t
   at-occurs (app f a) at zero q x e h p n = absurd (other-kind 0 at q (kind-at l at (app f a) x) (omega arith) (λ z. omega arith) p)
-  at-occurs (app f a) at (suc k) q x e h p n = go (decLt k (size f)) (at-occurs f (at + 4) k q (head-part l at f a x) (omega arith)) (at-occurs a (at + 4 + 4 * size f) (k - size f) q (argument-part l at f a x))
+  at-occurs (app f a) at (suc k) q x e h p n = go (decLt k (size f)) (at-occurs f (at + 4) k q (head-part l at f a x) (omega arith))
+      (at-occurs a (at + 4 + 4 * size f) (k - size f) q (argument-part l at f a x))
     where
       go : Dec (k < size f) → (k < size f → getD l q 0 ≡ 4 → numberAt l q ≡ i → Occurs i f)
-          → (q ≡ at + 4 + 4 * size f + 4 * (k - size f) → k - size f < size a → getD l q 0 ≡ 4 → numberAt l q ≡ i → Occurs i a) → Occurs i f ⊎ Occurs i a
+          → (q ≡ at + 4 + 4 * size f + 4 * (k - size f) → k - size f < size a → getD l q 0 ≡ 4 → numberAt l q ≡ i → Occurs i a)
+          → Occurs i f ⊎ Occurs i a
       go (yes d) left right = inl (left d p n)
       go (no d) left right = inr (right (omega arith) (omega arith) p n)
   at-occurs (lam b) at zero q x e h p n = absurd (other-kind 1 at q (kind-at l at (lam b) x) (omega arith) (λ z. omega arith) p)
@@ -203,4 +219,5 @@ module _ (l : List ℕ) (i : ℕ) where
       record { index = r .0; within = omega (arith, r .1, ap length e, encode-length t); is = record { kind = m .0; number = m .1 } }
 
   pub mentions-occurs : (t : Term) → l ≡ encode t → Mentions l i → Occurs i t
-  mentions-occurs t e m = at-occurs t 0 (m .index) (4 * m .index) (at-start l t e) (omega arith) (omega (arith, m .within, ap length e, encode-length t)) (m .is .kind) (m .is .number)
+  mentions-occurs t e m = at-occurs t 0 (m .index) (4 * m .index) (at-start l t e) (omega arith)
+      (omega (arith, m .within, ap length e, encode-length t)) (m .is .kind) (m .is .number)

@@ -1,8 +1,8 @@
 // Assignments as the operations are lent them: one line and a value table.
 //
-// An entry is open, or assigned a run of records of the value table; eight of them, by value, are an assignment. The crate reads them from a
-// line and tells whether each variable of a pattern has a value. It promises that an entry is what the line's bytes say, and that a value is
-// found exactly if document 01's cause 11 doesn't hold. It rests on `records`.
+// An entry is open, or assigned a run of records of the value table; eight of them, by value, are an assignment. The crate reads them from
+// a line and tells whether each variable of a pattern has a value. It promises that an entry is what the line's bytes say, and that a value
+// is found exactly if document 01's cause 11 doesn't hold. It rests on `records`.
 
 use records::Kind;
 use records::RECORD;
@@ -15,6 +15,9 @@ ghost use Rattle.terms.specs.Figures.{variables};
 ghost use Rattle.terms.specs.Term.{Term};
 ghost use Rattle.records.specs.Tests.{Says};
 ghost use Rattle.assignments.specs.Entries.{entryAt, Read, Given, VariableAt, Mentions, Lacking, AllGiven};
+
+// The bytes of one line, a record for each variable.
+pub const LINE: usize = RECORD * VARIABLES;
 
 // A run of records of a value table.
 pub struct Span {
@@ -45,11 +48,11 @@ pub fn entry_at(line: &[u8], i: usize) -> Entry
 }
 
 // The entries of a line.
-pub fn entries_of(line: &[u8]) -> [Entry; 8]
+pub fn entries_of(line: &[u8]) -> [Entry; VARIABLES]
     requires { ⌜ length (now line) ≡ 4 * variables ⌝ }
     ensures { λ r. ⌜ Read (now (line .entry)) r variables ⌝ }
 {
-    let mut a = [Entry::Open; 8];
+    let mut a = [Entry::Open; VARIABLES];
     let mut i = 0;
     while i < VARIABLES {
         let e = entry_at(line, i);
@@ -70,7 +73,7 @@ pub fn value_of(values: &[u8], span: Span) -> &[u8]
 }
 
 // Whether variable i is assigned a value.
-fn is_given(values: &[u8], a: [Entry; 8], i: usize) -> bool
+fn is_given(values: &[u8], a: [Entry; VARIABLES], i: usize) -> bool
     requires { ⌜ i < variables ⌝ }
     ensures { λ r. ⌜ Says r ((v : Term) × Given (now (values .entry)) a i v) ⌝ }
 {
@@ -118,7 +121,7 @@ fn mentions(s: &[u8], i: usize) -> bool
 }
 
 // Whether the variable i of s has no value.
-fn lacks(s: &[u8], values: &[u8], a: [Entry; 8], i: usize) -> bool
+fn lacks(s: &[u8], values: &[u8], a: [Entry; VARIABLES], i: usize) -> bool
     requires { ⌜ i < variables ⌝ }
     ensures { λ r. ⌜ Lacking (now (s .entry)) (now (values .entry)) a i r ⌝ }
 {
@@ -129,7 +132,7 @@ fn lacks(s: &[u8], values: &[u8], a: [Entry; 8], i: usize) -> bool
 }
 
 // Whether each variable of s is assigned a value; entries of other variables are not read.
-pub fn all_given(s: &[u8], values: &[u8], a: [Entry; 8]) -> bool
+pub fn all_given(s: &[u8], values: &[u8], a: [Entry; VARIABLES]) -> bool
     ensures { λ r. ⌜ AllGiven (now (s .entry)) (now (values .entry)) a r ⌝ }
 {
     let mut i = 0;

@@ -20,7 +20,8 @@ module _ (l : List ℕ) where
   kind-of t e = kind-at l 0 t (at-start l t e)
 
   -- the head of an application
-  pub constant-head : getD l 0 0 ≡ 0 → (m : List ℕ) → ((f a : Term) → l ≡ encode (app f a) → m ≡ encode f) → (r : Bool) → Equals m constantHead r → Equals l constantHead r
+  pub constant-head : getD l 0 0 ≡ 0 → (m : List ℕ) → ((f a : Term) → l ≡ encode (app f a) → m ≡ encode f) → (r : Bool)
+      → Equals m constantHead r → Equals l constantHead r
   constant-head z m head r h t e = let v = application-of l t e z in rw (v .is) (h (v .f) (head (v .f) (v .a) (v .bytes)))
 
   pub constant-leaf : ¬ (getD l 0 0 ≡ 0) → Equals l constantHead (eqb (getD l 0 0) 3)
@@ -56,20 +57,23 @@ module _ (l : List ℕ) where
     guarded-leaf n o b h (con i) e = ap not (h (con i) e)
     guarded-leaf n o b h (var i) e = ap not (h (var i) e)
 
-    pub guarded-body : getD l 0 0 ≡ 1 → (m : List ℕ) → ((b : Term) → l ≡ encode (lam b) → m ≡ encode b) → (r : Bool) → Equals m (guarded (k + 1)) r → Equals l (guarded k) r
+    pub guarded-body : getD l 0 0 ≡ 1 → (m : List ℕ) → ((b : Term) → l ≡ encode (lam b) → m ≡ encode b) → (r : Bool)
+        → Equals m (guarded (k + 1)) r → Equals l (guarded k) r
     guarded-body z m body r h t e =
         let v = abstraction-of l t e z in
         let j : suc k ≡ k + 1 = omega arith in
         rw (v .is) (h (v .b) (body (v .b) (v .bytes)) ∙ ap (λ (i : ℕ). guarded i (v .b)) (sym j))
 
     -- an application
-    module _ (z : getD l 0 0 ≡ 0) (m : List ℕ) (head : (f a : Term) → l ≡ encode (app f a) → m ≡ encode f) (g : Bool) (x : Equals m (guarded k) g) where
+    module _ (z : getD l 0 0 ≡ 0) (m : List ℕ) (head : (f a : Term) → l ≡ encode (app f a) → m ≡ encode f) (g : Bool)
+        (x : Equals m (guarded k) g) where
       pub guarded-stop : g ≡ false → Equals l (guarded k) false
       guarded-stop q t e =
           let v = application-of l t e z in
           rw (v .is, sym (x (v .f) (head (v .f) (v .a) (v .bytes))) ∙ q)
 
-      module _ (q : g ≡ true) (n : List ℕ) (argument : (f a : Term) → l ≡ encode (app f a) → n ≡ encode a) (b : Bool) (y : Equals n (isLocal k) b) where
+      module _ (q : g ≡ true) (n : List ℕ) (argument : (f a : Term) → l ≡ encode (app f a) → n ≡ encode a) (b : Bool)
+          (y : Equals n (isLocal k) b) where
         pub guarded-constant : b ≡ true → (c : Bool) → Equals m constantHead c → Equals l (guarded k) c
         guarded-constant o c w t e =
             let v = application-of l t e z in

@@ -22,12 +22,13 @@ use Rattle.sweeping.specs.declared.Length.{Length}
 use Rattle.sweeping.specs.declared.Length.the-variants.{Records, TooLong}
 use Rattle.sweeping.specs.Swept.{Applied}
 use Rattle.sweeping.specs.Writers.{replace, Wrote, Used}
-use Rattle.sweeping.proofs.Stores.{stored, written-then}
+use Rattle.copying.proofs.Stores.{stored, written-then}
 use Rattle.sweeping.proofs.Contraction.{table-length, application-bytes, redex-size, redex-bytes}
 use Rattle.contraction.specs.Reduced.{patternBytes, Reduced, Contracts, Joins, Applicable, Applies, Reducible, Reduces}
 
 -- the two answers
-pub reduced : (t : Term) (out after : List ℕ) (n : ℕ) → 4 * n ≡ 4 * size t → n ≤ patternRecords → after ≡ sets out 0 (encode t) → Reduced t out (Records n) after
+pub reduced : (t : Term) (out after : List ℕ) (n : ℕ) → 4 * n ≡ 4 * size t → n ≤ patternRecords → after ≡ sets out 0 (encode t)
+    → Reduced t out (Records n) after
 unfolding Reduced
 reduced t out after n e h b = (omega arith, h, b)
 
@@ -37,7 +38,8 @@ too-long t out after = tt
 
 -- an application as it is
 pub joined :
-    (f a out p q r : List ℕ) → 4 + length f + length a ≤ patternBytes → p ≡ sets out 0 (bytes 0 0 []) → q ≡ sets p 4 f → r ≡ sets q (4 + length f) a → Joins f a out (Records ((4 + length f + length a) / 4)) r
+    (f a out p q r : List ℕ) → 4 + length f + length a ≤ patternBytes → p ≡ sets out 0 (bytes 0 0 []) → q ≡ sets p 4 f
+    → r ≡ sets q (4 + length f) a → Joins f a out (Records ((4 + length f + length a) / 4)) r
 joined f a out p q r h u v w x y e g =
     reduced (app x y) out r ((4 + length f + length a) / 4) (omega (arith, table-length f x e, table-length a y g)) (omega arith)
     (application-bytes f a out p q r u v w x y e g)
@@ -45,7 +47,9 @@ joined f a out p q r h u v w x y e g =
 -- an application whose head is an abstraction, contracted
 module _ (f a : List ℕ) (z : getD f 0 0 ≡ 1) (next n : ℕ) (u : Used f 4 0 next n) where
   pub contracted :
-      (out after : List ℕ) (to end : ℕ) → length f - 4 + n * (length a - 4) ≤ patternBytes → ((t : Term) → a ≡ encode t → Wrote (replace t) f 4 0 out 0 after to end) → Contracts f a out (Records ((length f - 4 + n * (length a - 4)) / 4)) after
+      (out after : List ℕ) (to end : ℕ) → length f - 4 + n * (length a - 4) ≤ patternBytes
+      → ((t : Term) → a ≡ encode t → Wrote (replace t) f 4 0 out 0 after to end)
+      → Contracts f a out (Records ((length f - 4 + n * (length a - 4)) / 4)) after
   contracted out after to end m w x y e g =
       let s = redex-size f a z next n u x y e g in
       reduced (contract (app x y)) out after ((length f - 4 + n * (length a - 4)) / 4) (omega arith) (omega arith)
@@ -67,7 +71,8 @@ module _ (f a out : List ℕ) (r : Length) (after : List ℕ) where
   applies-other n w x y e g = rw (no-redex n x y e) (w x y e g)
 
   module _ (z : getD f 0 0 ≡ 1) (t : Bool) (test : (y : Term) → Part a 0 y → t ≡ rigid y) where
-    contracts : Contracts f a out r after → (x y : Term) (e : f ≡ encode x) → a ≡ encode y → isPassed y (abstraction-of f x e z .b) ≡ true → Reduced (applied x y) out r after
+    contracts : Contracts f a out r after → (x y : Term) (e : f ≡ encode x) → a ≡ encode y → isPassed y (abstraction-of f x e z .b) ≡ true
+        → Reduced (applied x y) out r after
     contracts w x y e g k =
         let v = abstraction-of f x e z in
         let i : applied x y ≡ contract (app x y) = rw (v .is, k) in
@@ -78,7 +83,8 @@ module _ (f a out : List ℕ) (r : Length) (after : List ℕ) where
         let k : rigid y ≡ true = sym (test y (at-start a y g)) ∙ o in
         contracts w x y e g (ap (λ (i : Bool). i || guarded 0 (abstraction-of f x e z .b)) k)
 
-    module _ (o : t ≡ false) (m : List ℕ) (body : (b : Term) → f ≡ encode (lam b) → m ≡ encode b) (u : Bool) (guard : Equals m (guarded 0) u) where
+    module _ (o : t ≡ false) (m : List ℕ) (body : (b : Term) → f ≡ encode (lam b) → m ≡ encode b) (u : Bool)
+        (guard : Equals m (guarded 0) u) where
       not-rigid : (x y : Term) (e : f ≡ encode x) → a ≡ encode y → isPassed y (abstraction-of f x e z .b) ≡ u
       not-rigid x y e g =
           let v = abstraction-of f x e z in
@@ -97,7 +103,14 @@ module _ (f a out : List ℕ) (r : Length) (after : List ℕ) where
 -- the parts of what is reducible
 module _ (l m : List ℕ) (x : Reducible l) where
   part : (t : Term) (d : ℕ) → m ≡ encode t → d + size t + sweptRecords ≤ numbers → Closed d t → Reducible m
-  part t d e h c = record { tree = t; bytes = e; least = omega (arith, table-length m t e, size-some t); depth = d; shallow = h; closed = c }
+  part t d e h c = record {
+    tree = t;
+    bytes = e;
+    least = omega (arith, table-length m t e, size-some t);
+    depth = d;
+    shallow = h;
+    closed = c;
+  }
 
   pub reducible-head : getD l 0 0 ≡ 0 → ((f a : Term) → l ≡ encode (app f a) → m ≡ encode f) → Reducible m
   reducible-head z h =
@@ -167,7 +180,10 @@ module _ (m out p : List ℕ) (r : Length) (n : ℕ) (w : Reduces m out r p) (e 
   result-fills x = results (x .tree) (x .bytes) .fills
 
 -- an application
-module _ (l : List ℕ) (z : getD l 0 0 ≡ 0) (m j : List ℕ) (head : (f a : Term) → l ≡ encode (app f a) → m ≡ encode f) (argument : (f a : Term) → l ≡ encode (app f a) → j ≡ encode a) (u p : List ℕ) (r : Length) (w : Reduces m u r p) (c b : List ℕ) (o : Length) (y : Reduces j c o b) (n k : ℕ) (e : r ≡ Records n) (d : o ≡ Records k) (h : length u ≡ patternBytes) (i : length c ≡ patternBytes) where
+module _ (l : List ℕ) (z : getD l 0 0 ≡ 0) (m j : List ℕ) (head : (f a : Term) → l ≡ encode (app f a) → m ≡ encode f)
+    (argument : (f a : Term) → l ≡ encode (app f a) → j ≡ encode a) (u p : List ℕ) (r : Length) (w : Reduces m u r p) (c b : List ℕ)
+    (o : Length) (y : Reduces j c o b) (n k : ℕ) (e : r ≡ Records n) (d : o ≡ Records k) (h : length u ≡ patternBytes)
+    (i : length c ≡ patternBytes) where
   both : (t : Term) (q : l ≡ encode t) → Result (reduct (application-of l t q z .f)) p n × Result (reduct (application-of l t q z .a)) b k
   both t q =
       let v = application-of l t q z in
@@ -181,7 +197,8 @@ module _ (l : List ℕ) (z : getD l 0 0 ≡ 0) (m j : List ℕ) (head : (f a : T
       let c : Closed (x .depth) (app (v .f) (v .a)) = subst (Closed (x .depth)) (v .is) (x .closed) in
       record {
         head = whole (take (n * 4 - 0) (drop 0 p)) 0 (reduct (v .f)) (at-start (take (n * 4 - 0) (drop 0 p)) (reduct (v .f)) (f .bytes));
-        argument = whole (take (k * 4 - 0) (drop 0 b)) 0 (reduct (v .a)) (at-start (take (k * 4 - 0) (drop 0 b)) (reduct (v .a)) (g .bytes));
+        argument =
+            whole (take (k * 4 - 0) (drop 0 b)) 0 (reduct (v .a)) (at-start (take (k * 4 - 0) (drop 0 b)) (reduct (v .a)) (g .bytes));
         head-most = omega (arith, f .fills, f .few);
         argument-most = omega (arith, g .fills, g .few);
         redex = λ s.
@@ -204,21 +221,26 @@ module _ (l : List ℕ) (z : getD l 0 0 ≡ 0) (m j : List ℕ) (head : (f a : T
       }
 
   pub reduces-application :
-      (out : List ℕ) (q : Length) (after : List ℕ) → Applies (take (n * 4 - 0) (drop 0 p)) (take (k * 4 - 0) (drop 0 b)) out q after → Reduces l out q after
+      (out : List ℕ) (q : Length) (after : List ℕ) → Applies (take (n * 4 - 0) (drop 0 p)) (take (k * 4 - 0) (drop 0 b)) out q after
+      → Reduces l out q after
   reduces-application out q after x t g =
       let v = application-of l t g z in
       rw (v .is) (x (reduct (v .f)) (reduct (v .a)) (both t g .0 .bytes) (both t g .1 .bytes))
 
 -- an abstraction
 pub reduces-abstraction :
-    (l : List ℕ) → getD l 0 0 ≡ 1 → (m : List ℕ) → ((b : Term) → l ≡ encode (lam b) → m ≡ encode b) → (u p : List ℕ) (r : Length) → Reduces m u r p → (n : ℕ) → r ≡ Records n → length u ≡ patternBytes → ¬ (n * 4 ≡ patternBytes) → (out q after : List ℕ) → q ≡ sets out 0 (bytes 1 0 []) → after ≡ sets q 4 (take (n * 4 - 0) (drop 0 p)) → Reduces l out (Records (n * 4 / 4 + 1)) after
+    (l : List ℕ) → getD l 0 0 ≡ 1 → (m : List ℕ) → ((b : Term) → l ≡ encode (lam b) → m ≡ encode b) → (u p : List ℕ) (r : Length)
+    → Reduces m u r p → (n : ℕ) → r ≡ Records n → length u ≡ patternBytes → ¬ (n * 4 ≡ patternBytes) → (out q after : List ℕ)
+    → q ≡ sets out 0 (bytes 1 0 []) → after ≡ sets q 4 (take (n * 4 - 0) (drop 0 p)) → Reduces l out (Records (n * 4 / 4 + 1)) after
 reduces-abstraction l z m body u p r w n e h k out q after b c t g =
     let v = abstraction-of l t g z in
     let x = results m u p r n w e h (v .b) (body (v .b) (v .bytes)) in
-    let y : length (take (n * 4 - 0) (drop 0 p)) ≡ 4 * size (reduct (v .b)) = table-length (take (n * 4 - 0) (drop 0 p)) (reduct (v .b)) (x .bytes) in
+    let y : length (take (n * 4 - 0) (drop 0 p)) ≡ 4 * size (reduct (v .b)) =
+    table-length (take (n * 4 - 0) (drop 0 p)) (reduct (v .b)) (x .bytes) in
     rw (v .is)
     (reduced (lam (reduct (v .b))) out after (n * 4 / 4 + 1) (omega (arith, x .fills)) (omega (arith, x .few))
-    (written-then (bytes 1 0 []) (take (n * 4 - 0) (drop 0 p)) out q after 0 4 b c refl ∙ ap (λ (s : List ℕ). sets out 0 (bytes 1 0 s)) (x .bytes)))
+    (written-then (bytes 1 0 []) (take (n * 4 - 0) (drop 0 p)) out q after 0 4 b c refl
+    ∙ ap (λ (s : List ℕ). sets out 0 (bytes 1 0 s)) (x .bytes)))
 
 -- a leaf
 module _ (l : List ℕ) (n : ¬ (getD l 0 0 ≡ 0)) (m : ¬ (getD l 0 0 ≡ 1)) where

@@ -1,7 +1,8 @@
 -- What writing the reduct of a pattern needs, and what it leaves. Of what is said to be too long nothing is promised: the pattern itself is
 -- then searched.
 --   patternBytes              the bytes of a pattern of 32 records
---   Reduced t out r after     the table of t, which has at most 32 records, was written into out from byte 0 on; or it is said to be too long
+--   Reduced t out r after     the table of t, which has at most 32 records, was written into out from byte 0 on;
+--                             or it is said to be too long
 --   Contracts f a out r after what contracting the application of an abstraction leaves
 --   Joins f a out r after     what writing an application as it is leaves
 --   Applicable f a            reducts of a head and an argument, as tables

@@ -1,5 +1,5 @@
-// Locals that stand only as arguments of constants. The sweep leaves `@ k3 #0` as it is, whatever the local becomes, so that a redex whose local
-// stands only so can be contracted beforehand with any argument.
+// Locals that stand only as arguments of constants. The sweep leaves `@ k3 #0` as it is, whatever the local becomes, so that a redex whose
+// local stands only so can be contracted beforehand with any argument.
 
 use records::Kind;
 ghost use Prim.Native.Nat.{_+_, _≤_};

@@ -1,10 +1,11 @@
-// The reduct of a pattern: its redexes contracted where the argument is rigid, or where the local stands only as the argument of a constant.
+// The reduct of a pattern: its redexes contracted where the argument is rigid,
+// or where the local stands only as the argument of a constant.
 //
-// Such redexes make the search exponential, and they needn't wait for the sweep: a rigid argument never sweeps to an abstraction, and below a
-// constant an abstraction meets no argument, so that the reduct has the pattern's own listing, as `matching` shows. The crate goes bottom-up
-// through the parts of a table and writes the reduct of each into an array of its own. It promises that what it writes is the table of the
-// reduct, and says "too long" where that of some part is above 32 records. It rests on `records` for single records and parts, on
-// `abstractions` for the test of an argument, and on `sweeping` for the substitution.
+// Such redexes make the search exponential, and they needn't wait for the sweep: a rigid argument never sweeps to an abstraction, and below
+// a constant an abstraction meets no argument, so that the reduct has the pattern's own listing, as `matching` shows. The crate goes
+// bottom-up through the parts of a table and writes the reduct of each into an array of its own. It promises that what it writes is the
+// table of the reduct, and says "too long" where that of some part is above 32 records. It rests on `records` for single records and parts,
+// on `abstractions` for the test of an argument, and on `sweeping` for the substitution.
 
 mod guards;
 
@@ -45,8 +46,8 @@ fn join(f: &[u8], a: &[u8], out: &mut [u8; PATTERN_BYTES]) -> Length
         return Length::TooLong;
     }
     records::put_record(out, 0, Kind::APPLICATION, 0);
-    sweeping::copy_into(f, out, RECORD);
-    sweeping::copy_into(a, out, RECORD + f.len());
+    copying::copy_into(f, out, RECORD);
+    copying::copy_into(a, out, RECORD + f.len());
     Length::Records(n / RECORD)
 }
 
@@ -102,7 +103,7 @@ fn reduce_abstraction(s: &[u8], out: &mut [u8; PATTERN_BYTES]) -> Length
         return Length::TooLong;
     }
     records::put_record(out, 0, Kind::ABSTRACTION, 0);
-    sweeping::copy_into(&body[0..n], out, RECORD);
+    copying::copy_into(&body[0..n], out, RECORD);
     Length::Records(n / RECORD + 1)
 }
 
@@ -118,6 +119,6 @@ pub fn reduce(s: &[u8], out: &mut [u8; PATTERN_BYTES]) -> Length
     if kind == Kind::ABSTRACTION.code {
         return reduce_abstraction(s, out);
     }
-    sweeping::copy_into(s, out, 0);
+    copying::copy_into(s, out, 0);
     Length::Records(1)
 }

@@ -1,5 +1,5 @@
--- The number of an answer fits 64 bits, so that it is handed on as it is: a count of lines or records is bounded by the largest table, and a
--- refusal's number is one of fourteen. Assumes nothing.
+-- The number of an answer fits 64 bits, so that it is handed on as it is: a count of lines or records is bounded by the largest table, and
+-- a refusal's number is one of fourteen. Assumes nothing.
 use mathlib.Core.Path.{_≡_, ap, _∙_, subst}
 use mathlib.Core.List.{List, [], _∷_, _++_}
 use mathlib.Core.Logic.{inl}
@@ -17,15 +17,18 @@ use Rattle.terms.specs.Figures.{sweptRecords, tableBytes}
 use Rattle.terms.specs.Term.{Term, app, lam, loc, con, var, size}
 use Rattle.terms.specs.Sweep.{sweep, largest}
 use Rattle.terms.specs.Refusal.{Row, Passed, swept, output, unmatched}
-use Rattle.matcher.specs.declared.Refusal.{Refusal}
+use Rattle.refusals.specs.declared.Refusal.{Refusal}
+use Rattle.refusals.specs.Judged.{number}
+use Rattle.rewriting.specs.declared.SweepAnswer.{SweepAnswer}
+use Rattle.rewriting.specs.declared.RewriteAnswer.{RewriteAnswer}
+use Rattle.rewriting.specs.Operations.{lentForSweep, lentForRewrite, Written, Swept, Rewritten}
 use Rattle.matcher.specs.declared.ListAnswer.{ListAnswer}
-use Rattle.matcher.specs.declared.SweepAnswer.{SweepAnswer}
-use Rattle.matcher.specs.declared.RewriteAnswer.{RewriteAnswer}
-use Rattle.matcher.specs.Operations.{number, lentForList, lentForSweep, lentForRewrite, Written, WrittenLines, Listed, Swept, Rewritten}
+use Rattle.matcher.specs.Operations.{lentForList, WrittenLines, Listed}
 use Rattle.exports.specs.Answers.{refusalCode}
 
 -- a line table has at most 2,048 lines
-pub listed-few : (p r l s w : List ℕ) (a : ListAnswer) (m q : List ℕ) → Listed p r l s w a m q → (n : ℕ) → a ≡ ListAnswer.Lines n → n ≤ tableBytes
+pub listed-few : (p r l s w : List ℕ) (a : ListAnswer) (m q : List ℕ) → Listed p r l s w a m q → (n : ℕ)
+    → a ≡ ListAnswer.Lines n → n ≤ tableBytes
 unfolding Listed
 listed-few p r l s w a m q x n e = few (subst (λ (b : ListAnswer). Listed p r l s w b m q) e x)
   where
@@ -59,18 +62,22 @@ written-few p l s o n after h w = go (decLt sweptRecords (largest (w .term)))
     go (yes d) = absurd (h .0 (w .term, w .filled, d))
     go (no d) = omega (arith, w .records, sweep-largest (w .term))
 
-pub swept-few : (p l s o w : List ℕ) (a : SweepAnswer) (after : List ℕ) → Swept p l s o w a after → (n : ℕ) → a ≡ SweepAnswer.Records n → n ≤ tableBytes
+pub swept-few : (p l s o w : List ℕ) (a : SweepAnswer) (after : List ℕ) → Swept p l s o w a after → (n : ℕ)
+    → a ≡ SweepAnswer.Records n → n ≤ tableBytes
 unfolding Swept
 swept-few p l s o w a after x n e =
     let y = subst (λ (b : SweepAnswer). Swept p l s o w b after) e x in
-    written-few p l s o n after (passed-first (swept p l s) (output p l s o) (passed-later (lentForSweep p l s o w) (swept p l s ++ output p l s o) (y .0))) (y .1)
+    written-few p l s o n after
+    (passed-first (swept p l s) (output p l s o) (passed-later (lentForSweep p l s o w) (swept p l s ++ output p l s o) (y .0))) (y .1)
 
-pub rewritten-few : (p q r l s o w : List ℕ) (a : RewriteAnswer) (after : List ℕ) → Rewritten p q r l s o w a after → (n : ℕ) → a ≡ RewriteAnswer.Records n → n ≤ tableBytes
+pub rewritten-few : (p q r l s o w : List ℕ) (a : RewriteAnswer) (after : List ℕ) → Rewritten p q r l s o w a after → (n : ℕ)
+    → a ≡ RewriteAnswer.Records n → n ≤ tableBytes
 unfolding Rewritten
 rewritten-few p q r l s o w a after x n e =
     let y = subst (λ (b : RewriteAnswer). Rewritten p q r l s o w b after) e x in
     let z = passed-later (lentForRewrite p q r l s o w) (swept p l s ++ (unmatched p l s r ++ (swept q l s ++ output q l s o))) (y .0) in
-    let u = passed-later (unmatched p l s r) (swept q l s ++ output q l s o) (passed-later (swept p l s) (unmatched p l s r ++ (swept q l s ++ output q l s o)) z) in
+    let u = passed-later (unmatched p l s r) (swept q l s ++ output q l s o)
+    (passed-later (swept p l s) (unmatched p l s r ++ (swept q l s ++ output q l s o)) z) in
     written-few q l s o n after (passed-first (swept q l s) (output q l s o) u) (y .1)
 
 -- the numbers of answers fit

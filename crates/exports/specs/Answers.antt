@@ -6,12 +6,14 @@ use mathlib.Core.Path.{_≡_}
 use mathlib.Core.List.{List}
 use Prim.Native.Nat.{ℕ}
 use lib.IntN.{ℤ, pos, negℤ}
-use Rattle.matcher.specs.declared.Refusal.{Refusal}
+use Rattle.refusals.specs.declared.Refusal.{Refusal}
+use Rattle.refusals.specs.Judged.{number}
+use Rattle.rewriting.specs.declared.CheckAnswer.{CheckAnswer}
+use Rattle.rewriting.specs.declared.SweepAnswer.{SweepAnswer}
+use Rattle.rewriting.specs.declared.RewriteAnswer.{RewriteAnswer}
+use Rattle.rewriting.specs.Operations.{Checked, Swept, Rewritten}
 use Rattle.matcher.specs.declared.ListAnswer.{ListAnswer}
-use Rattle.matcher.specs.declared.CheckAnswer.{CheckAnswer}
-use Rattle.matcher.specs.declared.SweepAnswer.{SweepAnswer}
-use Rattle.matcher.specs.declared.RewriteAnswer.{RewriteAnswer}
-use Rattle.matcher.specs.Operations.{number, Listed, Checked, Swept, Rewritten}
+use Rattle.matcher.specs.Operations.{Listed}
 
 abbrev pub refusalCode : Refusal → ℤ
 refusalCode c = negℤ (pos (number c))

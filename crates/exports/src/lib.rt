@@ -1,24 +1,24 @@
 // The operations for C and Rust: each table as a pointer and a length, the answer as one number.
 //
-// `include/onestep.h` documents the four functions. Each calls its operation of `matcher` and gives the number of the answer: lines or records
-// written, 1 or 0 for yes or no, or minus document 01's number of a refusal. The crate promises that the number is that of an answer which the
-// operation may give on these tables, and that the tables and the work area are left as the operation leaves them. It rests on `matcher`; the
-// static library is built from it.
+// `include/onestep.h` documents the four functions. Each calls its operation and gives the number of the answer: lines or records written,
+// 1 or 0 for yes or no, or minus document 01's number of a refusal. The crate promises that the number is that of an answer which the
+// operation may give on these tables, and that the tables and the work area are left as the operation leaves them. It rests on `matcher`
+// and `rewriting`; the static library is built from it.
 
-use matcher::CheckAnswer;
 use matcher::ListAnswer;
-use matcher::Refusal;
-use matcher::RewriteAnswer;
-use matcher::SweepAnswer;
+use refusals::Refusal;
+use rewriting::CheckAnswer;
+use rewriting::RewriteAnswer;
+use rewriting::SweepAnswer;
 ghost use mathlib.Core.Path.{_≡_};
-ghost use Rattle.matcher.specs.Operations.{cleared};
+ghost use Rattle.refusals.specs.Lent.{cleared};
 ghost use Rattle.exports.specs.Answers.{refusalCode, ListedAs, CheckedAs, SweptAs, RewrittenAs};
 
 // Minus document 01's number of a refusal.
 fn refusal_code(c: Refusal) -> i64
     ensures { λ r. ⌜ r ≡ refusalCode c ⌝ }
 {
-    let number = matcher::number_of(c) as i64;
+    let number = refusals::number_of(c) as i64;
     -number
 }
 
@@ -30,7 +30,8 @@ pub extern "C" fn onestep_list(
     values: &mut [u8],
     work: &mut [u8],
 ) -> i64
-    ensures answer { λ r. ⌜ ListedAs (now (pattern .entry)) (now (recipe .entry)) (now (lines .entry)) (now (values .entry)) (now (work .entry)) r (now (lines .exit)) (now (values .exit)) ⌝ }
+    ensures answer { λ r. ⌜ ListedAs (now (pattern .entry)) (now (recipe .entry)) (now (lines .entry)) (now (values .entry))
+        (now (work .entry)) r (now (lines .exit)) (now (values .exit)) ⌝ }
     ensures area { λ _. ⌜ now (work .exit) ≡ cleared (now (work .entry)) ⌝ }
 {
     let answer = matcher::list(pattern, recipe, lines, values, work);
@@ -48,10 +49,11 @@ pub extern "C" fn onestep_check(
     values: &[u8],
     work: &mut [u8],
 ) -> i64
-    ensures answer { λ r. ⌜ CheckedAs (now (pattern .entry)) (now (recipe .entry)) (now (line .entry)) (now (values .entry)) (now (work .entry)) r ⌝ }
+    ensures answer { λ r. ⌜ CheckedAs (now (pattern .entry)) (now (recipe .entry)) (now (line .entry)) (now (values .entry))
+        (now (work .entry)) r ⌝ }
     ensures area { λ _. ⌜ now (work .exit) ≡ cleared (now (work .entry)) ⌝ }
 {
-    let answer = matcher::check(pattern, recipe, line, values, work);
+    let answer = rewriting::check(pattern, recipe, line, values, work);
     match answer {
         CheckAnswer::Yes => 1,
         CheckAnswer::No => 0,
@@ -67,10 +69,11 @@ pub extern "C" fn onestep_sweep(
     out: &mut [u8],
     work: &mut [u8],
 ) -> i64
-    ensures answer { λ r. ⌜ SweptAs (now (pattern .entry)) (now (line .entry)) (now (values .entry)) (now (out .entry)) (now (work .entry)) r (now (out .exit)) ⌝ }
+    ensures answer { λ r. ⌜ SweptAs (now (pattern .entry)) (now (line .entry)) (now (values .entry)) (now (out .entry)) (now (work .entry))
+        r (now (out .exit)) ⌝ }
     ensures area { λ _. ⌜ now (work .exit) ≡ cleared (now (work .entry)) ⌝ }
 {
-    let answer = matcher::sweep(pattern, line, values, out, work);
+    let answer = rewriting::sweep(pattern, line, values, out, work);
     match answer {
         SweepAnswer::Records(n) => n as i64,
         SweepAnswer::Refused(c) => refusal_code(c),
@@ -87,10 +90,11 @@ pub extern "C" fn onestep_rewrite(
     out: &mut [u8],
     work: &mut [u8],
 ) -> i64
-    ensures answer { λ r. ⌜ RewrittenAs (now (left .entry)) (now (right .entry)) (now (recipe .entry)) (now (line .entry)) (now (values .entry)) (now (out .entry)) (now (work .entry)) r (now (out .exit)) ⌝ }
+    ensures answer { λ r. ⌜ RewrittenAs (now (left .entry)) (now (right .entry)) (now (recipe .entry)) (now (line .entry))
+        (now (values .entry)) (now (out .entry)) (now (work .entry)) r (now (out .exit)) ⌝ }
     ensures area { λ _. ⌜ now (work .exit) ≡ cleared (now (work .entry)) ⌝ }
 {
-    let answer = matcher::rewrite(left, right, recipe, line, values, out, work);
+    let answer = rewriting::rewrite(left, right, recipe, line, values, out, work);
     match answer {
         RewriteAnswer::Records(n) => n as i64,
         RewriteAnswer::Refused(c) => refusal_code(c),

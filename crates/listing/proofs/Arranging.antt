@@ -19,7 +19,8 @@ use Rattle.listing.proofs.Stores.{Entire, line-table-length, value-tabl
 use Rattle.listing.proofs.Comparing.{lines-length}
 
 -- a line table is lines whose values stand together
-table-lines : (values : List ℕ) (k : ℕ) (ls : List Line) → Entire ls → drop (4 * k) values ≡ valueTable ls → 4 * (k + valuesRecords ls) ≤ length values → Lines values (lineTable k ls) ls
+table-lines : (values : List ℕ) (k : ℕ) (ls : List Line) → Entire ls → drop (4 * k) values ≡ valueTable ls
+    → 4 * (k + valuesRecords ls) ≤ length values → Lines values (lineTable k ls) ls
 table-lines values k [] e d h = refl
 table-lines values k (l ∷ ls) e d h =
     let j : 4 * k + 4 * valueRecords l ≡ 4 * (k + valueRecords l) = omega arith in (
@@ -39,11 +40,13 @@ table-lines values k (l ∷ ls) e d h =
     )
 
 -- the first bytes of the tables
-module _ (lines values : List ℕ) (count records : ℕ) (ls : List Line) (t : Tables lines values ls) (c : count ≡ length ls) (r : records ≡ valuesRecords ls) where
+module _ (lines values : List ℕ) (count records : ℕ) (ls : List Line) (t : Tables lines values ls) (c : count ≡ length ls)
+    (r : records ≡ valuesRecords ls) where
   lines-first : take (4 * variables * count) lines ≡ lineTable 0 ls
   lines-first =
       let n = line-table-length 0 ls (t .entries) in
-      ap (take (4 * variables * count)) (t .lines-begin) ∙ take-at (lineTable 0 ls) (drop (4 * variables * length ls) lines) (4 * variables * count) (omega arith)
+      ap (take (4 * variables * count)) (t .lines-begin)
+      ∙ take-at (lineTable 0 ls) (drop (4 * variables * length ls) lines) (4 * variables * count) (omega arith)
 
   values-first : take (4 * records) values ≡ valueTable ls
   values-first =
@@ -52,16 +55,28 @@ module _ (lines values : List ℕ) (count records : ℕ) (ls : List Line) (t : T
 
   pub lines-room : 4 * variables * count ≤ length lines
   lines-room =
-      omega (arith, ap length (t .lines-begin) ∙ length-append (lineTable 0 ls) (drop (4 * variables * length ls) lines), line-table-length 0 ls (t .entries), length-drop (4 * variables * length ls) lines)
+      omega (
+        arith,
+        ap length (t .lines-begin) ∙ length-append (lineTable 0 ls) (drop (4 * variables * length ls) lines),
+        line-table-length 0 ls (t .entries),
+        length-drop (4 * variables * length ls) lines,
+      )
 
   pub values-room : 4 * records ≤ length values
   values-room =
-      omega (arith, ap length (t .values-begin) ∙ length-append (valueTable ls) (drop (4 * valuesRecords ls) values), value-table-length ls, length-drop (4 * valuesRecords ls) values)
+      omega (
+        arith,
+        ap length (t .values-begin) ∙ length-append (valueTable ls) (drop (4 * valuesRecords ls) values),
+        value-table-length ls,
+        length-drop (4 * valuesRecords ls) values,
+      )
 
   pub tables-lines : Lines (take (4 * records) values) (take (4 * variables * count) lines) ls
   tables-lines =
-      let n : 4 * (0 + valuesRecords ls) ≤ length (take (4 * records) values) = omega (arith, length-take-le (4 * records) values values-room) in
-      subst (λ (y : List ℕ). Lines (take (4 * records) values) y ls) (sym lines-first) (table-lines (take (4 * records) values) 0 ls (t .entries) values-first n)
+      let n : 4 * (0 + valuesRecords ls) ≤ length (take (4 * records) values) =
+      omega (arith, length-take-le (4 * records) values values-room) in
+      subst (λ (y : List ℕ). Lines (take (4 * records) values) y ls) (sym lines-first)
+      (table-lines (take (4 * records) values) 0 ls (t .entries) values-first n)
 
 -- sorting the first bytes, and laying out
 module _ (lines values : List ℕ) (count records : ℕ) (work : List ℕ) (x : Arranges lines values count records work) where
@@ -78,7 +93,8 @@ module _ (lines values : List ℕ) (count records : ℕ) (work : List ℕ) (x : 
     values-taken : take (n - 0) values ≡ take (4 * records) values
     values-taken = let z : n - 0 ≡ 4 * records = omega arith in ap (λ (k : ℕ). take k values) z
 
-    listed : (ls : List Line) → Tables lines values ls → count ≡ length ls → records ≡ valuesRecords ls → Lines (take (n - 0) values) (take (m - 0) lines) ls
+    listed : (ls : List Line) → Tables lines values ls → count ≡ length ls → records ≡ valuesRecords ls
+        → Lines (take (n - 0) values) (take (m - 0) lines) ls
     listed ls t c r = rw (lines-taken, values-taken) (tables-lines lines values count records ls t c r)
 
     pub sort-needs : Sorts (take (m - 0) lines) (take (n - 0) values) work
@@ -94,7 +110,8 @@ module _ (lines values : List ℕ) (count records : ℕ) (work : List ℕ) (x : 
         }
 
     -- after sorting: the lines in order, and the bytes behind them as they were
-    module _ (sorted post : List ℕ) (l : length sorted ≡ length (take (m - 0) lines)) (p : post ≡ drop (m - 0) lines) (y : InOrder (take (m - 0) lines) (take (n - 0) values) sorted) where
+    module _ (sorted post : List ℕ) (l : length sorted ≡ length (take (m - 0) lines)) (p : post ≡ drop (m - 0) lines)
+        (y : InOrder (take (m - 0) lines) (take (n - 0) values) sorted) where
       long : length sorted ≡ 4 * variables * count
       long = omega (arith, l, length-take-le (m - 0) lines (omega (arith, arranges-rooms .0)))
 

@@ -1,5 +1,5 @@
--- Two lines compared entry by entry, and two tables byte by byte. The order is lexicographic three times over, so that each step looks at the
--- first place where the two differ; the order of the bytes of values is the order of their records. Assumes nothing.
+-- Two lines compared entry by entry, and two tables byte by byte. The order is lexicographic three times over, so that each step looks at
+-- the first place where the two differ; the order of the bytes of values is the order of their records. Assumes nothing.
 use mathlib.Core.Path.{_≡_, refl, sym, ap, ap₂, _∙_, subst}
 use mathlib.Core.Bool.{Bool, true, false}
 use mathlib.Core.Option.{Option, none, some}
@@ -35,14 +35,16 @@ pub byte-less : (i : ℕ) (a b : List ℕ) → take i a ≡ take i b → i < len
 byte-less i [] b e h g k = absurd (omega arith)
 byte-less i (x ∷ a) [] e h g k = absurd (omega arith)
 byte-less zero (x ∷ a) (y ∷ b) e h g k = inl k
-byte-less (suc i) (x ∷ a) (y ∷ b) e h g k = inr (ap (λ (l : List ℕ). getD l 0 0) e, byte-less i a b (ap (drop 1) e) (omega arith) (omega arith) k)
+byte-less (suc i) (x ∷ a) (y ∷ b) e h g k =
+    inr (ap (λ (l : List ℕ). getD l 0 0) e, byte-less i a b (ap (drop 1) e) (omega arith) (omega arith) k)
 
 pub shorter-less : (i : ℕ) (a b : List ℕ) → take i a ≡ take i b → length a ≤ i → i < length b → Lexicographic _<_ a b
 shorter-less i [] [] e h g = absurd (omega arith)
 shorter-less i [] (y ∷ b) e h g = tt
 shorter-less i (x ∷ a) [] e h g = absurd (omega arith)
 shorter-less zero (x ∷ a) (y ∷ b) e h g = absurd (omega arith)
-shorter-less (suc i) (x ∷ a) (y ∷ b) e h g = inr (ap (λ (l : List ℕ). getD l 0 0) e, shorter-less i a b (ap (drop 1) e) (omega arith) (omega arith))
+shorter-less (suc i) (x ∷ a) (y ∷ b) e h g =
+    inr (ap (λ (l : List ℕ). getD l 0 0) e, shorter-less i a b (ap (drop 1) e) (omega arith) (omega arith))
 
 pub both-ended : (i : ℕ) (a b : List ℕ) → take i a ≡ take i b → length a ≤ i → length b ≤ i → a ≡ b
 both-ended i a b e h g = sym (take-all i a h) ∙ e ∙ take-all i b g
@@ -64,15 +66,18 @@ module _ (L : List ℕ) (i : ℕ) (X : List ℕ) where
       let e = word-behind L (4 * i) 0 (word 0 (lineBytes (s .first) l ++ s .rest)) (s .bytes) in
       sym (open-at L i 0 (sym (word-read L (4 * i + 2) 0 (lineBytes (s .first) l ++ s .rest) e)) refl)
 
-  pub assigned-entry : (v : Term) (l : Line) (s : Standing L i X (some v ∷ l)) → entryAt L i ≡ Assigned (record { first = s .first; count = size v })
+  pub assigned-entry : (v : Term) (l : Line) (s : Standing L i X (some v ∷ l))
+      → entryAt L i ≡ Assigned (record { first = s .first; count = size v })
   assigned-entry v l s =
       let r = lineBytes (s .first + size v) l ++ s .rest in
       let e = word-behind L (4 * i) (s .first) (word (size v) r) (s .bytes) in
-      sym (assigned-at L i (size v) (s .first) (sym (word-read L (4 * i + 2) (size v) r e)) (λ z. omega (arith, size-some v)) (sym (word-read L (4 * i) (s .first) (word (size v) r) (s .bytes))))
+      sym (assigned-at L i (size v) (s .first) (sym (word-read L (4 * i + 2) (size v) r e)) (λ z. omega (arith, size-some v))
+      (sym (word-read L (4 * i) (s .first) (word (size v) r) (s .bytes))))
 
   value-bytes : (v : Term) (l : Line) (s : Standing L i X (some v ∷ l)) → take (4 * size v) (drop (4 * s .first) X) ≡ encode v
   value-bytes v l s =
-      ap (take (4 * size v)) (s .values ∙ append-assoc (encode v) (lineValues l) (s .behind)) ∙ take-at (encode v) (lineValues l ++ s .behind) (4 * size v) (encode-length v)
+      ap (take (4 * size v)) (s .values ∙ append-assoc (encode v) (lineValues l) (s .behind))
+      ∙ take-at (encode v) (lineValues l ++ s .behind) (4 * size v) (encode-length v)
 
   pub next-standing : (o : Option Term) (l : Line) → Standing L i X (o ∷ l) → Standing L (i + 1) X l
   next-standing none l s =
@@ -121,7 +126,8 @@ module _ (L : List ℕ) (i : ℕ) (X : List ℕ) where
       let q = span-inj _ x (sym (assigned-entry v l s) ∙ e) in
       subst (ReadAs (some v)) q (record { value = v; is = refl; bytes = value-bytes v l s; within = omega (arith, s .within) })
 
-  pub value-within : (l : Line) (x : Span) → i < variables → Standing L i X l → entryAt L i ≡ Assigned x → 4 * (x .first + x .count) ≤ length X
+  pub value-within : (l : Line) (x : Span) → i < variables → Standing L i X l → entryAt L i ≡ Assigned x
+      → 4 * (x .first + x .count) ≤ length X
   value-within [] x h s e = absurd (omega (arith, s .entries))
   value-within (o ∷ l) x h s e = read-as o l x s e .within
 
@@ -181,7 +187,8 @@ module _ (A B : List ℕ) (i : ℕ) (X : List ℕ) where
   module _ (h : i < variables) where
     -- both lines have an entry for variable i
     by-entries :
-        (P : Line → Line → Type 0) → ((o q : Option Term) (l m : Line) → Standing A i X (o ∷ l) → Standing B i X (q ∷ m) → P (o ∷ l) (q ∷ m))
+        (P : Line → Line → Type 0)
+        → ((o q : Option Term) (l m : Line) → Standing A i X (o ∷ l) → Standing B i X (q ∷ m) → P (o ∷ l) (q ∷ m))
         → (l m : Line) → Standing A i X l → Standing B i X m → P l m
     by-entries P f [] m s t = absurd (omega (arith, s .entries))
     by-entries P f (o ∷ l) [] s t = absurd (omega (arith, t .entries))
@@ -197,7 +204,10 @@ module _ (A B : List ℕ) (i : ℕ) (X : List ℕ) where
     unfolding Compares
     line-later c e x =
         let y : EntriesCompared A B i X Later = rw e at x in
-        record { exact = by-entries (λ l m. ¬ Less l m) (λ o q l m s t k. less-irrefl (o ∷ l) (less-trans (o ∷ l) (q ∷ m) (o ∷ l) k (inl (y .exact o q l m s t)))) }
+        record {
+          exact = by-entries (λ l m. ¬ Less l m)
+              (λ o q l m s t k. less-irrefl (o ∷ l) (less-trans (o ∷ l) (q ∷ m) (o ∷ l) k (inl (y .exact o q l m s t))));
+        }
 
     says-next : (o q : Option Term) (l m : Line) (r : Bool) → o ≡ q → Says r (Less l m) → Says r (Less (o ∷ l) (q ∷ m))
     says-next o q l m true e k = inr (e, k)
@@ -209,7 +219,8 @@ module _ (A B : List ℕ) (i : ℕ) (X : List ℕ) where
         let y : EntriesCompared A B i X Same = rw e at x in
         record {
           exact = by-entries (λ l m. Says r (Less l m))
-              (λ o q l m s t. says-next o q l m r (y .exact o q l m s t) (k .exact l m (next-standing A i X o l s) (next-standing B i X q m t)));
+              (λ o q l m s t. says-next o q l m r (y .exact o q l m s t)
+              (k .exact l m (next-standing A i X o l s) (next-standing B i X q m t)));
         }
 
     comparable-next : Comparable A B i X → Comparable A B (i + 1) X
@@ -229,13 +240,16 @@ module _ (A B : List ℕ) (i : ℕ) (X : List ℕ) where
 -- the bytes of lines
 module _ (X A : List ℕ) (l : Line) (x : Laid X A l) where
   pub laid-length : length A ≡ 4 * variables + length (x .rest)
-  laid-length = omega (arith, ap length (x .line), length-append (lineBytes (x .first) l) (x .rest), line-bytes-length (x .first) l, x .entries)
+  laid-length =
+      omega (arith, ap length (x .line), length-append (lineBytes (x .first) l) (x .rest), line-bytes-length (x .first) l, x .entries)
 
   pub laid-first : take (4 * variables) A ≡ lineBytes (x .first) l
-  laid-first = ap (take (4 * variables)) (x .line) ∙ take-at (lineBytes (x .first) l) (x .rest) (4 * variables) (omega (arith, line-bytes-length (x .first) l, x .entries))
+  laid-first = ap (take (4 * variables)) (x .line)
+      ∙ take-at (lineBytes (x .first) l) (x .rest) (4 * variables) (omega (arith, line-bytes-length (x .first) l, x .entries))
 
   pub laid-rest : drop (4 * variables) A ≡ x .rest
-  laid-rest = ap (drop (4 * variables)) (x .line) ∙ drop-at (lineBytes (x .first) l) (x .rest) (4 * variables) (omega (arith, line-bytes-length (x .first) l, x .entries))
+  laid-rest = ap (drop (4 * variables)) (x .line)
+      ∙ drop-at (lineBytes (x .first) l) (x .rest) (4 * variables) (omega (arith, line-bytes-length (x .first) l, x .entries))
 
   pub laid-standing : Standing A 0 X l
   laid-standing = record {
@@ -284,7 +298,10 @@ module _ (A B X : List ℕ) where
       decided-later e = x .decides false (line-later A B i X h c e y)
 
       pub undecided-next : c ≡ Same → Undecided (i + 1)
-      undecided-next e = record { comparable = comparable-next A B i X h (x .comparable); decides = λ r z. x .decides r (line-next A B i X h c r e y z) }
+      undecided-next e = record {
+        comparable = comparable-next A B i X h (x .comparable);
+        decides = λ r z. x .decides r (line-next A B i X h c r e y z);
+      }
 
   pub begin : (ls ms : List Line) → Lines X A ls → Lines X B ms → ¬ (length A ≡ 0) → ¬ (length B ≡ 0) → Begin A B X
   begin [] ms x y h g = absurd (h (ap length x))

@@ -17,7 +17,7 @@ use Rattle.records.proofs.Parts.{part}
 use Rattle.assignments.specs.declared.Entry.{Entry}
 use Rattle.assignments.specs.declared.Entry.the-variants.{Open}
 use Rattle.assignments.specs.Entries.{Read}
-use Rattle.sweeping.proofs.Stores.{sets-then, stored}
+use Rattle.copying.proofs.Stores.{sets-then, stored}
 use Rattle.listing.specs.Outcome.{Laid, Lines}
 use Rattle.listing.specs.Writers.{EntryStands, LineStands, WriteLine, WroteLine}
 use Rattle.listing.specs.Laying.{LayLine, LaidLine, LayLines, LaidLines, LayOut, LaidOut}
@@ -33,22 +33,30 @@ module _ (L X : List ℕ) (a : List Entry) (n : length a ≡ variables) (r : Rea
   entry-stands i h none l s = subst (λ (e : Entry). EntryStands X e none) (sym (r i h ∙ open-entry L i X l s)) tt
   entry-stands i h (some v) l s =
       subst (λ (e : Entry). EntryStands X e (some v)) (sym (r i h ∙ assigned-entry L i X v l s))
-      (record { part = part X (4 * s .first) v (lineValues l ++ s .behind) (s .values ∙ append-assoc (encode v) (lineValues l) (s .behind)); count = refl })
+      (record {
+        part = part X (4 * s .first) v (lineValues l ++ s .behind) (s .values ∙ append-assoc (encode v) (lineValues l) (s .behind));
+        count = refl;
+      })
 
   line-stands : (l : Line) (i : ℕ) → Standing L i X l → LineStands X (drop i a) l
   unfolding LineStands
-  line-stands [] i s = let h : length a ≤ i = omega (arith, s .entries) in subst (λ (b : List Entry). LineStands X b []) (sym (drop-of-length-le a h)) tt
+  line-stands [] i s =
+      let h : length a ≤ i = omega (arith, s .entries) in
+      subst (λ (b : List Entry). LineStands X b []) (sym (drop-of-length-le a h)) tt
   line-stands (o ∷ l) i s =
       let h : i < variables = omega (arith, s .entries) in
-      subst (λ (b : List Entry). LineStands X b (o ∷ l)) (sym (entries-next a i (omega arith))) (entry-stands i h o l s, line-stands l (i + 1) (next-standing L i X o l s))
+      subst (λ (b : List Entry). LineStands X b (o ∷ l)) (sym (entries-next a i (omega arith)))
+      (entry-stands i h o l s, line-stands l (i + 1) (next-standing L i X o l s))
 
 -- a line read and written anew
-module _ (s lines : List ℕ) (at : ℕ) (values : List ℕ) (first end : ℕ) (a : List Entry) (e : end ≡ at + 4 * variables) (n : length a ≡ variables) (r : Read (take (end - at) (drop at lines)) a variables) where
+module _ (s lines : List ℕ) (at : ℕ) (values : List ℕ) (first end : ℕ) (a : List Entry) (e : end ≡ at + 4 * variables)
+    (n : length a ≡ variables) (r : Read (take (end - at) (drop at lines)) a variables) where
   laid-stands : (l : Line) → Laid s (drop at lines) l → LineStands s a l
   laid-stands l x =
       let m : length (lineBytes (x .first) l) ≡ end - at = omega (arith, line-bytes-length (x .first) l, x .entries) in
       let b : take (end - at) (drop at lines) ≡ lineBytes (x .first) l ++ [] =
-      ap (take (end - at)) (x .line) ∙ take-at (lineBytes (x .first) l) (x .rest) (end - at) m ∙ sym (append-nil (lineBytes (x .first) l)) in
+      ap (take (end - at)) (x .line) ∙ take-at (lineBytes (x .first) l) (x .rest) (end - at) m
+      ∙ sym (append-nil (lineBytes (x .first) l)) in
       line-stands (take (end - at) (drop at lines)) s a n r l 0
       (laid-standing s (take (end - at) (drop at lines)) l
       (record { first = x .first; rest = []; behind = x .behind; line = b; stand = x .stand; within = x .within; entries = x .entries }))
@@ -96,8 +104,10 @@ pub lines-entire : (s bytes : List ℕ) (ls : List Line) → Lines s bytes ls �
 lines-entire s bytes (l ∷ ls) h m (inl p) = ap length p ∙ h .0 .entries
 lines-entire s bytes (l ∷ ls) h m (inr p) = lines-entire s (h .0 .rest) ls (h .1) m p
 
-pub lines-count : (s lines : List ℕ) (n : ℕ) (ls : List Line) → 4 * variables * n ≤ length lines → Lines s (take (4 * variables * n) lines) ls → n ≡ length ls
-lines-count s lines n ls h x = omega (arith, lines-length s (take (4 * variables * n) lines) ls x, length-take-le (4 * variables * n) lines h)
+pub lines-count : (s lines : List ℕ) (n : ℕ) (ls : List Line) → 4 * variables * n ≤ length lines
+    → Lines s (take (4 * variables * n) lines) ls → n ≡ length ls
+lines-count s lines n ls h x =
+    omega (arith, lines-length s (take (4 * variables * n) lines) ls x, length-take-le (4 * variables * n) lines h)
 
 -- the lines that are left to lay out after i of them
 pub record Left (s lines values : List ℕ) (ms : List Line) (p w : List ℕ) (first i : ℕ) : Type 0 where
@@ -119,7 +129,8 @@ laying-start s lines count values = record {
   same-values = refl;
   left = λ ms h. record {
     rest = ms;
-    begin = subst (λ (x : List ℕ). Begin s x ms) (take-append-drop (4 * variables * count) lines) (lines-begin s (take (4 * variables * count) lines) (drop (4 * variables * count) lines) ms h);
+    begin = subst (λ (x : List ℕ). Begin s x ms) (take-append-drop (4 * variables * count) lines)
+        (lines-begin s (take (4 * variables * count) lines) (drop (4 * variables * count) lines) ms h);
     upto = omega arith;
     records = omega arith;
     bytes = refl;
@@ -146,8 +157,10 @@ next-line : (s p : List ℕ) (i : ℕ) (rest : List Line) → 1 ≤ length rest 
 next-line s p i [] h b = absurd (omega arith)
 next-line s p i (l ∷ ls) h b = record { line = l; others = ls; is = refl; laid = b .0; begin = b .1 }
 
-module _ (s lines : List ℕ) (count : ℕ) (values p w : List ℕ) (first i : ℕ) (x : LayLines s lines count values) (y : Laying s lines count values p w first i) (h : i < count) where
-  left-next : (ms : List Line) → Lines s (take (4 * variables * count) lines) ms → (z : Left s lines values ms p w first i) → NextLine s p i (z .rest)
+module _ (s lines : List ℕ) (count : ℕ) (values p w : List ℕ) (first i : ℕ) (x : LayLines s lines count values)
+    (y : Laying s lines count values p w first i) (h : i < count) where
+  left-next : (ms : List Line) → Lines s (take (4 * variables * count) lines) ms → (z : Left s lines values ms p w first i)
+      → NextLine s p i (z .rest)
   left-next ms m z = next-line s p i (z .rest) (omega (arith, z .upto, lines-count s lines count ms (x .room) m)) (z .begin)
 
   pub lay-line : LayLine s p (4 * variables * i) w first
@@ -163,10 +176,16 @@ module _ (s lines : List ℕ) (count : ℕ) (values p w : List ℕ) (first i : �
       }
 
   pub laying-more :
-      (q v : List ℕ) (next : ℕ) → LaidLine s p (4 * variables * i) w first q v next → length q ≡ length p → length v ≡ length w → Laying s lines count values q v next (i + 1)
-  laying-more q v next d e f = record { same-lines = e ∙ y .same-lines; same-values = f ∙ y .same-values; left = λ ms m. go ms m (y .left ms m) }
+      (q v : List ℕ) (next : ℕ) → LaidLine s p (4 * variables * i) w first q v next → length q ≡ length p → length v ≡ length w
+      → Laying s lines count values q v next (i + 1)
+  laying-more q v next d e f = record {
+    same-lines = e ∙ y .same-lines;
+    same-values = f ∙ y .same-values;
+    left = λ ms m. go ms m (y .left ms m);
+  }
     where
-      go : (ms : List Line) → Lines s (take (4 * variables * count) lines) ms → Left s lines values ms p w first i → Left s lines values ms q v next (i + 1)
+      go : (ms : List Line) → Lines s (take (4 * variables * count) lines) ms → Left s lines values ms p w first i
+          → Left s lines values ms q v next (i + 1)
       go ms m z =
           let k = left-next ms m z in
           let l = k .line in
@@ -185,34 +204,46 @@ module _ (s lines : List ℕ) (count : ℕ) (values p w : List ℕ) (first i : �
           ∙ drop-at (lineBytes (g .first) l) (g .rest) (4 * variables) (omega (arith, u, g .entries)) in
           record {
             rest = o;
-            begin = subst (λ (bytes : List ℕ). Begin s bytes o) (sym (behind-sets p (lineBytes first l) q (4 * variables * i) (4 * variables * (i + 1)) b j (omega (arith, x .room, y .same-lines)) ∙ a)) (k .begin);
+            begin = subst (λ (bytes : List ℕ). Begin s bytes o) (sym (behind-sets p (lineBytes first l) q (4 * variables * i)
+                (4 * variables * (i + 1)) b j (omega (arith, x .room, y .same-lines)) ∙ a)) (k .begin);
             upto = omega (arith, z .upto, ap length (k .is));
             records = omega (arith, z .records, r, ap valuesRecords (k .is));
-            bytes = ap₂ (λ (y : List ℕ) (k : ℕ). sets y k (lineTable next o)) b j ∙ ap (λ (k : ℕ). sets (sets p (4 * variables * i) (lineBytes first l)) (4 * variables * i + length (lineBytes first l)) (lineTable k o)) r
-                ∙ sets-then (lineBytes first l) (lineTable (first + valueRecords l) o) p (4 * variables * i) ∙ ap (λ (ls : List Line). sets p (4 * variables * i) (lineTable first ls)) (sym (k .is)) ∙ z .bytes;
+            bytes = ap₂ (λ (y : List ℕ) (k : ℕ). sets y k (lineTable next o)) b j ∙ ap (λ (k : ℕ). sets
+                (sets p (4 * variables * i) (lineBytes first l)) (4 * variables * i + length (lineBytes first l)) (lineTable k o)) r
+                ∙ sets-then (lineBytes first l) (lineTable (first + valueRecords l) o) p (4 * variables * i)
+                ∙ ap (λ (ls : List Line). sets p (4 * variables * i) (lineTable first ls)) (sym (k .is)) ∙ z .bytes;
             copied = ap₂ (λ (y : List ℕ) (k : ℕ). sets y k (valueTable o)) c t ∙ sets-then (lineValues l) (valueTable o) w (4 * first)
                 ∙ ap (λ (ls : List Line). sets w (4 * first) (valueTable ls)) (sym (k .is)) ∙ z .copied;
           }
 
-pub laying-done : (s lines : List ℕ) (count : ℕ) (values p w : List ℕ) (first i : ℕ) → LayLines s lines count values → Laying s lines count values p w first i → count ≤ i → LaidLines s lines count values p w
-laying-done s lines count values p w first i x y h = record { bytes = λ ms m. go ms m (y .left ms m) .0; copied = λ ms m. go ms m (y .left ms m) .1 }
+pub laying-done : (s lines : List ℕ) (count : ℕ) (values p w : List ℕ) (first i : ℕ) → LayLines s lines count values
+    → Laying s lines count values p w first i → count ≤ i → LaidLines s lines count values p w
+laying-done s lines count values p w first i x y h = record {
+  bytes = λ ms m. go ms m (y .left ms m) .0;
+  copied = λ ms m. go ms m (y .left ms m) .1;
+}
   where
     none-left : (rest : List Line) → length rest ≡ 0 → rest ≡ []
     none-left [] e = refl
     none-left (l ∷ ls) e = absurd (omega arith)
 
-    go : (ms : List Line) → Lines s (take (4 * variables * count) lines) ms → Left s lines values ms p w first i → (p ≡ sets lines 0 (lineTable 0 ms)) × (w ≡ sets values 0 (valueTable ms))
+    go : (ms : List Line) → Lines s (take (4 * variables * count) lines) ms → Left s lines values ms p w first i
+        → (p ≡ sets lines 0 (lineTable 0 ms)) × (w ≡ sets values 0 (valueTable ms))
     go ms m z =
-        let e = none-left (z .rest) (omega (arith, z .upto, lines-count s lines count ms (x .room) m)) in
-        (ap (λ (ls : List Line). sets p (4 * variables * i) (lineTable first ls)) (sym e) ∙ z .bytes, ap (λ (ls : List Line). sets w (4 * first) (valueTable ls)) (sym e) ∙ z .copied)
+        let e = none-left (z .rest) (omega (arith, z .upto, lines-count s lines count ms (x .room) m)) in (
+          ap (λ (ls : List Line). sets p (4 * variables * i) (lineTable first ls)) (sym e) ∙ z .bytes,
+          ap (λ (ls : List Line). sets w (4 * first) (valueTable ls)) (sym e) ∙ z .copied,
+        )
 
 -- the values stand in the work area
-module _ (lines : List ℕ) (count : ℕ) (values : List ℕ) (records : ℕ) (work copy : List ℕ) (x : LayOut lines count values records work) (n : ℕ) (e : n ≡ 4 * records) (c : copy ≡ sets work 0 (take (n - 0) (drop 0 values))) where
+module _ (lines : List ℕ) (count : ℕ) (values : List ℕ) (records : ℕ) (work copy : List ℕ) (x : LayOut lines count values records work)
+    (n : ℕ) (e : n ≡ 4 * records) (c : copy ≡ sets work 0 (take (n - 0) (drop 0 values))) where
   values-copied : take (n - 0) (drop 0 copy) ≡ take (4 * records) values
   values-copied =
       let h : length (take (n - 0) values) ≡ n - 0 = length-take-le (n - 0) values (omega (arith, x .values-room)) in
       let z : n - 0 ≡ 4 * records = omega arith in
-      stored work copy (take (n - 0) (drop 0 values)) n c (omega (arith, h)) (omega (arith, x .values-room, x .values-most, x .area)) ∙ ap (λ (k : ℕ). take k values) z
+      stored work copy (take (n - 0) (drop 0 values)) n c (omega (arith, h)) (omega (arith, x .values-room, x .values-most, x .area))
+      ∙ ap (λ (k : ℕ). take k values) z
 
   pub lay-lines : LayLines (take (n - 0) (drop 0 copy)) lines count values
   lay-lines = record {
@@ -229,7 +260,8 @@ module _ (lines : List ℕ) (count : ℕ) (values : List ℕ) (records : ℕ) (w
         let l = line-table-length 0 ms (lines-entire _ _ ms m) in
         let k = lines-count _ lines count ms (x .room) m in
         y .bytes ms (rw values-copied m) ∙ front (lineTable 0 ms) lines (4 * variables * count) (omega arith) (x .room);
-    copied = λ ms m r. y .copied ms (rw values-copied m) ∙ front (valueTable ms) values (4 * records) (omega (arith, value-table-length ms)) (x .values-room);
+    copied = λ ms m r. y .copied ms (rw values-copied m)
+        ∙ front (valueTable ms) values (4 * records) (omega (arith, value-table-length ms)) (x .values-room);
   }
     where
       front : (xs l : List ℕ) (n : ℕ) → n ≡ length xs → n ≤ length l → sets l 0 xs ≡ xs ++ drop n l

@@ -13,7 +13,7 @@ use Rattle.terms.specs.Listing.{In, Line, Less, Rising}
 use Rattle.terms.specs.Layout.{lineBytes, valueRecords, valuesRecords}
 use Rattle.terms.proofs.Members.{in-left, in-right, in-append}
 use Rattle.terms.proofs.Order.{Compared, lt, eq, gt, less-trans, order}
-use Rattle.sweeping.proofs.Stores.{written-then}
+use Rattle.copying.proofs.Stores.{written-then}
 use Rattle.listing.specs.Outcome.{Laid, Lines, Sorted}
 use Rattle.listing.specs.Order.{Begin, Ordered, Apart, Leads, Either, Next, Merging, Chosen, MergedLine, Joined, Merged}
 use Rattle.listing.proofs.Writers.{line-bytes-length}
@@ -40,13 +40,15 @@ plus-second : (m : Line) (ls ms : List Line) → Plus m (ls ++ ms) (ls ++ m ∷ 
 plus-second m ls ms = record {
   members = λ x. (
     λ h. ⊎-elim (λ p. inr (in-left x ls ms p)) (λ p. ⊎-elim inl (λ q. inr (in-right x ls ms q)) p) (in-append x ls (m ∷ ms) h),
-    λ h. ⊎-elim (λ p. in-right x ls (m ∷ ms) (inl p)) (λ p. ⊎-elim (in-left x ls (m ∷ ms)) (λ q. in-right x ls (m ∷ ms) (inr q)) (in-append x ls ms p)) h,
+    λ h. ⊎-elim (λ p. in-right x ls (m ∷ ms) (inl p))
+        (λ p. ⊎-elim (in-left x ls (m ∷ ms)) (λ q. in-right x ls (m ∷ ms) (inr q)) (in-append x ls ms p)) h,
   );
   count = omega (arith, length-append ls ms, length-append ls (m ∷ ms));
   records = omega (arith, records-append ls ms, records-append ls (m ∷ ms));
 }
 
-sorted-more : (l : Line) (rest all ms : List Line) → Plus l rest all → ((x : Line) → In x rest → Less l x) → Sorted rest ms → Sorted all (l ∷ ms)
+sorted-more : (l : Line) (rest all ms : List Line) → Plus l rest all → ((x : Line) → In x rest → Less l x) → Sorted rest ms
+    → Sorted all (l ∷ ms)
 sorted-more l rest all ms p f s = record {
   rising = (λ x q. f x (s .members x .0 q), s .rising);
   members = λ x. (
@@ -87,11 +89,20 @@ module _ (X A out p after : List ℕ) (o n k : ℕ) (l : Line) (x : Laid X A l) 
         sorted = sorted-more l rest all (j .order) s f (j .sorted);
         bytes = b ++ j .bytes;
         lines = (
-          record { first = x .first; rest = j .bytes; behind = x .behind; line = refl; stand = x .stand; within = x .within; entries = x .entries },
+          record {
+            first = x .first;
+            rest = j .bytes;
+            behind = x .behind;
+            line = refl;
+            stand = x .stand;
+            within = x .within;
+            entries = x .entries;
+          },
           j .lines,
         );
         long = omega (arith, length-append b (j .bytes), j .long);
-        written = written-then b (j .bytes) out p after o (o + 4 * variables) (e ∙ ap (sets out o) (laid-first X A l x)) (j .written) (omega arith);
+        written = written-then b (j .bytes) out p after o (o + 4 * variables) (e ∙ ap (sets out o) (laid-first X A l x))
+            (j .written) (omega arith);
       }
 
 -- the line that comes next
@@ -116,25 +127,29 @@ module _ (A B X : List ℕ) where
   next-earlier h g r c = record { exact = λ ls ms x y u v d. go r c ls ms x y u v d }
     where
       go :
-          (r : Bool) → Ordered A B X r → (ls ms : List Line) → Lines X A ls → Lines X B ms → Rising ls → Rising ms → Apart ls ms → Either r (Leads ls ms) (Leads ms ls)
+          (r : Bool) → Ordered A B X r → (ls ms : List Line) → Lines X A ls → Lines X B ms → Rising ls → Rising ms → Apart ls ms
+          → Either r (Leads ls ms) (Leads ms ls)
       go r c [] ms x y u v d = absurd (h (ap length x))
       go r c (l ∷ ls) [] x y u v d = absurd (g (ap length y))
       go true c (l ∷ ls) (m ∷ ms) x y u v d = first-least l m ls ms u v (c .exact l m (x .0) (y .0))
-      go false c (l ∷ ls) (m ∷ ms) x y u v d = first-least m l ms ls v u (not-less l m (c .exact l m (x .0) (y .0)) (λ i. d l (inl refl) (inl i)))
+      go false c (l ∷ ls) (m ∷ ms) x y u v d =
+          first-least m l ms ls v u (not-less l m (c .exact l m (x .0) (y .0)) (λ i. d l (inl refl) (inl i)))
 
 -- one line merged
 module _ (A B X out : List ℕ) (o : ℕ) where
   merged-none : length A ≡ 0 → length B ≡ 0 → Merged A B X out o out
   merged-none h g = record { joined = go }
     where
-      go : (ls ms : List Line) → Lines X A ls → Lines X B ms → Rising ls → Rising ms → Apart ls ms → Joined X (ls ++ ms) (length A + length B) out o out
+      go : (ls ms : List Line) → Lines X A ls → Lines X B ms → Rising ls → Rising ms → Apart ls ms
+          → Joined X (ls ++ ms) (length A + length B) out o out
       go [] [] x y u v d = record { order = []; sorted = sorted-self [] tt; bytes = []; lines = refl; long = omega arith; written = refl }
       go [] (m ∷ ms) x y u v d = absurd (omega (arith, lines-length X B (m ∷ ms) y))
       go (l ∷ ls) ms x y u v d = absurd (omega (arith, lines-length X A (l ∷ ls) x))
 
   module _ (p after : List ℕ) where
     merged-left :
-        Next A B X true → p ≡ sets out o (take (4 * variables) A) → Merged (drop (4 * variables) A) B X p (o + 4 * variables) after → Merged A B X out o after
+        Next A B X true → p ≡ sets out o (take (4 * variables) A) → Merged (drop (4 * variables) A) B X p (o + 4 * variables) after
+        → Merged A B X out o after
     merged-left c e q = record { joined = λ ls ms x y u v d. go ls ms x y u v d (c .exact ls ms x y u v d) }
       where
         go :
@@ -147,7 +162,8 @@ module _ (A B X out : List ℕ) (o : ℕ) where
             (omega (arith, laid-length X A l x, ap length w)) (q .joined ls ms (rw w s) y (u .1) v (λ t i j. d t (inr i) j))
 
     merged-right :
-        Next A B X false → p ≡ sets out o (take (4 * variables) B) → Merged A (drop (4 * variables) B) X p (o + 4 * variables) after → Merged A B X out o after
+        Next A B X false → p ≡ sets out o (take (4 * variables) B) → Merged A (drop (4 * variables) B) X p (o + 4 * variables) after
+        → Merged A B X out o after
     merged-right c e q = record { joined = λ ls ms x y u v d. go ls ms x y u v d (c .exact ls ms x y u v d) }
       where
         go :
@@ -157,7 +173,8 @@ module _ (A B X out : List ℕ) (o : ℕ) where
         go ls (m ∷ ms) x (y, s) u v d f =
             let w = laid-rest X B m y in
             joined-more X B out p after o _ (length A + length B) m y (ls ++ ms) (ls ++ m ∷ ms) (plus-second m ls ms)
-            (λ z i. f z (⊎-elim (in-right z ms ls) (in-left z ms ls) (in-append z ls ms i))) e (omega (arith, laid-length X B m y, ap length w))
+            (λ z i. f z (⊎-elim (in-right z ms ls) (in-left z ms ls) (in-append z ls ms i))) e
+            (omega (arith, laid-length X B m y, ap length w))
             (q .joined ls ms x (rw w s) u (v .1) (λ t i j. d t i (inr j)))
 
 -- the lines that are left
@@ -165,7 +182,8 @@ module _ (A B X : List ℕ) (i j : ℕ) (x : Merging A i B j X) where
   pub merging-begin : ¬ (i ≡ length A) → ¬ (j ≡ length B) → Begin (take (length A - i) (drop i A)) (take (length B - j) (drop j B)) X
   merging-begin h g =
       rw (second-part A i, second-part B j)
-      (begin (drop i A) (drop j B) X (x .one) (x .two) (x .left) (x .right) (λ z. h (omega (arith, x .left-whole, length-drop i A))) (λ z. g (omega (arith, x .right-whole, length-drop j B))))
+      (begin (drop i A) (drop j B) X (x .one) (x .two) (x .left) (x .right) (λ z. h (omega (arith, x .left-whole, length-drop i A)))
+      (λ z. g (omega (arith, x .right-whole, length-drop j B))))
 
   pub chosen-right : i + j < length A + length B → i ≡ length A → Chosen A i B j X false
   chosen-right h e = record {
@@ -180,12 +198,14 @@ module _ (A B X : List ℕ) (i j : ℕ) (x : Merging A i B j X) where
   }
 
   pub chosen-earlier :
-      ¬ (i ≡ length A) → ¬ (j ≡ length B) → (r : Bool) → Ordered (take (length A - i) (drop i A)) (take (length B - j) (drop j B)) X r → Chosen A i B j X r
+      ¬ (i ≡ length A) → ¬ (j ≡ length B) → (r : Bool) → Ordered (take (length A - i) (drop i A)) (take (length B - j) (drop j B)) X r
+      → Chosen A i B j X r
   chosen-earlier h g r c =
       let k : Ordered (drop i A) (drop j B) X r = rw (second-part A i, second-part B j) at c in
       record {
         next =
-            next-earlier (drop i A) (drop j B) X (λ z. h (omega (arith, x .left-whole, length-drop i A))) (λ z. g (omega (arith, x .right-whole, length-drop j B))) r k;
+            next-earlier (drop i A) (drop j B) X (λ z. h (omega (arith, x .left-whole, length-drop i A)))
+            (λ z. g (omega (arith, x .right-whole, length-drop j B))) r k;
         some = either r;
       }
     where
@@ -201,7 +221,8 @@ module _ (A B X : List ℕ) (i j : ℕ) (x : Merging A i B j X) where
     right-some e = subst (λ z. Either z (i < length A) (j < length B)) e (c .some)
 
     module _ (out p : List ℕ) where
-      pub merged-line-left : r ≡ true → p ≡ sets out (i + j) (take (i + 4 * variables - i) (drop i A)) → MergedLine A i B j X out p (i + 4 * variables) j
+      pub merged-line-left : r ≡ true → p ≡ sets out (i + j) (take (i + 4 * variables - i) (drop i A))
+          → MergedLine A i B j X out p (i + 4 * variables) j
       merged-line-left e f =
           let n : Next (drop i A) (drop j B) X true = subst (λ z. Next (drop i A) (drop j B) X z) e (c .next) in
           let k : i + 4 * variables - i ≡ 4 * variables = omega arith in
@@ -227,7 +248,8 @@ module _ (A B X : List ℕ) (i j : ℕ) (x : Merging A i B j X) where
             right-whole = x .right-whole;
           }
 
-      pub merged-line-right : r ≡ false → p ≡ sets out (i + j) (take (j + 4 * variables - j) (drop j B)) → MergedLine A i B j X out p i (j + 4 * variables)
+      pub merged-line-right : r ≡ false → p ≡ sets out (i + j) (take (j + 4 * variables - j) (drop j B))
+          → MergedLine A i B j X out p i (j + 4 * variables)
       merged-line-right e f =
           let n : Next (drop i A) (drop j B) X false = subst (λ z. Next (drop i A) (drop j B) X z) e (c .next) in
           let k : j + 4 * variables - j ≡ 4 * variables = omega arith in
@@ -264,11 +286,17 @@ module _ (A B X out : List ℕ) where
   going-start x = record { merging = x; long = refl; merged = λ final m. m }
 
   pub going-on :
-      (i j k m : ℕ) (now after : List ℕ) → Going A B X out i j now → length after ≡ length now → MergedLine A i B j X now after k m → Going A B X out k m after
-  going-on i j k m now after g n s = record { merging = s .merging; long = n ∙ g .long; merged = λ final z. g .merged final (s .merged final z) }
+      (i j k m : ℕ) (now after : List ℕ) → Going A B X out i j now → length after ≡ length now → MergedLine A i B j X now after k m
+      → Going A B X out k m after
+  going-on i j k m now after g n s = record {
+    merging = s .merging;
+    long = n ∙ g .long;
+    merged = λ final z. g .merged final (s .merged final z);
+  }
 
   pub going-end : (i j : ℕ) (now : List ℕ) → Going A B X out i j now → length A + length B ≤ i + j → Merged A B X out 0 now
   going-end i j now g h =
       let x = g .merging in
       g .merged now
-      (merged-none (drop i A) (drop j B) X now (i + j) (omega (arith, x .left-whole, x .right-whole, length-drop i A)) (omega (arith, x .left-whole, x .right-whole, length-drop j B)))
+      (merged-none (drop i A) (drop j B) X now (i + j) (omega (arith, x .left-whole, x .right-whole, length-drop i A))
+      (omega (arith, x .left-whole, x .right-whole, length-drop j B)))

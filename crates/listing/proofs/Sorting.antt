@@ -1,5 +1,5 @@
--- Lines sorted by halves. Lines in order are made of both halves in order, which have the same members; the parts of the table are changed one
--- after the other and then merged. Assumes nothing.
+-- Lines sorted by halves. Lines in order are made of both halves in order, which have the same members; the parts of the table are changed
+-- one after the other and then merged. Assumes nothing.
 use mathlib.Core.Path.{_≡_, refl, sym, ap, ap₂, _∙_, subst, subst₂}
 use mathlib.Core.List.{List, [], _∷_, _++_, append-nil}
 use mathlib.Core.Logic.{inl, inr, ⊎-elim}
@@ -11,7 +11,7 @@ use Rattle.terms.specs.Figures.{variables}
 use Rattle.terms.specs.Listing.{In, Line, Rising}
 use Rattle.terms.specs.Layout.{lineBytes}
 use Rattle.terms.proofs.Members.{Distinct, in-left, in-right, in-append}
-use Rattle.sweeping.proofs.Stores.{stored}
+use Rattle.copying.proofs.Stores.{stored}
 use Rattle.listing.specs.Outcome.{Lines, Sorted}
 use Rattle.listing.specs.Order.{Apart, Merges, Merged, Halves, Sorts, InOrder}
 use Rattle.listing.proofs.Writers.{line-bytes-length}
@@ -40,7 +40,8 @@ module _ (L X work : List ℕ) (h : ℕ) where
   merges-parts x = rw (first-part L h, second-part L h) x
 
   pub merged-back :
-      (p after : List ℕ) → h ≤ length L → length L ≤ length work → Merged (take (h - 0) (drop 0 L)) (take (length L - h) (drop h L)) X work 0 p
+      (p after : List ℕ) → h ≤ length L → length L ≤ length work
+      → Merged (take (h - 0) (drop 0 L)) (take (length L - h) (drop h L)) X work 0 p
       → after ≡ sets L 0 (take (length L - 0) (drop 0 p)) → Merged (take h L) (drop h L) X L 0 after
   merged-back p after g w x e =
       let y : Merged (take h L) (drop h L) X work 0 p = rw (first-part L h, second-part L h) at x in
@@ -54,12 +55,14 @@ module _ (L X work : List ℕ) (h : ℕ) where
               bytes = j .bytes;
               lines = j .lines;
               long = j .long;
-              written = copied-over L (take (length L - 0) (drop 0 p)) (j .bytes) after e (stored work p (j .bytes) (length L) (j .written) n w);
+              written =
+                  copied-over L (take (length L - 0) (drop 0 p)) (j .bytes) after e (stored work p (j .bytes) (length L) (j .written) n w);
             };
       }
 
 -- lines in two parts
-lines-split : (X : List ℕ) (j : ℕ) (L : List ℕ) (ls : List Line) → Lines X L ls → j ≤ length ls → Lines X (take (4 * variables * j) L) (take j ls) × Lines X (drop (4 * variables * j) L) (drop j ls)
+lines-split : (X : List ℕ) (j : ℕ) (L : List ℕ) (ls : List Line) → Lines X L ls → j ≤ length ls
+    → Lines X (take (4 * variables * j) L) (take j ls) × Lines X (drop (4 * variables * j) L) (drop j ls)
 lines-split X zero L ls x h = (refl, x)
 lines-split X (suc j) L [] x h = absurd (omega arith)
 lines-split X (suc j) L (l ∷ ls) (x, s) h =
@@ -71,7 +74,15 @@ lines-split X (suc j) L (l ∷ ls) (x, s) h =
     let f : drop (4 * variables * suc j) L ≡ drop (4 * variables * j) (x .rest) =
     ap (λ (k : ℕ). drop k L) m ∙ ap (drop (length b + 4 * variables * j)) (x .line) ∙ drop-append-add b (x .rest) (4 * variables * j) in (
       (
-        record { first = x .first; rest = take (4 * variables * j) (x .rest); behind = x .behind; line = e; stand = x .stand; within = x .within; entries = x .entries },
+        record {
+          first = x .first;
+          rest = take (4 * variables * j) (x .rest);
+          behind = x .behind;
+          line = e;
+          stand = x .stand;
+          within = x .within;
+          entries = x .entries;
+        },
         r .0,
       ),
       subst (λ (z : List ℕ). Lines X z (drop j ls)) (sym f) (r .1),
@@ -100,7 +111,7 @@ record Halved (X L : List ℕ) (h : ℕ) (ls : List Line) : Type 0 where
   pub two-distinct : Distinct two
   pub apart : Apart one two
 
-halved : (X L : List ℕ) (j h : ℕ) (ls : List Line) → h ≡ j * 32 → h ≤ length L → Lines X L ls → Distinct ls → Halved X L h ls
+halved : (X L : List ℕ) (j h : ℕ) (ls : List Line) → h ≡ j * (4 * variables) → h ≤ length L → Lines X L ls → Distinct ls → Halved X L h ls
 halved X L j h ls e g x d =
     let s = lines-split X j L ls x (omega (arith, lines-length X L ls x)) in
     let m : 4 * variables * j ≡ h = omega arith in
@@ -122,8 +133,10 @@ sorted-halves : (ls ms os ps ns : List Line) → Sorted ls os → Sorted ms ps �
 sorted-halves ls ms os ps ns a b s = record {
   rising = s .rising;
   members = λ x. (
-    λ q. ⊎-elim (λ z. in-left x ls ms (a .members x .0 z)) (λ z. in-right x ls ms (b .members x .0 z)) (in-append x os ps (s .members x .0 q)),
-    λ q. s .members x .1 (⊎-elim (λ z. in-left x os ps (a .members x .1 z)) (λ z. in-right x os ps (b .members x .1 z)) (in-append x ls ms q)),
+    λ q. ⊎-elim (λ z. in-left x ls ms (a .members x .0 z)) (λ z. in-right x ls ms (b .members x .0 z))
+        (in-append x os ps (s .members x .0 q)),
+    λ q. s .members x .1
+        (⊎-elim (λ z. in-left x os ps (a .members x .1 z)) (λ z. in-right x os ps (b .members x .1 z)) (in-append x ls ms q)),
   );
   count = omega (arith, s .count, a .count, b .count, length-append os ps, length-append ls ms);
   records = omega (arith, s .records, a .records, b .records, records-append os ps, records-append ls ms);
@@ -141,14 +154,16 @@ short-sorted L X h = record { sorted = λ ls x d. (ls, sorted-self ls (go ls x),
     go (l ∷ m ∷ ls) x = absurd (omega (arith, lines-length X L (l ∷ m ∷ ls) x))
 
 whole-sorted :
-    (L X P Q out after : List ℕ) (j h : ℕ) → h ≡ j * 32 → h ≤ length L → length out ≡ length P + length Q → InOrder (take h L) X P → InOrder (drop h L) X Q
+    (L X P Q out after : List ℕ) (j h : ℕ) → h ≡ j * (4 * variables) → h ≤ length L → length out ≡ length P + length Q
+    → InOrder (take h L) X P → InOrder (drop h L) X Q
     → Merged P Q X out 0 after → InOrder L X after
 whole-sorted L X P Q out after j h e g n a b m = record {
   sorted = λ ls x d.
       let s = halved X L j h ls e g x d in
       let p = a .sorted (s .one) (s .left) (s .one-distinct) in
       let q = b .sorted (s .two) (s .right) (s .two-distinct) in
-      let o = m .joined (p .0) (q .0) (p .2) (q .2) (p .1 .rising) (q .1 .rising) (sorted-apart (s .one) (s .two) (p .0) (q .0) (p .1) (q .1) (s .apart)) in
+      let o = m .joined (p .0) (q .0) (p .2) (q .2) (p .1 .rising) (q .1 .rising)
+      (sorted-apart (s .one) (s .two) (p .0) (q .0) (p .1) (q .1) (s .apart)) in
       let w : length (o .bytes) ≡ length out = omega (arith, o .long) in
       let f : after ≡ o .bytes = whole-written out (o .bytes) after (o .written) w in (
         o .order,
@@ -195,7 +210,7 @@ module _ (L P : List ℕ) (h : ℕ) (e : length P ≡ length (take (h - 0) (drop
     both-length = ap length both-are ∙ length-append P Q
 
 -- sorting by halves
-module _ (L X work : List ℕ) (j h : ℕ) (s : Sorts L X work) (e : h ≡ j * 32) (g : h ≤ length L) where
+module _ (L X work : List ℕ) (j h : ℕ) (s : Sorts L X work) (e : h ≡ j * (4 * variables)) (g : h ≤ length L) where
   in-halves : Halved X L h (s .some)
   in-halves = halved X L j h (s .some) e g (s .lines) (s .distinct)
 
@@ -224,7 +239,8 @@ module _ (L X work : List ℕ) (j h : ℕ) (s : Sorts L X work) (e : h ≡ j * 3
           room = omega (arith, s .room, length-drop h L);
         })
 
-    module _ (a : InOrder (take (h - 0) (drop 0 L)) X P) (Q : List ℕ) (q : length Q ≡ length (take (length L - h) (drop h (first-changed L P h p g))))
+    module _ (a : InOrder (take (h - 0) (drop 0 L)) X P) (Q : List ℕ)
+        (q : length Q ≡ length (take (length L - h) (drop h (first-changed L P h p g))))
         (b : InOrder (take (length L - h) (drop h (first-changed L P h p g))) X Q) where
       first-order : InOrder (take h L) X P
       first-order = rw (first-part L h) at a
@@ -259,7 +275,10 @@ module _ (L X work : List ℕ) (j h : ℕ) (s : Sorts L X work) (e : h ≡ j * 3
           }
 
       pub sorted-back :
-          (after : List ℕ) → Merged (take h (both-changed L P h p g Q q)) (drop h (both-changed L P h p g Q q)) X (both-changed L P h p g Q q) 0 after → InOrder L X after
+          (after : List ℕ)
+          → Merged (take h (both-changed L P h p g Q q)) (drop h (both-changed L P h p g Q q)) X (both-changed L P h p g Q q) 0 after
+          → InOrder L X after
       sorted-back after m =
           whole-sorted L X P Q (both-changed L P h p g Q q) after j h e g (both-length L P h p g Q q) first-order second-order
-          (subst₂ (λ (x y : List ℕ). Merged x y X (both-changed L P h p g Q q) 0 after) (first-is L P h p g Q q) (second-is L P h p g Q q) m)
+          (subst₂ (λ (x y : List ℕ). Merged x y X (both-changed L P h p g Q q) 0 after) (first-is L P h p g Q q)
+          (second-is L P h p g Q q) m)

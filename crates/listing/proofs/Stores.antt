@@ -12,9 +12,9 @@ use Rattle.terms.specs.Figures.{variables}
 use Rattle.terms.specs.Listing.{In, Line}
 use Rattle.terms.specs.Layout.{valueRecords, lineBytes, lineValues, lineTable, valuesRecords, valueTable}
 use Rattle.assignments.specs.declared.Entry.{Entry}
-use Rattle.sweeping.proofs.Stores.{sets-then}
+use Rattle.copying.proofs.Stores.{sets-then}
 use Rattle.listing.specs.declared.Tally.{Tally}
-use Rattle.listing.specs.Outcome.{Outcome, outcome, fits, written, counted, store, stores, Finds, Found, Tables}
+use Rattle.listing.specs.Outcome.{lineRecords, Outcome, outcome, fits, written, counted, store, stores, Finds, Found, Tables}
 use Rattle.listing.proofs.Writers.{line-bytes-length, line-values-length}
 use Rattle.listing.proofs.Storing.{holds-few, store-lines-full, store-fits}
 
@@ -39,12 +39,17 @@ store-records o l = go (fits o l)
     go true = refl
     go false = refl
 
-pub store-lengths : (o : Outcome) (l : Line) → (length (store o l .lines) ≡ length (o .lines)) × (length (store o l .values) ≡ length (o .values))
+pub store-lengths : (o : Outcome) (l : Line)
+    → (length (store o l .lines) ≡ length (o .lines)) × (length (store o l .values) ≡ length (o .values))
 unfolding store
 store-lengths o l = go (fits o l)
   where
-    go : (b : Bool) → (length (cond b (written o l) (counted o l) .lines) ≡ length (o .lines)) × (length (cond b (written o l) (counted o l) .values) ≡ length (o .values))
-    go true = (length-sets (o .lines) (4 * variables * o .count) (lineBytes (o .records) l), length-sets (o .values) (4 * o .records) (lineValues l))
+    go : (b : Bool) → (length (cond b (written o l) (counted o l) .lines) ≡ length (o .lines))
+        × (length (cond b (written o l) (counted o l) .values) ≡ length (o .values))
+    go true = (
+      length-sets (o .lines) (4 * variables * o .count) (lineBytes (o .records) l),
+      length-sets (o .values) (4 * o .records) (lineValues l),
+    )
     go false = (refl, refl)
 
 pub stores-count : (o : Outcome) (ls : List Line) → stores o ls .count ≡ o .count + length ls
@@ -55,7 +60,8 @@ pub stores-records : (o : Outcome) (ls : List Line) → stores o ls .records ≡
 stores-records o [] = omega arith
 stores-records o (l ∷ ls) = omega (arith, stores-records (store o l) ls, store-records o l)
 
-pub stores-lengths : (o : Outcome) (ls : List Line) → (length (stores o ls .lines) ≡ length (o .lines)) × (length (stores o ls .values) ≡ length (o .values))
+pub stores-lengths : (o : Outcome) (ls : List Line)
+    → (length (stores o ls .lines) ≡ length (o .lines)) × (length (stores o ls .values) ≡ length (o .values))
 stores-lengths o [] = (refl, refl)
 stores-lengths o (l ∷ ls) =
     let h = store-lengths o l in
@@ -69,7 +75,13 @@ Entire ls = (l : Line) → In l ls → length l ≡ variables
 pub line-table-length : (k : ℕ) (ls : List Line) → Entire ls → length (lineTable k ls) ≡ 4 * variables * length ls
 line-table-length k [] h = refl
 line-table-length k (l ∷ ls) h =
-    omega (arith, length-append (lineBytes k l) (lineTable (k + valueRecords l) ls), line-bytes-length k l, h l (inl refl), line-table-length (k + valueRecords l) ls (λ m p. h m (inr p)))
+    omega (
+      arith,
+      length-append (lineBytes k l) (lineTable (k + valueRecords l) ls),
+      line-bytes-length k l,
+      h l (inl refl),
+      line-table-length (k + valueRecords l) ls (λ m p. h m (inr p)),
+    )
 
 pub value-table-length : (ls : List Line) → length (valueTable ls) ≡ 4 * valuesRecords ls
 value-table-length [] = refl
@@ -81,20 +93,24 @@ pub record Written (o : Outcome) (ls : List Line) : Type 0 where
   pub values : stores o ls .values ≡ sets (o .values) (4 * o .records) (valueTable ls)
 
 pub stores-written :
-    (ls : List Line) (o : Outcome) → Entire ls → 4 * variables * (o .count + length ls) ≤ length (o .lines) → 4 * (o .records + valuesRecords ls) ≤ length (o .values) → Written o ls
+    (ls : List Line) (o : Outcome) → Entire ls → 4 * variables * (o .count + length ls) ≤ length (o .lines)
+    → 4 * (o .records + valuesRecords ls) ≤ length (o .values) → Written o ls
 stores-written [] o e h k = record { lines = refl; values = refl }
 stores-written (l ∷ ls) o e h k =
     let s : store o l ≡ written o l = store-fits o l (omega arith) (omega arith) in
     let n = length-sets (o .lines) (4 * variables * o .count) (lineBytes (o .records) l) in
     let m = length-sets (o .values) (4 * o .records) (lineValues l) in
     let w = stores-written ls (written o l) (λ x p. e x (inr p)) (omega arith) (omega arith) in
-    let i : 4 * variables * (o .count + 1) ≡ 4 * variables * o .count + length (lineBytes (o .records) l) = omega (arith, line-bytes-length (o .records) l, e l (inl refl)) in
+    let i : 4 * variables * (o .count + 1) ≡ 4 * variables * o .count + length (lineBytes (o .records) l) =
+    omega (arith, line-bytes-length (o .records) l, e l (inl refl)) in
     let j : 4 * (o .records + valueRecords l) ≡ 4 * o .records + length (lineValues l) = omega (arith, line-values-length l) in
     record {
       lines = ap (λ (x : Outcome). stores x ls .lines) s ∙ w .lines
-          ∙ ap (λ (q : ℕ). sets (sets (o .lines) (4 * variables * o .count) (lineBytes (o .records) l)) q (lineTable (o .records + valueRecords l) ls)) i
+          ∙ ap (λ (q : ℕ). sets (sets (o .lines) (4 * variables * o .count) (lineBytes (o .records) l)) q
+          (lineTable (o .records + valueRecords l) ls)) i
           ∙ sets-then (lineBytes (o .records) l) (lineTable (o .records + valueRecords l) ls) (o .lines) (4 * variables * o .count);
-      values = ap (λ (x : Outcome). stores x ls .values) s ∙ w .values ∙ ap (λ (q : ℕ). sets (sets (o .values) (4 * o .records) (lineValues l)) q (valueTable ls)) j
+      values = ap (λ (x : Outcome). stores x ls .values) s ∙ w .values
+          ∙ ap (λ (q : ℕ). sets (sets (o .values) (4 * o .records) (lineValues l)) q (valueTable ls)) j
           ∙ sets-then (lineValues l) (valueTable ls) (o .values) (4 * o .records);
     }
 
@@ -106,7 +122,8 @@ pub record Begun (lines values : List ℕ) (ls : List Line) : Type 0 where
   pub lines-begin : stores (outcome lines values none-yet) ls .lines ≡ lineTable 0 ls ++ drop (4 * variables * length ls) lines
   pub values-begin : stores (outcome lines values none-yet) ls .values ≡ valueTable ls ++ drop (4 * valuesRecords ls) values
 
-pub stores-tables : (lines values : List ℕ) (ls : List Line) → Entire ls → 4 * variables * length ls ≤ length lines → 4 * valuesRecords ls ≤ length values → Begun lines values ls
+pub stores-tables : (lines values : List ℕ) (ls : List Line) → Entire ls → 4 * variables * length ls ≤ length lines
+    → 4 * valuesRecords ls ≤ length values → Begun lines values ls
 stores-tables lines values ls e h k =
     let w = stores-written ls (outcome lines values none-yet) e (omega arith) (omega arith) in
     let n : 0 + length (lineTable 0 ls) ≡ 4 * variables * length ls = omega (arith, line-table-length 0 ls e) in
@@ -131,16 +148,19 @@ stores-begin lines values ls e h k =
     begins xs q p n i b = b ∙ ap (xs ++_) (sym (ap (drop n) b ∙ drop-at xs q n i))
 
 -- empty tables: every line is counted and nothing is written
-pub stores-empty : (t : Tally) (ls : List Line) → stores (outcome [] [] t) ls ≡ outcome [] [] (record { lines = t .lines + length ls; records = t .records + valuesRecords ls })
+pub stores-empty : (t : Tally) (ls : List Line)
+    → stores (outcome [] [] t) ls ≡ outcome [] [] (record { lines = t .lines + length ls; records = t .records + valuesRecords ls })
 stores-empty t [] = ap₂ (λ (i j : ℕ). outcome [] [] (record { lines = i; records = j })) (omega arith) (omega arith)
 stores-empty t (l ∷ ls) =
-    ap (λ (o : Outcome). stores o ls) (store-lines-full (outcome [] [] t) l (omega arith)) ∙ stores-empty (record { lines = t .lines + 1; records = t .records + valueRecords l }) ls
+    ap (λ (o : Outcome). stores o ls) (store-lines-full (outcome [] [] t) l (omega arith))
+    ∙ stores-empty (record { lines = t .lines + 1; records = t .records + valueRecords l }) ls
     ∙ ap₂ (λ (i j : ℕ). outcome [] [] (record { lines = i; records = j })) (omega arith) (omega arith)
 
 -- a tally after a found line: one line more, and still few enough records
 pub found-tally :
-    (s : List ℕ) (a : List Entry) (lines values : List ℕ) (done : Tally) (lines-after values-after : List ℕ) (r : Tally) → Finds s a lines values done → length a ≡ variables
-    → Found s a lines values done lines-after values-after r → (r .lines ≡ done .lines + 1) × (r .records ≤ 1280 * r .lines)
+    (s : List ℕ) (a : List Entry) (lines values : List ℕ) (done : Tally) (lines-after values-after : List ℕ) (r : Tally)
+    → Finds s a lines values done → length a ≡ variables
+    → Found s a lines values done lines-after values-after r → (r .lines ≡ done .lines + 1) × (r .records ≤ lineRecords * r .lines)
 found-tally s a lines values done lines-after values-after r x n f =
     let e = f .stored (x .top) (x .line) (x .holds) in
     let c = ap (λ (o : Outcome). o .count) e ∙ store-count (outcome lines values done) (x .line) in

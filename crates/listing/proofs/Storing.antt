@@ -15,7 +15,8 @@ use Rattle.terms.specs.Layout.{valueRecords}
 use Rattle.assignments.specs.declared.Entry.{Entry}
 use Rattle.assignments.specs.declared.Entry.the-variants.{Open, Assigned}
 use Rattle.listing.specs.declared.Tally.{Tally}
-use Rattle.listing.specs.Outcome.{Holds, Outcome, outcome, written, counted, store, Finds, Found}
+use Rattle.assignments.specs.Held.{Holds}
+use Rattle.listing.specs.Outcome.{Outcome, outcome, written, counted, store, Finds, Found}
 use Rattle.listing.specs.Writers.{EntryStands, LineStands, total, WriteLine, WroteLine}
 use Rattle.listing.proofs.Writers.{total-line}
 
@@ -40,7 +41,8 @@ holds-few s top (Open ∷ a) (some v ∷ l) h = absurd (h .0)
 holds-few s top (Assigned x ∷ a) (none ∷ l) h = absurd (h .0)
 holds-few s top (Assigned x ∷ a) (some v ∷ l) h = omega (arith, h .0 .most, holds-few s top a l (h .1))
 
-pub total-few : (s : List ℕ) (a : List Entry) (lines values : List ℕ) (done : Tally) → Finds s a lines values done → total a ≤ figures.valueRecords * length a
+pub total-few : (s : List ℕ) (a : List Entry) (lines values : List ℕ) (done : Tally) → Finds s a lines values done
+    → total a ≤ figures.valueRecords * length a
 total-few s a lines values done x =
     omega (arith, total-line s a (x .line) (holds-stands s (x .top) a (x .line) (x .holds)), holds-few s (x .top) a (x .line) (x .holds))
 
@@ -58,7 +60,8 @@ module _ (o : Outcome) (l : Line) where
       go true e = simp (e, lt-leb _ _ h)
       go false e = simp e
 
-  pub store-fits : 4 * variables * (o .count + 1) ≤ length (o .lines) → 4 * (o .records + valueRecords l) ≤ length (o .values) → store o l ≡ written o l
+  pub store-fits : 4 * variables * (o .count + 1) ≤ length (o .lines) → 4 * (o .records + valueRecords l) ≤ length (o .values)
+      → store o l ≡ written o l
   unfolding store
   store-fits h k = simp (le-leb _ _ h, le-leb _ _ k)
 
@@ -67,20 +70,24 @@ module _ (s : List ℕ) (a : List Entry) (lines values : List ℕ) (done : Tally
   records-are : (top : ℕ) (l : Line) → Holds s top a l → n ≡ done .records + valueRecords l
   records-are top l h = e ∙ ap (done .records +_) (total-line s a l (holds-stands s top a l h))
 
-  pub found-lines-full : length lines < 4 * variables * (done .lines + 1) → Found s a lines values done lines values (record { lines = done .lines + 1; records = n })
+  pub found-lines-full : length lines < 4 * variables * (done .lines + 1)
+      → Found s a lines values done lines values (record { lines = done .lines + 1; records = n })
   found-lines-full h = record {
-    stored = λ top l x. ap (λ (k : ℕ). outcome lines values (record { lines = done .lines + 1; records = k })) (records-are top l x) ∙ sym (store-lines-full (outcome lines values done) l h);
+    stored = λ top l x. ap (λ (k : ℕ). outcome lines values (record { lines = done .lines + 1; records = k })) (records-are top l x)
+        ∙ sym (store-lines-full (outcome lines values done) l h);
   }
 
   pub found-values-full : length values < 4 * n → Found s a lines values done lines values (record { lines = done .lines + 1; records = n })
   found-values-full h = record {
     stored = λ top l x.
         let k = records-are top l x in
-        ap (λ (k : ℕ). outcome lines values (record { lines = done .lines + 1; records = k })) k ∙ sym (store-values-full (outcome lines values done) l (omega arith));
+        ap (λ (k : ℕ). outcome lines values (record { lines = done .lines + 1; records = k })) k
+        ∙ sym (store-values-full (outcome lines values done) l (omega arith));
   }
 
   pub found-written :
-      (p w : List ℕ) (r : ℕ) → 4 * variables * (done .lines + 1) ≤ length lines → 4 * n ≤ length values → WroteLine s a lines (4 * variables * done .lines) values (done .records) p w r
+      (p w : List ℕ) (r : ℕ) → 4 * variables * (done .lines + 1) ≤ length lines → 4 * n ≤ length values
+      → WroteLine s a lines (4 * variables * done .lines) values (done .records) p w r
       → Found s a lines values done p w (record { lines = done .lines + 1; records = r })
   found-written p w r h k y = record {
     stored = λ top l x.
@@ -89,10 +96,12 @@ module _ (s : List ℕ) (a : List Entry) (lines values : List ℕ) (done : Tally
         let b = y .bytes l m in
         let d = y .copied l m in
         let f = y .records l m in
-        (λ i. record { lines = b i; values = d i; count = done .lines + 1; records = f i }) ∙ sym (store-fits (outcome lines values done) l h (omega arith));
+        (λ i. record { lines = b i; values = d i; count = done .lines + 1; records = f i })
+        ∙ sym (store-fits (outcome lines values done) l h (omega arith));
   }
 
-  pub line-of : Finds s a lines values done → 4 * variables * (done .lines + 1) ≤ length lines → 4 * n ≤ length values → length a ≡ variables → WriteLine s a 0 lines (4 * variables * done .lines) values (done .records)
+  pub line-of : Finds s a lines values done → 4 * variables * (done .lines + 1) ≤ length lines → 4 * n ≤ length values
+      → length a ≡ variables → WriteLine s a 0 lines (4 * variables * done .lines) values (done .records)
   line-of x h k m = record {
     line = x .line;
     stands = holds-stands s (x .top) a (x .line) (x .holds);

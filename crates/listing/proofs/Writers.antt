@@ -18,8 +18,9 @@ use Rattle.terms.proofs.Table.{encode-length}
 use Rattle.assignments.specs.declared.Span.{Span}
 use Rattle.assignments.specs.declared.Entry.{Entry}
 use Rattle.assignments.specs.declared.Entry.the-variants.{Open, Assigned}
-use Rattle.sweeping.proofs.Stores.{written-then}
-use Rattle.listing.specs.Writers.{entryRecords, entryBytes, entryValues, Stands, EntryStands, LineStands, countOf, total, WriteEntry, Wrote, WriteLine, WroteLine}
+use Rattle.copying.proofs.Stores.{written-then}
+use Rattle.listing.specs.Writers.{entryRecords, entryBytes, entryValues, Stands, EntryStands, LineStands, countOf, total, WriteEntry}
+use Rattle.listing.specs.Writers.{Wrote, WriteLine, WroteLine}
 
 -- a line is its first entry and the others
 pub line-entry : (k : ℕ) (o : Option Term) (l : Line) → lineBytes k (o ∷ l) ≡ entryBytes k o ++ lineBytes (k + entryRecords o) l
@@ -82,12 +83,14 @@ assigned-entry s e o x h p = go o (subst (λ (d : Entry). EntryStands s d o) p h
       stands = y;
       records = y .count;
       within = omega (arith, y .part .within, y .count);
-      bytes = ap₂ (λ (n : ℕ) (l : List ℕ). take (4 * n) l) (y .count) (y .part .bytes) ∙ take-at (encode v) (y .part .rest) (4 * size v) (encode-length v);
+      bytes = ap₂ (λ (n : ℕ) (l : List ℕ). take (4 * n) l) (y .count) (y .part .bytes)
+          ∙ take-at (encode v) (y .part .rest) (4 * size v) (encode-length v);
     }
 
 -- one entry written
 module _ (s : List ℕ) (e : Entry) (lines : List ℕ) (at : ℕ) (values : List ℕ) (first : ℕ) where
-  pub wrote-open : (p q : List ℕ) → e ≡ Open → p ≡ sets lines at (word 0 []) → q ≡ sets p (at + 2) (word 0 []) → Wrote s e lines at values first q values first
+  pub wrote-open : (p q : List ℕ) → e ≡ Open → p ≡ sets lines at (word 0 []) → q ≡ sets p (at + 2) (word 0 [])
+      → Wrote s e lines at values first q values first
   wrote-open p q n b d = record {
     records = λ o x. rw (open-entry s e o x n) (sym (add-zero first));
     bytes = λ o x. rw (open-entry s e o x n) (written-then (word 0 []) (word 0 []) lines p q at (at + 2) b d refl);
@@ -95,13 +98,15 @@ module _ (s : List ℕ) (e : Entry) (lines : List ℕ) (at : ℕ) (values : List
   }
 
   pub wrote-assigned :
-      (x : Span) (p q part w : List ℕ) → e ≡ Assigned x → p ≡ sets lines at (word first []) → q ≡ sets p (at + 2) (word (x .count) []) → part ≡ take (4 * x .count) (drop (4 * x .first) s)
+      (x : Span) (p q part w : List ℕ) → e ≡ Assigned x → p ≡ sets lines at (word first []) → q ≡ sets p (at + 2) (word (x .count) [])
+      → part ≡ take (4 * x .count) (drop (4 * x .first) s)
       → w ≡ sets values (4 * first) part → Wrote s e lines at values first q w (first + x .count)
   wrote-assigned x p q part w n b d g k = record {
     records = λ o h. ap (first +_) (assigned-entry s e o x h n .records);
     bytes = λ o h. let a = assigned-entry s e o x h n in
         written-then (word first []) (word (x .count) []) lines p q at (at + 2) b d refl
-        ∙ ap (λ (j : ℕ). sets lines at (word first (word j []))) (a .stands .count) ∙ ap (λ (o : Option Term). sets lines at (entryBytes first o)) (sym (a .is));
+        ∙ ap (λ (j : ℕ). sets lines at (word first (word j []))) (a .stands .count)
+        ∙ ap (λ (o : Option Term). sets lines at (entryBytes first o)) (sym (a .is));
     copied = λ o h. k ∙ ap (sets values (4 * first)) (g ∙ assigned-entry s e o x h n .bytes);
   }
 
@@ -142,11 +147,13 @@ module _ (s : List ℕ) (a : List Entry) (i : ℕ) (lines : List ℕ) (at : ℕ)
   }
 
   wrote-next :
-      (p w q x : List ℕ) (m r : ℕ) → i < length a → Wrote s (getD a i Open) lines at values first p w m → WroteLine s (drop (i + 1) a) p (at + 4) w m q x r
+      (p w q x : List ℕ) (m r : ℕ) → i < length a → Wrote s (getD a i Open) lines at values first p w m
+      → WroteLine s (drop (i + 1) a) p (at + 4) w m q x r
       → WroteLine s (drop i a) lines at values first q x r
   wrote-next p w q x m r h y z = record { records = λ l n. go l n .0; bytes = λ l n. go l n .1; copied = λ l n. go l n .2 }
     where
-      go : (l : Line) → LineStands s (drop i a) l → (r ≡ first + valueRecords l) × (q ≡ sets lines at (lineBytes first l)) × (x ≡ sets values (4 * first) (lineValues l))
+      go : (l : Line) → LineStands s (drop i a) l
+          → (r ≡ first + valueRecords l) × (q ≡ sets lines at (lineBytes first l)) × (x ≡ sets values (4 * first) (lineValues l))
       go l n =
           let k = next s a i l h n in
           let o = k .entry in
@@ -154,9 +161,11 @@ module _ (s : List ℕ) (a : List Entry) (i : ℕ) (lines : List ℕ) (at : ℕ)
           rw (k .is) (
             omega (arith, e, z .records (k .rest) (k .others), records-entry o (k .rest)),
             written-then (entryBytes first o) (lineBytes (first + entryRecords o) (k .rest)) lines p q at (at + 4) (y .bytes o (k .first))
-                (z .bytes (k .rest) (k .others) ∙ ap (λ (j : ℕ). sets p (at + 4) (lineBytes j (k .rest))) e) (ap (at +_) (sym (entry-bytes-length first o)))
+                (z .bytes (k .rest) (k .others) ∙ ap (λ (j : ℕ). sets p (at + 4) (lineBytes j (k .rest))) e)
+                (ap (at +_) (sym (entry-bytes-length first o)))
                 ∙ ap (sets lines at) (sym (line-entry first o (k .rest))),
-            written-then (entryValues o) (lineValues (k .rest)) values w x (4 * first) (4 * m) (y .copied o (k .first)) (z .copied (k .rest) (k .others))
+            written-then (entryValues o) (lineValues (k .rest)) values w x (4 * first) (4 * m) (y .copied o (k .first))
+                (z .copied (k .rest) (k .others))
                 (omega (arith, e, entry-values-length o))
                 ∙ ap (sets values (4 * first)) (sym (values-entry o (k .rest))),
           )
@@ -173,7 +182,8 @@ module _ (s : List ℕ) (a : List Entry) (i : ℕ) (lines : List ℕ) (at : ℕ)
       }
 
   others-of :
-      (p w : List ℕ) (m : ℕ) → WriteLine s a i lines at values first → i < variables → Wrote s (getD a i Open) lines at values first p w m → length p ≡ length lines → length w ≡ length values
+      (p w : List ℕ) (m : ℕ) → WriteLine s a i lines at values first → i < variables → Wrote s (getD a i Open) lines at values first p w m
+      → length p ≡ length lines → length w ≡ length values
       → WriteLine s a (i + 1) p (at + 4) w m
   others-of p w m x h y e f =
       let k = next s a i (x .line) (omega (arith, x .entries)) (x .stands) in
@@ -182,15 +192,18 @@ module _ (s : List ℕ) (a : List Entry) (i : ℕ) (lines : List ℕ) (at : ℕ)
         stands = k .others;
         upto = omega arith;
         room = omega (arith, x .room);
-        values-room = omega (arith, x .values-room, ap valueRecords (k .is), records-entry (k .entry) (k .rest), y .records (k .entry) (k .first));
+        values-room =
+            omega (arith, x .values-room, ap valueRecords (k .is), records-entry (k .entry) (k .rest), y .records (k .entry) (k .first));
         values-most = omega (arith, x .values-most);
         entries = x .entries;
       }
 
 -- a line of which the entries below i are written: the others can be, and then the line is
-pub record Writing (s : List ℕ) (a : List Entry) (lines : List ℕ) (at : ℕ) (values : List ℕ) (first : ℕ) (lines-now values-now : List ℕ) (next i : ℕ) : Type 0 where
+pub record Writing (s : List ℕ) (a : List Entry) (lines : List ℕ) (at : ℕ) (values : List ℕ) (first : ℕ) (lines-now values-now : List ℕ)
+    (next i : ℕ) : Type 0 where
   pub left : WriteLine s a i lines-now (at + 4 * i) values-now next
-  pub whole : (p w : List ℕ) (r : ℕ) → WroteLine s (drop i a) lines-now (at + 4 * i) values-now next p w r → WroteLine s a lines at values first p w r
+  pub whole : (p w : List ℕ) (r : ℕ) → WroteLine s (drop i a) lines-now (at + 4 * i) values-now next p w r
+      → WroteLine s a lines at values first p w r
   pub same-lines : length lines-now ≡ length lines
   pub same-values : length values-now ≡ length values
 
@@ -210,7 +223,8 @@ module _ (s : List ℕ) (a : List Entry) (lines : List ℕ) (at : ℕ) (values :
     writing-entry h = entry-of s a i now (at + 4 * i) then next (x .left) h
 
     pub writing-more :
-        (p w : List ℕ) (m : ℕ) → i < variables → Wrote s (getD a i Open) now (at + 4 * i) then next p w m → length p ≡ length now → length w ≡ length then
+        (p w : List ℕ) (m : ℕ) → i < variables → Wrote s (getD a i Open) now (at + 4 * i) then next p w m → length p ≡ length now
+        → length w ≡ length then
         → Writing s a lines at values first p w m (i + 1)
     writing-more p w m h y f g =
         let e : at + 4 * i + 4 ≡ at + 4 * (i + 1) = omega arith in
@@ -218,7 +232,8 @@ module _ (s : List ℕ) (a : List Entry) (lines : List ℕ) (at : ℕ) (values :
           left = subst (λ (k : ℕ). WriteLine s a (i + 1) p k w m) e (others-of s a i now (at + 4 * i) then next p w m (x .left) h y f g);
           whole = λ q v r z.
               x .whole q v r
-              (wrote-next s a i now (at + 4 * i) then next p w q v m r (omega (arith, x .left .entries)) y (subst (λ (k : ℕ). WroteLine s (drop (i + 1) a) p k w m q v r) (sym e) z));
+              (wrote-next s a i now (at + 4 * i) then next p w q v m r (omega (arith, x .left .entries)) y
+              (subst (λ (k : ℕ). WroteLine s (drop (i + 1) a) p k w m q v r) (sym e) z));
           same-lines = f ∙ x .same-lines;
           same-values = g ∙ x .same-values;
         }

@@ -1,5 +1,5 @@
--- What laying out the values of lines in line order needs, and what it leaves. The lines stand in a table in any order of their values, which
--- stand in s.
+-- What laying out the values of lines in line order needs, and what it leaves. The lines stand in a table in any order of their values,
+-- which stand in s.
 --   LayLine s L at X k      what laying out one line needs, the line at byte `at` of L, its values from record k of X on
 --   LaidLine s L at X k M Y next    what it leaves
 --   LayLines s L n X        what laying out the first n lines of L needs
@@ -49,6 +49,8 @@ pub record LayOut (lines : List ℕ) (count : ℕ) (values : List ℕ) (records 
   pub area : length work ≡ tableBytes
 
 pub record LaidOut (lines : List ℕ) (count : ℕ) (values : List ℕ) (records : ℕ) (lines-after values-after : List ℕ) : Type 0 where
-  pub bytes : (ms : List Line) → Lines (take (4 * records) values) (take (4 * variables * count) lines) ms → lines-after ≡ lineTable 0 ms ++ drop (4 * variables * count) lines
+  pub bytes : (ms : List Line) → Lines (take (4 * records) values) (take (4 * variables * count) lines) ms
+      → lines-after ≡ lineTable 0 ms ++ drop (4 * variables * count) lines
   pub copied :
-      (ms : List Line) → Lines (take (4 * records) values) (take (4 * variables * count) lines) ms → records ≡ valuesRecords ms → values-after ≡ valueTable ms ++ drop (4 * records) values
+      (ms : List Line) → Lines (take (4 * records) values) (take (4 * variables * count) lines) ms → records ≡ valuesRecords ms
+      → values-after ≡ valueTable ms ++ drop (4 * records) values

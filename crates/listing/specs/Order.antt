@@ -1,7 +1,8 @@
 -- The order of lines by their bytes: comparing two lines, merging lines in order, and sorting lines.
 --   Compares R x y c            c says how x stands to y in the order R
 --   openAgainst e               how an open entry stands to the entry e
---   Standing L i X l            the entries l, of the variables from i on, stand in the bytes L of a line, their values in X one behind another
+--   Standing L i X l            the entries l, of the variables from i on, stand in the bytes L of a line,
+--                               their values in X one behind another
 --   Comparable A B i X          entries of the variables from i on stand in A and in B
 --   EntriesCompared A B i X c   c says how the entry of variable i in A stands to the one in B
 --   LinesCompared A B i X r     r says whether the entries from variable i on in A come before those in B
@@ -16,7 +17,8 @@
 --   MergesLine A i B j X out    what writing the first of them into out needs
 --   Joined X ls n out o after   n bytes were written into out from byte o on: the lines ls in order
 --   Merged A B X out o after    the lines of A and of B, each in order and none in both, were so written
---   MergedLine A i B j X out after k m   the first line was written from byte i + j on; the others, from bytes k and m on, are still to merge
+--   MergedLine A i B j X out after k m   the first line was written from byte i + j on;
+--                                        the others, from bytes k and m on, are still to merge
 --   Merges A B X out            what merging the lines of A and of B into out needs
 --   Halves L X work h           what merging the lines of L before byte h with those from there on needs
 --   Sorts L X work              what sorting the lines of L needs
@@ -126,7 +128,8 @@ pub record Joined (X : List ℕ) (ls : List Line) (n : ℕ) (out : List ℕ) (o 
   pub written : after ≡ sets out o bytes
 
 pub record Merged (A B X out : List ℕ) (o : ℕ) (after : List ℕ) : Type 0 where
-  pub joined : (ls ms : List Line) → Lines X A ls → Lines X B ms → Rising ls → Rising ms → Apart ls ms → Joined X (ls ++ ms) (length A + length B) out o after
+  pub joined : (ls ms : List Line) → Lines X A ls → Lines X B ms → Rising ls → Rising ms → Apart ls ms
+      → Joined X (ls ++ ms) (length A + length B) out o after
 
 pub record MergedLine (A : List ℕ) (i : ℕ) (B : List ℕ) (j : ℕ) (X out after : List ℕ) (k m : ℕ) : Type 0 where
   pub merging : Merging A k B m X

@@ -1,7 +1,5 @@
 -- What becomes of the lines that a search finds, and the tables of a listing.
---   Held s top x v            the value v stands in s where the span x says, below byte `top`
---   EntryHeld s top e o       the entry e, with the bytes s, is the entry o of a line
---   Holds s top a l           the entries a, with the bytes s, are the line l; every value stands below byte `top`
+--   lineRecords               the most records that the values of one line have
 --   Outcome                   the two tables, how many lines were found, and how many records their values have
 --   outcome lines values t    the tables as bytes, with the tally t
 --   fits o l                  whether the line l still fits both tables
@@ -18,7 +16,6 @@
 --   Arranged L X n k M Y      so it is for all n lines that L and X begin with, with k records of values
 use mathlib.Core.Path.{_≡_}
 use mathlib.Core.Bool.{Bool, cond, _&&_}
-use mathlib.Core.Option.{Option, none, some}
 use mathlib.Core.List.{List, [], _∷_, _++_}
 use mathlib.Core.Logic.{_↔_}
 use Prim.Native.Nat.{ℕ, _+_, _*_, _≤_, _<_}
@@ -27,34 +24,15 @@ use lib.ListN.{length, drop}
 use lib.Seq.{sets}
 use Rattle.terms.specs.Figures as figures
 use Rattle.terms.specs.Figures.{variables, tableBytes}
-use Rattle.terms.specs.Term.{Term, size, Value}
 use Rattle.terms.specs.Listing.{In, Line, Rising}
 use Rattle.terms.specs.Layout.{valueRecords, lineBytes, lineValues, lineTable, valuesRecords, valueTable}
 use Rattle.terms.proofs.Members.{Distinct}
-use Rattle.records.specs.Parts.{Part}
-use Rattle.assignments.specs.declared.Span.{Span}
+use Rattle.assignments.specs.Held.{Holds}
 use Rattle.assignments.specs.declared.Entry.{Entry}
-use Rattle.assignments.specs.declared.Entry.the-variants.{Open, Assigned}
 use Rattle.listing.specs.declared.Tally.{Tally}
 
-pub record Held (s : List ℕ) (top : ℕ) (x : Span) (v : Term) : Type 0 where
-  pub part : Part s (4 * x .first) v
-  pub count : x .count ≡ size v
-  pub below : 4 * (x .first + x .count) ≤ top
-  pub most : size v ≤ figures.valueRecords
-  pub value : Value v
-
-abbrev pub EntryHeld : List ℕ → ℕ → Entry → Option Term → Type 0
-EntryHeld s top Open none = Unit {0}
-EntryHeld s top Open (some v) = ⊥
-EntryHeld s top (Assigned x) none = ⊥
-EntryHeld s top (Assigned x) (some v) = Held s top x v
-
-abbrev pub Holds : List ℕ → ℕ → List Entry → Line → Type 0
-Holds s top [] [] = Unit {0}
-Holds s top [] (o ∷ l) = ⊥
-Holds s top (e ∷ a) [] = ⊥
-Holds s top (e ∷ a) (o ∷ l) = EntryHeld s top e o × Holds s top a l
+abbrev pub lineRecords : ℕ
+lineRecords = figures.valueRecords * variables
 
 pub record Outcome : Type 0 where
   pub lines : List ℕ
@@ -95,11 +73,11 @@ pub record Finds (s : List ℕ) (a : List Entry) (lines values : List ℕ) (done
   pub area : length s ≤ tableBytes
   pub lines-most : length lines ≤ tableBytes
   pub values-most : length values ≤ tableBytes
-  pub few : done .lines < 65536
-  -- 8 values of at most 160 records for each line
-  pub records-few : done .records ≤ 1280 * done .lines
+  pub few : done .lines < tableBytes
+  pub records-few : done .records ≤ lineRecords * done .lines
 
-pub record Found (s : List ℕ) (a : List Entry) (lines values : List ℕ) (done : Tally) (lines-after values-after : List ℕ) (r : Tally) : Type 0 where
+pub record Found (s : List ℕ) (a : List Entry) (lines values : List ℕ) (done : Tally) (lines-after values-after : List ℕ)
+    (r : Tally) : Type 0 where
   pub stored : (top : ℕ) (l : Line) → Holds s top a l → outcome lines-after values-after r ≡ store (outcome lines values done) l
 
 pub record Laid (values bytes : List ℕ) (l : Line) : Type 0 where
@@ -143,4 +121,5 @@ pub record InLineOrder (lines values : List ℕ) (ls : List Line) (lines-after v
   pub values-begin : values-after ≡ valueTable order ++ drop (4 * valuesRecords ls) values
 
 pub record Arranged (lines values : List ℕ) (count records : ℕ) (lines-after values-after : List ℕ) : Type 0 where
-  pub arranged : (ls : List Line) → Tables lines values ls → Distinct ls → count ≡ length ls → records ≡ valuesRecords ls → InLineOrder lines values ls lines-after values-after
+  pub arranged : (ls : List Line) → Tables lines values ls → Distinct ls → count ≡ length ls → records ≡ valuesRecords ls
+      → InLineOrder lines values ls lines-after values-after

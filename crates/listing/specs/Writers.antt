@@ -68,7 +68,8 @@ pub record WriteEntry (s : List ℕ) (e : Entry) (lines : List ℕ) (at : ℕ) (
   pub values-room : 4 * (first + entryRecords entry) ≤ length values
   pub values-most : length values ≤ tableBytes
 
-pub record Wrote (s : List ℕ) (e : Entry) (lines : List ℕ) (at : ℕ) (values : List ℕ) (first : ℕ) (lines-after values-after : List ℕ) (next : ℕ) : Type 0 where
+pub record Wrote (s : List ℕ) (e : Entry) (lines : List ℕ) (at : ℕ) (values : List ℕ) (first : ℕ) (lines-after values-after : List ℕ)
+    (next : ℕ) : Type 0 where
   pub records : (o : Option Term) → EntryStands s e o → next ≡ first + entryRecords o
   pub bytes : (o : Option Term) → EntryStands s e o → lines-after ≡ sets lines at (entryBytes first o)
   pub copied : (o : Option Term) → EntryStands s e o → values-after ≡ sets values (4 * first) (entryValues o)
@@ -82,7 +83,8 @@ pub record WriteLine (s : List ℕ) (a : List Entry) (i : ℕ) (lines : List ℕ
   pub values-most : length values ≤ tableBytes
   pub entries : length a ≡ variables
 
-pub record WroteLine (s : List ℕ) (a : List Entry) (lines : List ℕ) (at : ℕ) (values : List ℕ) (first : ℕ) (lines-after values-after : List ℕ) (next : ℕ) : Type 0 where
+pub record WroteLine (s : List ℕ) (a : List Entry) (lines : List ℕ) (at : ℕ) (values : List ℕ) (first : ℕ)
+    (lines-after values-after : List ℕ) (next : ℕ) : Type 0 where
   pub records : (l : Line) → LineStands s a l → next ≡ first + valueRecords l
   pub bytes : (l : Line) → LineStands s a l → lines-after ≡ sets lines at (lineBytes first l)
   pub copied : (l : Line) → LineStands s a l → values-after ≡ sets values (4 * first) (lineValues l)

@@ -7,6 +7,7 @@
 // the entries of a line, and on `sweeping` for copying bytes.
 
 use assignments::Entry;
+use assignments::LINE;
 use records::RECORD;
 use records::VARIABLES;
 ghost use mathlib.Core.Path.{_≡_};
@@ -19,11 +20,9 @@ ghost use Rattle.terms.specs.Listing.{Lexicographic};
 ghost use Rattle.terms.specs.Layout.{word};
 ghost use Rattle.listing.specs.Outcome.{Finds, Found, Arranges, Arranged};
 ghost use Rattle.listing.specs.Writers.{countOf, total, WriteEntry, Wrote, WriteLine, WroteLine};
-ghost use Rattle.listing.specs.Order.{Compares, openAgainst, Comparable, EntriesCompared, Begin, Ordered, Merging, Chosen, MergesLine, MergedLine, Merges, Merged, Halves, Sorts, InOrder};
+ghost use Rattle.listing.specs.Order.{Compares, openAgainst, Comparable, EntriesCompared, Begin, Ordered, Merging, Chosen};
+ghost use Rattle.listing.specs.Order.{MergesLine, MergedLine, Merges, Merged, Halves, Sorts, InOrder};
 ghost use Rattle.listing.specs.Laying.{LayLine, LaidLine, LayLines, LaidLines, LayOut, LaidOut};
-
-// The bytes of one line, a record for each variable.
-pub const LINE: usize = 32;
 
 // How many lines were found, and how many records their values have.
 pub struct Tally {
@@ -50,7 +49,8 @@ fn write_entry(
     first: usize,
 ) -> usize
     requires { ⌜ WriteEntry (now s) e (now lines) at (now values) first ⌝ }
-    ensures { λ r. ⌜ Wrote (now (s .entry)) e (now (lines .entry)) at (now (values .entry)) first (now (lines .exit)) (now (values .exit)) r ⌝ }
+    ensures { λ r. ⌜ Wrote (now (s .entry)) e (now (lines .entry)) at (now (values .entry)) first (now (lines .exit))
+        (now (values .exit)) r ⌝ }
 {
     let Entry::Assigned(span) = e else {
         put_word(lines, at, 0);
@@ -59,21 +59,22 @@ fn write_entry(
     };
     put_word(lines, at, first);
     put_word(lines, at + 2, span.count);
-    sweeping::copy_into(assignments::value_of(s, span), values, RECORD * first);
+    copying::copy_into(assignments::value_of(s, span), values, RECORD * first);
     first + span.count
 }
 
 // Writes the line at byte `at`, and its values from record `first` of the values on. Answers the record behind them.
 fn write_line(
     s: &[u8],
-    a: [Entry; 8],
+    a: [Entry; VARIABLES],
     lines: &mut [u8],
     at: usize,
     values: &mut [u8],
     first: usize,
 ) -> usize
     requires { ⌜ WriteLine (now s) a 0 (now lines) at (now values) first ⌝ }
-    ensures { λ r. ⌜ WroteLine (now (s .entry)) a (now (lines .entry)) at (now (values .entry)) first (now (lines .exit)) (now (values .exit)) r ⌝ }
+    ensures { λ r. ⌜ WroteLine (now (s .entry)) a (now (lines .entry)) at (now (values .entry)) first (now (lines .exit))
+        (now (values .exit)) r ⌝ }
 {
     let mut next = first;
     let mut i = 0;
@@ -96,7 +97,7 @@ fn count_of(e: Entry) -> usize
 }
 
 // The records that the values of all entries have.
-fn records_of(a: [Entry; 8]) -> usize
+fn records_of(a: [Entry; VARIABLES]) -> usize
     requires { ⌜ total a ≤ numbers ⌝ }
     ensures { λ r. ⌜ r ≡ total a ⌝ }
 {
@@ -111,9 +112,16 @@ fn records_of(a: [Entry; 8]) -> usize
 }
 
 // A line more, whose values stand in the work area: it is counted, and written behind the lines before it if it fits both tables.
-pub fn found(work: &[u8], a: [Entry; 8], lines: &mut [u8], values: &mut [u8], done: Tally) -> Tally
+pub fn found(
+    work: &[u8],
+    a: [Entry; VARIABLES],
+    lines: &mut [u8],
+    values: &mut [u8],
+    done: Tally,
+) -> Tally
     requires { ⌜ Finds (now work) a (now lines) (now values) done ⌝ }
-    ensures { λ r. ⌜ Found (now (work .entry)) a (now (lines .entry)) (now (values .entry)) done (now (lines .exit)) (now (values .exit)) r ⌝ }
+    ensures { λ r. ⌜ Found (now (work .entry)) a (now (lines .entry)) (now (values .entry)) done (now (lines .exit))
+        (now (values .exit)) r ⌝ }
 {
     let at = LINE * done.lines;
     let first = done.records;
@@ -243,18 +251,19 @@ struct Places {
 // Writes the line that comes next, of those of a from byte i on and of b from byte j on, behind the i + j bytes that are written.
 fn merge_line(a: &[u8], i: usize, b: &[u8], j: usize, values: &[u8], out: &mut [u8]) -> Places
     requires { ⌜ MergesLine (now a) i (now b) j (now values) (now out) ⌝ }
-    ensures { λ r. ⌜ MergedLine (now (a .entry)) i (now (b .entry)) j (now (values .entry)) (now (out .entry)) (now (out .exit)) (r .left) (r .right) ⌝ }
+    ensures { λ r. ⌜ MergedLine (now (a .entry)) i (now (b .entry)) j (now (values .entry)) (now (out .entry)) (now (out .exit))
+        (r .left) (r .right) ⌝ }
 {
     if left_is_next(a, i, b, j, values) {
         let end = i + LINE;
-        sweeping::copy_into(&a[i..end], out, i + j);
+        copying::copy_into(&a[i..end], out, i + j);
         return Places {
             left: end,
             right: j,
         };
     }
     let end = j + LINE;
-    sweeping::copy_into(&b[j..end], out, i + j);
+    copying::copy_into(&b[j..end], out, i + j);
     Places {
         left: i,
         right: end,
@@ -279,11 +288,12 @@ fn merge(a: &[u8], b: &[u8], values: &[u8], out: &mut [u8])
 // Merges the lines before byte `half` with those from there on, in the work area, and copies them back.
 fn merge_halves(lines: &mut [u8], half: usize, values: &[u8], work: &mut [u8])
     requires { ⌜ Halves (now lines) (now values) (now work) half ⌝ }
-    ensures { λ _. ⌜ Merged (take half (now (lines .entry))) (drop half (now (lines .entry))) (now (values .entry)) (now (lines .entry)) 0 (now (lines .exit)) ⌝ }
+    ensures { λ _. ⌜ Merged (take half (now (lines .entry))) (drop half (now (lines .entry))) (now (values .entry)) (now (lines .entry)) 0
+        (now (lines .exit)) ⌝ }
 {
     let n = lines.len();
     merge(&lines[0..half], &lines[half..n], values, work);
-    sweeping::copy_into(&work[0..n], lines, 0);
+    copying::copy_into(&work[0..n], lines, 0);
 }
 
 // Sorts lines: each half by itself, then both together.
@@ -304,7 +314,8 @@ fn sort(lines: &mut [u8], values: &[u8], work: &mut [u8])
 // Writes the line at byte `at` anew, its values from record `first` of the values on; they stand in s. Answers the record behind them.
 fn lay_line(s: &[u8], lines: &mut [u8], at: usize, values: &mut [u8], first: usize) -> usize
     requires { ⌜ LayLine (now s) (now lines) at (now values) first ⌝ }
-    ensures { λ r. ⌜ LaidLine (now (s .entry)) (now (lines .entry)) at (now (values .entry)) first (now (lines .exit)) (now (values .exit)) r ⌝ }
+    ensures { λ r. ⌜ LaidLine (now (s .entry)) (now (lines .entry)) at (now (values .entry)) first (now (lines .exit))
+        (now (values .exit)) r ⌝ }
 {
     let end = at + LINE;
     let a = assignments::entries_of(&lines[at..end]);
@@ -314,7 +325,8 @@ fn lay_line(s: &[u8], lines: &mut [u8], at: usize, values: &mut [u8], first: usi
 // Writes the first `count` lines anew, their values in line order from record 0 on; they stand in s.
 fn lay_lines(s: &[u8], lines: &mut [u8], count: usize, values: &mut [u8])
     requires { ⌜ LayLines (now s) (now lines) count (now values) ⌝ }
-    ensures { λ _. ⌜ LaidLines (now (s .entry)) (now (lines .entry)) count (now (values .entry)) (now (lines .exit)) (now (values .exit)) ⌝ }
+    ensures { λ _. ⌜ LaidLines (now (s .entry)) (now (lines .entry)) count (now (values .entry)) (now (lines .exit))
+        (now (values .exit)) ⌝ }
 {
     let mut first = 0;
     let mut i = 0;
@@ -324,14 +336,14 @@ fn lay_lines(s: &[u8], lines: &mut [u8], count: usize, values: &mut [u8])
     }
 }
 
-// Lays the values of the first `count` lines out in line order. They are read from a copy in the work area, since a value's new place can be
-// where another still stands.
+// Lays the values of the first `count` lines out in line order. They are read from a copy in the work area, since a value's new place can
+// be where another still stands.
 fn lay_out(lines: &mut [u8], count: usize, values: &mut [u8], records: usize, work: &mut [u8])
     requires { ⌜ LayOut (now lines) count (now values) records (now work) ⌝ }
     ensures { λ _. ⌜ LaidOut (now (lines .entry)) count (now (values .entry)) records (now (lines .exit)) (now (values .exit)) ⌝ }
 {
     let n = RECORD * records;
-    sweeping::copy_into(&values[0..n], work, 0);
+    copying::copy_into(&values[0..n], work, 0);
     lay_lines(&work[0..n], lines, count, values);
 }
 

@@ -1,26 +1,39 @@
--- The answers of list, from the verdict on its tables and from what its search came to; and 9 is given exactly if every full listing has more
--- lines than were lent. The rows before 9 have other numbers, and there is one full listing only. Assumes nothing.
+-- The answers of list, from the verdict on its tables and from what its search came to; and 9 is given exactly if every full listing has
+-- more lines than were lent. The rows before 9 have other numbers, and there is one full listing only. Assumes nothing.
 use mathlib.Core.Path.{_≡_, refl, sym, ap, _∙_, subst, subst₂}
 use mathlib.Core.Bool.{Bool, true, false}
-use mathlib.Core.List.{List, [], _∷_, append-nil}
+use mathlib.Core.List.{List, [], _∷_, _++_, append-nil}
 use mathlib.Core.Logic.{_⊎_, inl, inr}
-use Prim.Native.Nat.{ℕ, _<_}
+use Prim.Native.Nat.{ℕ, _≤_, _<_}
 use native.Mathlib.Omega.{arith}
 use lib.Dec.{lit<}
 use lib.ListN.{length}
-use Rattle.terms.specs.Figures.{variables}
+use Rattle.terms.specs.Figures.{variables, tableBytes}
 use Rattle.terms.specs.Term.{Term, Below}
 use Rattle.terms.specs.Table.{encode, goodRecords, IsTable}
 use Rattle.terms.specs.Listing.{Line, Full}
-use Rattle.terms.specs.Refusal.{Row, Refused, Passed, listing}
+use Rattle.terms.specs.Refusal.{Row, Refused, Passed, listTables, pattern, recipe, listing}
 use Rattle.terms.proofs.Table.{encode-one, good-below}
 use Rattle.terms.proofs.Refusal.{refused-passed}
 use Rattle.matching.proofs.Listing.{unique}
-use Rattle.matcher.specs.declared.Verdict.{Verdict}
-use Rattle.matcher.specs.declared.Refusal.{Refusal}
+use Rattle.records.specs.Checks.{Pattern, Recipe}
+use Rattle.refusals.specs.declared.Verdict.{Verdict}
+use Rattle.refusals.specs.declared.Refusal.{Refusal}
+use Rattle.refusals.specs.Judged.{number, Judged, firstOf}
+use Rattle.refusals.proofs.Judging.{judged-more, judged-first}
 use Rattle.matcher.specs.declared.ListAnswer.{ListAnswer}
-use Rattle.matcher.specs.Operations.{number, lentForList, lentLines, lentRecords, ListingOf, NoRoom, Listed, TooMany, NineExactly}
-use Rattle.matcher.specs.Steps.{Judged, Listable, Enumerated}
+use Rattle.matcher.specs.Operations.{lentForList, lentLines, lentRecords, ListingOf, NoRoom, Listed, TooMany, NineExactly}
+use Rattle.matcher.specs.Steps.{Listable, Enumerated}
+
+-- the tables that list is lent, judged
+pub judged-list :
+    (p t l s w : List ℕ) (a b r : Verdict)
+    → Judged (listTables l s w) ((length l ≤ tableBytes) × ((length s ≤ tableBytes) × (length w ≡ tableBytes))) a
+    → Judged (pattern p ++ recipe t) (Pattern p × Recipe t) b → r ≡ firstOf a b → Judged (lentForList p t l s w) (Listable p t l s w) r
+judged-list p t l s w a b r x y e =
+    judged-more _ _ _ r
+    (λ z. record { pattern-checked = z .1 .0; recipe-checked = z .1 .1; lines-most = z .0 .0; values-most = z .0 .1 .0; area = z .0 .1 .1 })
+    (judged-first (listTables l s w) (pattern p ++ recipe t) _ _ a b r x y e)
 
 -- the numbers of the rows before 9
 abbrev Low : List Row → Type 0
@@ -69,7 +82,8 @@ module _ (p r l s w : List ℕ) where
       let y = f .recipe-term in
       unique variables x y (below-passed h x (f .pattern-table)) ls ms (f .full)
       (subst₂ (λ (u v : Term). Full variables u v ms)
-      (encode-one (g .pattern-term) x (sym (g .pattern-table .0) ∙ f .pattern-table .0)) (encode-one (g .recipe-term) y (sym (g .recipe-table .0) ∙ f .recipe-table .0)) (g .full))
+      (encode-one (g .pattern-term) x (sym (g .pattern-table .0) ∙ f .pattern-table .0))
+      (encode-one (g .recipe-term) y (sym (g .recipe-table .0) ∙ f .recipe-table .0)) (g .full))
 
   -- 9, exactly
   nine-many : (m q : List ℕ) → Listed p r l s w (ListAnswer.Refused Refusal.LineRoom) m q → TooMany p r l s w
@@ -90,7 +104,8 @@ module _ (p r l s w : List ℕ) where
   many-nine (ListAnswer.Lines n) m q x z = absurd (x .1 .room .0 (z .1 (x .1 .lines) (x .1 .listing-of)))
   many-nine (ListAnswer.Refused c) m q x z = go (x .0)
     where
-      more : (n : NoRoom p r l s (number c)) → Refused (listing (lentLines l) (lentRecords s) (n .lines)) (number c) → ListAnswer.Refused c ≡ ListAnswer.Refused Refusal.LineRoom
+      more : (n : NoRoom p r l s (number c)) → Refused (listing (lentLines l) (lentRecords s) (n .lines)) (number c)
+          → ListAnswer.Refused c ≡ ListAnswer.Refused Refusal.LineRoom
       more n (inl d) = ap ListAnswer.Refused (number-nine c (d .1))
       more n (inr d) = absurd (d .0 (z .1 (n .lines) (n .listing-of)))
 
@@ -103,7 +118,8 @@ module _ (p r l s w : List ℕ) where
   listed-nine a m q x = (λ e. nine-many m q (subst (λ (b : ListAnswer). Listed p r l s w b m q) e x), many-nine a m q x)
 
   -- an answer, that 9 is exact, and what else is promised with them
-  pub listed-all : (A : Type 0) (a : ListAnswer) (m q : List ℕ) → Listed p r l s w a m q → A → Listed p r l s w a m q × (NineExactly p r l s w a × A)
+  pub listed-all : (A : Type 0) (a : ListAnswer) (m q : List ℕ) → Listed p r l s w a m q → A
+      → Listed p r l s w a m q × (NineExactly p r l s w a × A)
   listed-all A a m q x y = (x, (listed-nine a m q x, y))
 
   -- from the verdict and the search

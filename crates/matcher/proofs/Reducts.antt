@@ -41,7 +41,8 @@ module _ (p q : List ℕ) (a : Pattern p) (e : q ≡ encode (reduct (a .tree))) 
     pattern-table = a .table;
     recipe-table = f .recipe-table;
     full = reduct-full variables (a .tree) (f .recipe-term) (a .below) ls
-        (subst (λ (u : Term). Full variables u (f .recipe-term) ls) (encode-one (f .pattern-term) (reduct (a .tree)) (sym (f .pattern-table .0) ∙ e)) (f .full));
+        (subst (λ (u : Term). Full variables u (f .recipe-term) ls)
+        (encode-one (f .pattern-term) (reduct (a .tree)) (sym (f .pattern-table .0) ∙ e)) (f .full));
   }
 
   pub enumerated : (t l s : List ℕ) (r : ListAnswer) (m n : List ℕ) → Enumerated q t l s r m n → Enumerated p t l s r m n

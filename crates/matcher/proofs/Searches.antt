@@ -7,7 +7,7 @@ use Prim.Native.Nat.{ℕ, _+_, _-_, _*_, _≤_, _<_}
 use native.Mathlib.Omega.{arith}
 use lib.ListN.{length, take, drop}
 use lib.Seq.{sets, sets-eq, drop-at, take-at}
-use Rattle.terms.specs.Figures.{variables, tableBytes}
+use Rattle.terms.specs.Figures.{variables}
 use Rattle.terms.specs.Term.{Term, Occurs}
 use Rattle.terms.specs.Listing.{In, Line, Full}
 use Rattle.terms.specs.Layout.{valueRecords, lineTable, valuesRecords, valueTable}
@@ -25,10 +25,11 @@ use Rattle.listing.specs.declared.Tally.{Tally}
 use Rattle.listing.specs.Outcome.{Outcome, outcome, Tables, InLineOrder, Arranges, Arranged}
 use Rattle.listing.proofs.Stores.{stores-count, stores-records, stores-lengths, stores-begin, line-table-length, value-table-length}
 use Rattle.search.specs.Collected.{Tallied, nothing, Collected}
-use Rattle.matcher.specs.declared.Refusal.{Refusal}
+use Rattle.refusals.specs.declared.Refusal.{Refusal}
+use Rattle.refusals.specs.Judged.{number}
 use Rattle.matcher.specs.declared.ListAnswer.{ListAnswer}
-use Rattle.matcher.specs.Operations.{lentLines, lentRecords, ListingOf, WrittenLines}
-use Rattle.matcher.specs.Steps.{Listable, Room, Copies, Copied, Enumerated}
+use Rattle.matcher.specs.Operations.{lentLines, lentRecords, ListingOf, WrittenLines, NoRoom}
+use Rattle.matcher.specs.Steps.{Listable, Room, Copies, Copied, CopiedIf, Enumerated}
 
 -- lines that are found, none twice, have no more records than all
 without :
@@ -43,12 +44,18 @@ found-records : (ls ms : List Line) → Distinct ls → ((x : Line) → In x ls 
 found-records [] ms h f = omega arith
 found-records (l ∷ ls) ms h f =
     let r = without l ms (f l (inl refl)) in
-    let g : (x : Line) → In x ls → In x (r .0) = λ x p. ⊎-elim (λ e. absurd (h .0 (subst (λ y. In y ls) e p))) (λ z. z) (r .2 x (f x (inr p))) in
+    let g : (x : Line) → In x ls → In x (r .0) =
+    λ x p. ⊎-elim (λ e. absurd (h .0 (subst (λ y. In y ls) e p))) (λ z. z) (r .2 x (f x (inr p))) in
     omega (arith, r .1, found-records ls (r .0) (h .1) g)
 
-lists-records : (n : ℕ) (S : ℕ → Type 0) (Q : Predicate) (ls ms : List Line) → Lists n S Q ls → Lists n S Q ms → valuesRecords ls ≡ valuesRecords ms
+lists-records : (n : ℕ) (S : ℕ → Type 0) (Q : Predicate) (ls ms : List Line) → Lists n S Q ls → Lists n S Q ms
+    → valuesRecords ls ≡ valuesRecords ms
 lists-records n S Q ls ms x y =
-    omega (arith, found-records ls ms (x .distinct) (lists-members n S Q ls ms x y), found-records ms ls (y .distinct) (lists-members n S Q ms ls y x))
+    omega (
+      arith,
+      found-records ls ms (x .distinct) (lists-members n S Q ls ms x y),
+      found-records ms ls (y .distinct) (lists-members n S Q ms ls y x),
+    )
 
 module _ (p t : List ℕ) (a : Pattern p) (b : Recipe t) where
   abbrev x : Term
@@ -62,7 +69,8 @@ module _ (p t : List ℕ) (a : Pattern p) (b : Recipe t) where
 
   lists-occurs : (ls : List Line) → Lists variables (OccursIn p) (Sweeps x y) ls → Listing ls
   lists-occurs ls h =
-      lists-more variables (λ i. Occurs i x) (OccursIn p) (Sweeps x y) ls (λ i o. subst (Occurs i) (encode-one (o .0) x (sym (o .1 .0) ∙ a .table .0)) (o .2)) h
+      lists-more variables (λ i. Occurs i x) (OccursIn p) (Sweeps x y) ls
+      (λ i o. subst (Occurs i) (encode-one (o .0) x (sym (o .1 .0) ∙ a .table .0)) (o .2)) h
 
   listing-of : (ls : List Line) → Full variables x y ls → ListingOf p t ls
   listing-of ls f = record { pattern-term = x; recipe-term = y; pattern-table = a .table; recipe-table = b .table; full = f }
@@ -70,7 +78,8 @@ module _ (p t : List ℕ) (a : Pattern p) (b : Recipe t) where
   full-of : (ls : List Line) → ListingOf p t ls → Full variables x y ls
   full-of ls f =
       subst₂ (λ (u v : Term). Full variables u v ls)
-      (encode-one (f .pattern-term) x (sym (f .pattern-table .0) ∙ a .table .0)) (encode-one (f .recipe-term) y (sym (f .recipe-table .0) ∙ b .table .0)) (f .full)
+      (encode-one (f .pattern-term) x (sym (f .pattern-table .0) ∙ a .table .0))
+      (encode-one (f .recipe-term) y (sym (f .recipe-table .0) ∙ b .table .0)) (f .full)
 
   lists-of : (ls : List Line) → ListingOf p t ls → Listing ls
   lists-of ls f = lists-full variables x y (a .below) ls (full-of ls f)
@@ -100,7 +109,8 @@ module _ (p t : List ℕ) (a : Pattern p) (b : Recipe t) where
 
     pub no-lines : (l s : List ℕ) → limit ≡ lentLines l → limit < n .lines → Enumerated p t l s (ListAnswer.Refused Refusal.LineRoom) l s
     unfolding Enumerated
-    no-lines l s e h = (record { lines = order; listing-of = ordered; cause = inl (omega (arith, tallied .over h, order-length), refl) }, refl, refl)
+    no-lines l s e h =
+        (record { lines = order; listing-of = ordered; cause = inl (omega (arith, tallied .over h, order-length), refl) }, refl, refl)
 
     module _ (h : n .lines ≤ limit) where
       lines-are : n .lines ≡ length found
@@ -113,11 +123,15 @@ module _ (p t : List ℕ) (a : Pattern p) (b : Recipe t) where
         suffice : ¬ (lentLines l < length order)
         suffice k = omega (arith, lines-are, order-length)
 
-        pub no-records : lentRecords s < n .records → Enumerated p t l s (ListAnswer.Refused Refusal.ValueRoom) l s
+        no-records : lentRecords s < n .records → Enumerated p t l s (ListAnswer.Refused Refusal.ValueRoom) l s
         unfolding Enumerated
-        no-records k = (record { lines = order; listing-of = ordered; cause = inr (suffice, inl (omega (arith, records-are, order-records), refl)) }, refl, refl)
+        no-records k = (
+          record { lines = order; listing-of = ordered; cause = inr (suffice, inl (omega (arith, records-are, order-records), refl)) },
+          refl,
+          refl,
+        )
 
-        pub room : n .records ≤ lentRecords s → Room p t l s
+        room : n .records ≤ lentRecords s → Room p t l s
         room k = record { lines = order; listing-of = ordered; fits = (suffice, (λ j. omega (arith, records-are, order-records), tt)) }
 
       -- what it has written, where all lines fit
@@ -129,10 +143,13 @@ module _ (p t : List ℕ) (a : Pattern p) (b : Recipe t) where
 
         lengths : (length m ≡ length m₀) × (length q ≡ length q₀)
         lengths =
-            let n = stores-lengths (outcome m₀ q₀ nothing) found in
-            (ap (λ (o : Outcome). length (o .lines)) (tallied .exact h) ∙ n .0, ap (λ (o : Outcome). length (o .values)) (tallied .exact h) ∙ n .1)
+            let n = stores-lengths (outcome m₀ q₀ nothing) found in (
+              ap (λ (o : Outcome). length (o .lines)) (tallied .exact h) ∙ n .0,
+              ap (λ (o : Outcome). length (o .values)) (tallied .exact h) ∙ n .1,
+            )
 
-        pub copies : (l s w : List ℕ) → 4 * variables * n .lines ≤ length l → 4 * n .records ≤ length s → Listable p t l s w → Copies n m q l s w
+        pub copies : (l s w : List ℕ) → 4 * variables * n .lines ≤ length l → 4 * n .records ≤ length s → Listable p t l s w
+            → Copies n m q l s w
         copies l s w u v z = record {
           found = found;
           tables = tables;
@@ -162,7 +179,8 @@ module _ (p t : List ℕ) (a : Pattern p) (b : Recipe t) where
             let i : o .order ≡ r .lines = rising-same (o .order) (r .lines) (o .sorted .rising) (f .rising)
             (λ u j. lists-members variables (λ i. Occurs i x) (Sweeps x y) found (r .lines) listed whole u (o .sorted .members u .0 j))
             (λ u j. o .sorted .members u .1 (lists-members variables (λ i. Occurs i x) (Sweeps x y) (r .lines) found whole listed u j)) in
-            let g : 4 * variables * length found ≡ length (lineTable 0 (r .lines)) = omega (arith, line-table-length 0 (r .lines) (f .entries), same-length) in
+            let g : 4 * variables * length found ≡ length (lineTable 0 (r .lines)) =
+            omega (arith, line-table-length 0 (r .lines) (f .entries), same-length) in
             let k : 4 * valuesRecords found ≡ length (valueTable (r .lines)) = omega (arith, value-table-length (r .lines), same-records) in
             record {
               lines = r .lines;
@@ -173,13 +191,26 @@ module _ (p t : List ℕ) (a : Pattern p) (b : Recipe t) where
               value-bytes = o .values-begin ∙ ap₂ _++_ (ap valueTable i) (ap (λ (j : ℕ). drop j s) k);
             }
 
-        pub written-copied :
-            4 * variables * n .lines ≤ length m₀ → 4 * n .records ≤ length q₀ → (k : ℕ) → k ≡ n .lines → (m′ q′ : List ℕ) → Copied n m q l s m′ q′ → WrittenLines p t l s k m′ q′
+        written-copied :
+            4 * variables * n .lines ≤ length m₀ → 4 * n .records ≤ length q₀ → (k : ℕ) → k ≡ n .lines → (m′ q′ : List ℕ)
+            → Copied n m q l s m′ q′ → WrittenLines p t l s k m′ q′
         written-copied i j k e m′ q′ z =
-            subst (λ (k : ℕ). WrittenLines p t l s k m′ q′) (sym e) (written-in-order m′ q′ (z .copied found (tables i j) (listed .distinct) lines-are records-are))
+            subst (λ (k : ℕ). WrittenLines p t l s k m′ q′) (sym e)
+            (written-in-order m′ q′ (z .copied found (tables i j) (listed .distinct) lines-are records-are))
+
+      -- the lines are copied, or their values have no room
+      pub answered :
+          (l s : List ℕ) → limit ≤ lentLines l → 4 * variables * n .lines ≤ length m₀
+          → (n .records ≤ lentRecords s → 4 * n .records ≤ length q₀)
+          → (a : ListAnswer) (m′ q′ : List ℕ) → CopiedIf n m q l s a m′ q′ → Enumerated p t l s a m′ q′
+      unfolding CopiedIf Enumerated
+      answered l s e i j (ListAnswer.Lines k) m′ q′ z = written-copied l s (room l s e (z .1)) i (j (z .1)) k (z .0) m′ q′ (z .2)
+      answered l s e i j (ListAnswer.Refused c) m′ q′ z =
+          (subst (λ (d : Refusal). NoRoom p t l s (number d)) (sym (z .0)) (no-records l s e (z .1) .0), z .2, z .3)
 
 -- copying the tables of lines
-module _ (n : Tally) (m q l s w : List ℕ) (x : Copies n m q l s w) (i j : ℕ) (f : i ≡ 4 * variables * n .lines) (g : j ≡ 4 * n .records) (l₁ s₁ : List ℕ) (c : l₁ ≡ sets l 0 (take (i - 0) (drop 0 m))) (d : s₁ ≡ sets s 0 (take (j - 0) (drop 0 q))) where
+module _ (n : Tally) (m q l s w : List ℕ) (x : Copies n m q l s w) (i j : ℕ) (f : i ≡ 4 * variables * n .lines) (g : j ≡ 4 * n .records)
+    (l₁ s₁ : List ℕ) (c : l₁ ≡ sets l 0 (take (i - 0) (drop 0 m))) (d : s₁ ≡ sets s 0 (take (j - 0) (drop 0 q))) where
   -- a table that begins with some bytes, copied to the start of another
   copied-table :
       (xs table before after : List ℕ) (i k : ℕ) → length xs ≡ k → i ≡ k → k ≤ length before → table ≡ xs ++ drop k table
@@ -200,10 +231,12 @@ module _ (n : Tally) (m q l s w : List ℕ) (x : Copies n m q l s w) (i j : ℕ)
     valueCount = 4 * valuesRecords ls
 
     lines-copied : l₁ ≡ lineTable 0 ls ++ drop lineCount l
-    lines-copied = copied-table (lineTable 0 ls) m l l₁ i lineCount (line-table-length 0 ls (t .entries)) (omega arith) (omega (arith, x .room .0)) (t .lines-begin) c
+    lines-copied = copied-table (lineTable 0 ls) m l l₁ i lineCount (line-table-length 0 ls (t .entries)) (omega arith)
+        (omega (arith, x .room .0)) (t .lines-begin) c
 
     values-copied : s₁ ≡ valueTable ls ++ drop valueCount s
-    values-copied = copied-table (valueTable ls) q s s₁ j valueCount (value-table-length ls) (omega arith) (omega (arith, x .room .1)) (t .values-begin) d
+    values-copied = copied-table (valueTable ls) q s s₁ j valueCount (value-table-length ls) (omega arith)
+        (omega (arith, x .room .1)) (t .values-begin) d
 
     lines-behind : drop lineCount l₁ ≡ drop lineCount l
     lines-behind = begins (lineTable 0 ls) l l₁ lineCount (line-table-length 0 ls (t .entries)) lines-copied
@@ -240,12 +273,19 @@ module _ (n : Tally) (m q l s w : List ℕ) (x : Copies n m q l s w) (i j : ℕ)
     area = x .area;
   }
 
-  pub copied : (l′ s′ : List ℕ) → Arranged l₁ s₁ (n .lines) (n .records) l′ s′ → Copied n m q l s l′ s′
+  copied : (l′ s′ : List ℕ) → Arranged l₁ s₁ (n .lines) (n .records) l′ s′ → Copied n m q l s l′ s′
   copied l′ s′ z = record { copied = λ ls t h a b. copied-order ls t a b l′ s′ h z }
 
-pub enumerated-written : (p t l s : List ℕ) (n : ℕ) (m q : List ℕ) → WrittenLines p t l s n m q → Enumerated p t l s (ListAnswer.Lines n) m q
-unfolding Enumerated
-enumerated-written p t l s n m q x = x
+  pub copied-lines :
+      n .records ≤ lentRecords s → (l′ s′ : List ℕ) → Arranged l₁ s₁ (n .lines) (n .records) l′ s′
+      → CopiedIf n m q l s (ListAnswer.Lines (n .lines)) l′ s′
+  unfolding CopiedIf
+  copied-lines h l′ s′ z = (refl, h, copied l′ s′ z)
+
+pub copied-none : (n : Tally) (m q l s : List ℕ) → lentRecords s < n .records
+    → CopiedIf n m q l s (ListAnswer.Refused Refusal.ValueRoom) l s
+unfolding CopiedIf
+copied-none n m q l s h = (refl, h, refl, refl)
 
 -- a search uses the work area, and keeps its length
 pub listable-kept : (p t l s w : List ℕ) → Listable p t l s w → (v : List ℕ) → length v ≡ length w → Listable p t l s v

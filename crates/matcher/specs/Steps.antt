@@ -1,73 +1,37 @@
--- What the steps of an operation answer.
---   Judged rows W v    the verdict v is the first row whose cause holds; or none does, and W
---   firstOf a b        the first of two verdicts that refuses
---   Ready p l s        the pattern's table p can be filled from the line l and the value table s
---   SweptSide ..       the swept form of the filled pattern, or that some part's is too long
---   Matched ..         whether the filled pattern sweeps to the recipe
---   Put ..             what writing a swept form answers and leaves
---   tableRow n l, areaRow w   the row 8 of a table of places of n bytes, and of the work area
+-- What the steps of list answer.
+--   shortLines, shortRecords   how many lines, and how many records of values, a short listing has at most
+--   Short m n few      m lines are at most `few`, and the n records of their values at most a short listing's
 --   Listable p t l s w   the tables that list is lent are ones that it searches
 --   Room p t l s       a full listing of p and t fits the tables l and s
 --   Copies n m q l s w   the tables m and q begin with those of n's lines, which have room in the tables l and s
 --   Copied ..          those lines, in order, stand in the tables l and s
+--   CopiedIf ..        so they do, or their values have no room
 --   Enumerated ..      what listing the matches answers and leaves
 use mathlib.Core.Path.{_≡_}
-use mathlib.Core.List.{List, [], _∷_, _++_}
+use mathlib.Core.List.{List}
 use Prim.Native.Nat.{ℕ, _*_, _≤_, _<_}
 use lib.ListN.{length}
 use Rattle.terms.specs.Figures.{variables, tableBytes}
-use Rattle.terms.specs.Term.{Term}
-use Rattle.terms.specs.Table.{encode}
 use Rattle.terms.specs.Listing.{Line}
 use Rattle.terms.specs.Layout.{valuesRecords}
+use Rattle.terms.specs.Refusal.{Passed, listing}
 use Rattle.terms.proofs.Members.{Distinct}
-use Rattle.terms.specs.Refusal.{Row, Refused, Passed, BadTable, BadArea, Filled, Matches, listing, swept, output}
 use Rattle.records.specs.Checks.{Pattern, Recipe}
-use Rattle.sweeping.specs.declared.Length.{Length}
-use Rattle.sweeping.specs.Swept as Sweeping
 use Rattle.listing.specs.declared.Tally.{Tally}
 use Rattle.listing.specs.Outcome.{Tables, InLineOrder}
-use Rattle.matcher.specs.declared.Verdict.{Verdict}
-use Rattle.matcher.specs.declared.SweepAnswer.{SweepAnswer}
+use Rattle.refusals.specs.declared.Refusal.{Refusal}
+use Rattle.refusals.specs.Judged.{number}
 use Rattle.matcher.specs.declared.ListAnswer.{ListAnswer}
-use Rattle.matcher.specs.declared.Match.{Match}
-use Rattle.matcher.specs.Operations.{number, Written, lentLines, lentRecords, ListingOf, WrittenLines, NoRoom}
+use Rattle.matcher.specs.Operations.{lentLines, lentRecords, ListingOf, WrittenLines, NoRoom}
 
--- "Each is given when its cause holds and no earlier one does, and at no other time."
-unfoldable pub Judged : List Row → Type 0 → Verdict → Type 0
-Judged rows W Verdict.Right = Passed rows × W
-Judged rows W (Verdict.Refused c) = Refused rows (number c)
+abbrev pub shortLines : ℕ
+shortLines = 128
 
--- the first verdict that refuses
-abbrev pub firstOf : Verdict → Verdict → Verdict
-firstOf Verdict.Right b = b
-firstOf (Verdict.Refused c) b = Verdict.Refused c
+abbrev pub shortRecords : ℕ
+shortRecords = 8192
 
-pub record Ready (p l s : List ℕ) : Type 0 where
-  pub checked : Pattern p
-  pub line : length l ≡ 4 * variables
-  pub term : Term
-  pub filled : Filled p l s term
-
--- the filled pattern's swept form, in a table of 256 records
-abbrev pub SweptSide : List ℕ → List ℕ → List ℕ → List ℕ → Length → List ℕ → Type 0
-SweptSide p l s out r after = (t : Term) → Filled p l s t → Sweeping.Swept t out r after
-
-unfoldable pub Matched : List ℕ → List ℕ → List ℕ → List ℕ → Match → Type 0
-Matched p l s r Match.Yes = Passed (swept p l s) × Matches p l s r
-Matched p l s r Match.No = Passed (swept p l s) × ¬ Matches p l s r
-Matched p l s r Match.TooLong = Refused (swept p l s) 12
-
-unfoldable pub Put : List ℕ → List ℕ → List ℕ → List ℕ → SweepAnswer → List ℕ → Type 0
-Put p l s o (SweepAnswer.Records n) after = Passed (swept p l s ++ output p l s o) × Written p l s o n after
-Put p l s o (SweepAnswer.Refused c) after = Refused (swept p l s ++ output p l s o) (number c) × (after ≡ o)
-
--- a row 8 by itself
-abbrev pub tableRow : ℕ → List ℕ → List Row
-tableRow place l = (8, BadTable place l) ∷ []
-
-abbrev pub areaRow : List ℕ → List Row
-areaRow w = (8, BadArea w) ∷ []
+abbrev pub Short : ℕ → ℕ → ℕ → Type 0
+Short m n few = (m ≤ few) × (n ≤ shortRecords)
 
 pub record Listable (p t l s w : List ℕ) : Type 0 where
   pub pattern-checked : Pattern p
@@ -94,7 +58,12 @@ pub record Copies (n : Tally) (m q l s w : List ℕ) : Type 0 where
   pub area : length w ≡ tableBytes
 
 pub record Copied (n : Tally) (m q l s l′ s′ : List ℕ) : Type 0 where
-  pub copied : (ls : List Line) → Tables m q ls → Distinct ls → n .lines ≡ length ls → n .records ≡ valuesRecords ls → InLineOrder l s ls l′ s′
+  pub copied : (ls : List Line) → Tables m q ls → Distinct ls → n .lines ≡ length ls → n .records ≡ valuesRecords ls
+      → InLineOrder l s ls l′ s′
+
+unfoldable pub CopiedIf : Tally → List ℕ → List ℕ → List ℕ → List ℕ → ListAnswer → List ℕ → List ℕ → Type 0
+CopiedIf n m q l s (ListAnswer.Lines k) l′ s′ = (k ≡ n .lines) × (n .records ≤ lentRecords s) × Copied n m q l s l′ s′
+CopiedIf n m q l s (ListAnswer.Refused c) l′ s′ = (c ≡ Refusal.ValueRoom) × (lentRecords s < n .records) × (l′ ≡ l) × (s′ ≡ s)
 
 unfoldable pub Enumerated : List ℕ → List ℕ → List ℕ → List ℕ → ListAnswer → List ℕ → List ℕ → Type 0
 Enumerated p r l s (ListAnswer.Lines n) lines-after values-after = WrittenLines p r l s n lines-after values-after

@@ -1,27 +1,50 @@
-// Lists the matches of a pattern and a recipe. A search writes what it finds to tables of its own, so that a listing without room is refused
-// before anything is written; from there the lines and their values are copied, and brought into document 01's order. The first search has
-// room for a short listing and stops where there are more lines; for a longer one a second search has as much room as can be lent.
+// Lists the matches of a pattern and a recipe. A search writes what it finds to tables of its own, so that a listing without room is
+// refused before anything is written; from there the lines and their values are copied, and brought into document 01's order. The first
+// search has room for a short listing and stops where there are more lines; for a longer one a second search has as much room as can be
+// lent.
 
 use crate::ListAnswer;
-use crate::Refusal;
+use assignments::LINE;
 use contraction::PATTERN_BYTES;
-use listing::LINE;
 use listing::Tally;
 use records::RECORD;
+use records::TABLE_BYTES;
+use refusals::Refusal;
 use sweeping::Length;
 ghost use mathlib.Core.Path.{_≡_};
-ghost use Prim.Native.Nat.{_≤_};
-ghost use Rattle.matcher.specs.Steps.{Listable, Enumerated, Copies, Copied};
+ghost use Prim.Native.Nat.{_*_, _≤_};
+ghost use lib.ListN.{length};
+ghost use Rattle.terms.specs.Figures.{variables, tableBytes};
+ghost use Rattle.records.specs.Tests.{Says};
+ghost use Rattle.matcher.specs.Operations.{lentRecords};
+ghost use Rattle.matcher.specs.Steps.{shortLines, shortRecords, Short, Listable, Enumerated, Copies, CopiedIf};
 
 // The bytes of the lines of a short listing, at most 128, and of their values, at most 8,192 records.
-const SHORT_LINES: usize = 4096;
+const SHORT_LINES: usize = 128 * LINE;
 
-const SHORT_VALUES: usize = 32768;
+const SHORT_VALUES: usize = 8192 * RECORD;
 
-// The bytes of the longest table.
-const TABLE_BYTES: usize = 65536;
+// A search's own tables come from functions that promise their lengths, so that no proof computes with so many bytes.
+fn short_line_table() -> [u8; SHORT_LINES]
+    ensures { λ r. ⌜ length r ≡ 4 * variables * shortLines ⌝ }
+{
+    [0u8; SHORT_LINES]
+}
 
-// Copies the lines that a search found, and their values, from the tables that it wrote to those that are lent, and brings them into order.
+fn short_value_table() -> [u8; SHORT_VALUES]
+    ensures { λ r. ⌜ length r ≡ 4 * shortRecords ⌝ }
+{
+    [0u8; SHORT_VALUES]
+}
+
+fn long_table() -> [u8; TABLE_BYTES]
+    ensures { λ r. ⌜ length r ≡ tableBytes ⌝ }
+{
+    [0u8; TABLE_BYTES]
+}
+
+// Copies the lines that a search found, and their values, from the tables that it wrote to those that are lent, and brings them into order;
+// or refuses, if the values have no room.
 fn copy_lines(
     found: Tally,
     rows: &[u8],
@@ -29,22 +52,26 @@ fn copy_lines(
     lines: &mut [u8],
     values: &mut [u8],
     work: &mut [u8],
-) -> usize
-    requires { ⌜ Copies found (now rows) (now terms) (now lines) (now values) (now work) ⌝ }
-    ensures is { λ r. ⌜ r ≡ found .lines ⌝ }
-    ensures tables { λ _. ⌜ Copied found (now (rows .entry)) (now (terms .entry)) (now (lines .entry)) (now (values .entry)) (now (lines .exit)) (now (values .exit)) ⌝ }
+) -> ListAnswer
+    requires { ⌜ (found .records ≤ lentRecords (now values) → Copies found (now rows) (now terms) (now lines) (now values) (now work)) ⌝ }
+    ensures { λ r. ⌜ CopiedIf found (now (rows .entry)) (now (terms .entry)) (now (lines .entry)) (now (values .entry)) r
+        (now (lines .exit)) (now (values .exit)) ⌝ }
 {
     let count = found.lines;
     let records = found.records;
+    if values.len() / RECORD < records {
+        return ListAnswer::Refused(Refusal::ValueRoom);
+    }
     let m = LINE * count;
     let n = RECORD * records;
-    sweeping::copy_into(&rows[0..m], lines, 0);
-    sweeping::copy_into(&terms[0..n], values, 0);
+    copying::copy_into(&rows[0..m], lines, 0);
+    copying::copy_into(&terms[0..n], values, 0);
     listing::arrange(lines, count, values, records, work);
-    count
+    ListAnswer::Lines(count)
 }
 
-// Writes the full listing, or refuses if it has no room. Where the search stops at no limit, its tables hold all that has room in those lent.
+// Writes the full listing, or refuses if it has no room. Where the search stops at no limit, its tables hold all that has room in those
+// lent.
 fn enumerate_long(
     pattern: &[u8],
     recipe: &[u8],
@@ -53,12 +80,12 @@ fn enumerate_long(
     work: &mut [u8],
 ) -> ListAnswer
     requires { ⌜ Listable (now pattern) (now recipe) (now lines) (now values) (now work) ⌝ }
-    ensures { λ r. ⌜ Enumerated (now (pattern .entry)) (now (recipe .entry)) (now (lines .entry)) (now (values .entry)) r (now (lines .exit)) (now (values .exit)) ⌝ }
+    ensures { λ r. ⌜ Enumerated (now (pattern .entry)) (now (recipe .entry)) (now (lines .entry)) (now (values .entry)) r
+        (now (lines .exit)) (now (values .exit)) ⌝ }
 {
     let limit = lines.len() / LINE;
-    let room = values.len() / RECORD;
-    let mut long_lines = [0u8; TABLE_BYTES];
-    let mut long_values = [0u8; TABLE_BYTES];
+    let mut long_lines = long_table();
+    let mut long_values = long_table();
     let found = search::collect(
         pattern,
         recipe,
@@ -70,20 +97,30 @@ fn enumerate_long(
     if limit < found.lines {
         return ListAnswer::Refused(Refusal::LineRoom);
     }
-    if room < found.records {
-        return ListAnswer::Refused(Refusal::ValueRoom);
-    }
-    ListAnswer::Lines(copy_lines(found, &long_lines, &long_values, lines, values, work))
+    copy_lines(found, &long_lines, &long_values, lines, values, work)
 }
 
 // How many lines a short listing has at most, where so many are lent.
 fn few_lines(lent: usize) -> usize
-    ensures { λ r. ⌜ (r ≤ lent) × (r ≤ 128) ⌝ }
+    ensures { λ r. ⌜ (r ≤ lent) × (r ≤ shortLines) ⌝ }
 {
     if lent < SHORT_LINES / LINE {
         return lent;
     }
     SHORT_LINES / LINE
+}
+
+// Whether a search that stops behind `few` lines found all lines, and has written all records of their values.
+fn is_short(found: usize, records: usize, few: usize) -> bool
+    ensures { λ r. ⌜ Says r (Short found records few) ⌝ }
+{
+    if few < found {
+        return false;
+    }
+    if SHORT_VALUES / RECORD < records {
+        return false;
+    }
+    true
 }
 
 // Writes the full listing, or refuses if it has no room: a short one is found at once.
@@ -95,11 +132,12 @@ fn enumerate_short(
     work: &mut [u8],
 ) -> ListAnswer
     requires { ⌜ Listable (now pattern) (now recipe) (now lines) (now values) (now work) ⌝ }
-    ensures { λ r. ⌜ Enumerated (now (pattern .entry)) (now (recipe .entry)) (now (lines .entry)) (now (values .entry)) r (now (lines .exit)) (now (values .exit)) ⌝ }
+    ensures { λ r. ⌜ Enumerated (now (pattern .entry)) (now (recipe .entry)) (now (lines .entry)) (now (values .entry)) r
+        (now (lines .exit)) (now (values .exit)) ⌝ }
 {
     let few = few_lines(lines.len() / LINE);
-    let mut short_lines = [0u8; SHORT_LINES];
-    let mut short_values = [0u8; SHORT_VALUES];
+    let mut short_lines = short_line_table();
+    let mut short_values = short_value_table();
     let found = search::collect(
         pattern,
         recipe,
@@ -108,21 +146,15 @@ fn enumerate_short(
         &mut short_values,
         work,
     );
-    if few < found.lines {
-        return enumerate_long(pattern, recipe, lines, values, work);
+    if is_short(found.lines, found.records, few) {
+        return copy_lines(found, &short_lines, &short_values, lines, values, work);
     }
-    if SHORT_VALUES / RECORD < found.records {
-        return enumerate_long(pattern, recipe, lines, values, work);
-    }
-    if values.len() / RECORD < found.records {
-        return ListAnswer::Refused(Refusal::ValueRoom);
-    }
-    ListAnswer::Lines(copy_lines(found, &short_lines, &short_values, lines, values, work))
+    enumerate_long(pattern, recipe, lines, values, work)
 }
 
 // Writes the full listing, or refuses if it has no room. What is searched is the pattern's reduct, whose redexes with a rigid argument are
-// contracted: it has the same full listing, and the search doesn't have to guess where such an argument stood. A reduct that is too long for a
-// pattern isn't needed.
+// contracted: it has the same full listing, and the search doesn't have to guess where such an argument stood. A reduct that is too long
+// for a pattern isn't needed.
 pub fn enumerate(
     pattern: &[u8],
     recipe: &[u8],
@@ -131,7 +163,8 @@ pub fn enumerate(
     work: &mut [u8],
 ) -> ListAnswer
     requires { ⌜ Listable (now pattern) (now recipe) (now lines) (now values) (now work) ⌝ }
-    ensures { λ r. ⌜ Enumerated (now (pattern .entry)) (now (recipe .entry)) (now (lines .entry)) (now (values .entry)) r (now (lines .exit)) (now (values .exit)) ⌝ }
+    ensures { λ r. ⌜ Enumerated (now (pattern .entry)) (now (recipe .entry)) (now (lines .entry)) (now (values .entry)) r
+        (now (lines .exit)) (now (values .exit)) ⌝ }
 {
     let mut reduct = [0u8; PATTERN_BYTES];
     let length = contraction::reduce(pattern, &mut reduct);

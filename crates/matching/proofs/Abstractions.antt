@@ -47,7 +47,8 @@ in-here e d (var n) p = in-local d (same (var n) (shift d 0 e)) _ p
 in-abstractions : (e : Term) (d : ℕ) (b : Term) → In b (abstractions e d (substitute d e b))
 in-abstractions e d (app f a) =
     in-kept d (same (substitute d e (app f a)) (shift d 0 e)) (app f a) _
-    (in-pairs app f a (abstractions e d (substitute d e f)) (abstractions e d (substitute d e a)) (in-abstractions e d f) (in-abstractions e d a))
+    (in-pairs app f a (abstractions e d (substitute d e f)) (abstractions e d (substitute d e a)) (in-abstractions e d f)
+    (in-abstractions e d a))
 in-abstractions e d (lam b) =
     in-kept d (same (substitute d e (lam b)) (shift d 0 e)) (lam b) _
     (in-map lam b (abstractions e (suc d) (substitute (suc d) e b)) (in-abstractions e (suc d) b))
@@ -75,11 +76,15 @@ abstractions-in e d (app f a) b p =
     rw (r .4) (ap₂ app (abstractions-in e d f (r .0) (r .2)) (abstractions-in e d a (r .1) (r .3))))
     (orLocal-in d (same (app f a) (shift d 0 e)) b _ p)
 abstractions-in e d (lam t) b p =
-    ⊎-elim (from-local e d (lam t) b) (λ q. let r = map-in lam b (abstractions e (suc d) t) q in rw (r .2) (ap lam (abstractions-in e (suc d) t (r .0) (r .1))))
+    ⊎-elim (from-local e d (lam t) b)
+    (λ q. let r = map-in lam b (abstractions e (suc d) t) q in rw (r .2) (ap lam (abstractions-in e (suc d) t (r .0) (r .1))))
     (orLocal-in d (same (lam t) (shift d 0 e)) b _ p)
-abstractions-in e d (loc n) b p = ⊎-elim (from-local e d (loc n) b) (λ q. from-loc e d n b (one q)) (orLocal-in d (same (loc n) (shift d 0 e)) b _ p)
-abstractions-in e d (con n) b p = ⊎-elim (from-local e d (con n) b) (λ q. ap (substitute d e) (one q)) (orLocal-in d (same (con n) (shift d 0 e)) b _ p)
-abstractions-in e d (var n) b p = ⊎-elim (from-local e d (var n) b) (λ q. ap (substitute d e) (one q)) (orLocal-in d (same (var n) (shift d 0 e)) b _ p)
+abstractions-in e d (loc n) b p =
+    ⊎-elim (from-local e d (loc n) b) (λ q. from-loc e d n b (one q)) (orLocal-in d (same (loc n) (shift d 0 e)) b _ p)
+abstractions-in e d (con n) b p =
+    ⊎-elim (from-local e d (con n) b) (λ q. ap (substitute d e) (one q)) (orLocal-in d (same (con n) (shift d 0 e)) b _ p)
+abstractions-in e d (var n) b p =
+    ⊎-elim (from-local e d (var n) b) (λ q. ap (substitute d e) (one q)) (orLocal-in d (same (var n) (shift d 0 e)) b _ p)
 
 pub abstractions-iff : (e : Term) (d : ℕ) (t b : Term) → In b (abstractions e d t) ↔ (substitute d e b ≡ t)
 abstractions-iff e d t b = (abstractions-in e d t b, λ p. subst (λ s. In b (abstractions e d s)) p (in-abstractions e d b))
@@ -93,10 +98,12 @@ other d n =
 pub abstractions-distinct : (e : Term) (d : ℕ) (t : Term) → Distinct (abstractions e d t)
 abstractions-distinct e d (app f a) =
     distinct-orLocal d (same (app f a) (shift d 0 e)) _
-    (distinct-pairs app (λ x x′ y y′ p. (cc, cc)) (abstractions e d f) (abstractions e d a) (abstractions-distinct e d f) (abstractions-distinct e d a))
+    (distinct-pairs app (λ x x′ y y′ p. (cc, cc)) (abstractions e d f) (abstractions e d a) (abstractions-distinct e d f)
+    (abstractions-distinct e d a))
     (λ q. let r = pairs-in app (loc d) (abstractions e d f) (abstractions e d a) q in omega (arith, ap kind (r .4)))
 abstractions-distinct e d (lam t) =
-    distinct-orLocal d (same (lam t) (shift d 0 e)) _ (distinct-map lam (λ x y p. cc) (abstractions e (suc d) t) (abstractions-distinct e (suc d) t))
+    distinct-orLocal d (same (lam t) (shift d 0 e)) _
+    (distinct-map lam (λ x y p. cc) (abstractions e (suc d) t) (abstractions-distinct e (suc d) t))
     (λ q. let r = map-in lam (loc d) (abstractions e (suc d) t) q in omega (arith, ap kind (r .2)))
 abstractions-distinct e d (loc n) = distinct-orLocal d (same (loc n) (shift d 0 e)) _ (λ q. q, tt) (λ q. other d n (one q))
 abstractions-distinct e d (con n) = distinct-orLocal d (same (con n) (shift d 0 e)) _ (λ q. q, tt) (λ q. omega (arith, ap kind (one q)))

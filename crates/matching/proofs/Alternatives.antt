@@ -18,7 +18,8 @@ use Rattle.matching.proofs.Step.{lam-inj, constant, constant-normal}
 use Rattle.matching.proofs.Lists.{Predicate, Under}
 use Rattle.matching.proofs.Lister.{Sweeps}
 use Rattle.matching.proofs.Prune.{Build, Choice, argument-first}
-use Rattle.matching.proofs.Goals.{Goal, Goal.match, Goal.build, Meets, All, Suits, Listable, Listing, listing-goal, listing-same, listing-none, listing-both}
+use Rattle.matching.proofs.Goals.{Goal, Goal.match, Goal.build, Meets, All, Suits, Listable, Listing, listing-goal, listing-same}
+use Rattle.matching.proofs.Goals.{listing-none, listing-both}
 use Rattle.matching.proofs.Targets.{part-normal}
 use Rattle.matching.proofs.Occurrences.{First, first-of, first-one, first-same, dec-first}
 
@@ -47,7 +48,8 @@ apart-parts φ f a t b h p s =
     subst (λ x. T (not (isAbstraction x))) s (n .0)
 
 apart-constant : (φ : ℕ → Term) (f a t : Term) (j : ℕ) → Alternative f a t 1 φ → ¬ Alternative f a t (suc (suc j)) φ
-apart-constant φ f a t j s (e, x, _, (b, p, q, u)) = subst T (sym u ∙ ap (uses 0) (lam-inj b (shift 1 0 t) (sym p ∙ s)) ∙ unused-shift 0 t) tt
+apart-constant φ f a t j s (e, x, _, (b, p, q, u)) =
+    subst T (sym u ∙ ap (uses 0) (lam-inj b (shift 1 0 t) (sym p ∙ s)) ∙ unused-shift 0 t) tt
 
 pub alternatives-apart : (φ : ℕ → Term) (f a t : Term) (i j : ℕ) → Normal t → Alternative f a t i φ → Alternative f a t j φ → i ≡ j
 alternatives-apart φ f a t zero zero h s r = refl
@@ -85,7 +87,8 @@ module _ (n : ℕ) (S : ℕ → Type 0) where
   listable-constant f a t (s, h) = (suits-app f a s .0, constant-normal t h)
 
   pub listable-argument :
-      (f a t : Term) (j : ℕ) (e : Term) → First t j e → Listable n S (match (app f a) t) → Listable n S (match a e) × Listable n S (build f t e)
+      (f a t : Term) (j : ℕ) (e : Term) → First t j e → Listable n S (match (app f a) t)
+      → Listable n S (match a e) × Listable n S (build f t e)
   listable-argument f a t j e x (s, h) = let (sf, sa) = suits-app f a s in ((sa, part-normal t j e (x .within) (x .copy) h), (sf, h))
 
 -- and where a way is none: a target that is no application, and a part that is no argument's first occurrence
@@ -102,7 +105,8 @@ module _ (n : ℕ) (S : ℕ → Type 0) (f a t : Term) (x : Listable n S (match 
   listing-parts (app g e) p =
       let (y, z) = listable-parts n S f a g e (subst (λ u. Listable n S (match (app f a) u)) p x) in
       listing-same n S (Alternative f a (app g e) 0) (λ φ. Meets (match f g) φ × Meets (match a e) φ)
-      (λ φ v. (λ q. (cc, cc), λ (q, r). cc)) (listing-both n S (Meets (match f g)) (Meets (match a e)) (listing-goal n S (match f g) y) (listing-goal n S (match a e) z))
+      (λ φ v. (λ q. (cc, cc), λ (q, r). cc))
+      (listing-both n S (Meets (match f g)) (Meets (match a e)) (listing-goal n S (match f g) y) (listing-goal n S (match a e) z))
   listing-parts (lam b) p = listing-none n S (Alternative f a (lam b) 0) (λ φ v. alternative-no-parts φ f a (lam b) (λ q. omega (arith, q)))
   listing-parts (loc k) p = listing-none n S (Alternative f a (loc k) 0) (λ φ v. alternative-no-parts φ f a (loc k) (λ q. omega (arith, q)))
   listing-parts (con k) p = listing-none n S (Alternative f a (con k) 0) (λ φ v. alternative-no-parts φ f a (con k) (λ q. omega (arith, q)))
@@ -116,6 +120,9 @@ module _ (n : ℕ) (S : ℕ → Type 0) (f a t : Term) (x : Listable n S (match 
       (λ (e, y).
       let (z, w) = listable-argument n S f a t j e y x in
       listing-same n S (Alternative f a t (suc (suc j))) (λ φ. Meets (match a e) φ × Meets (build f t e) φ)
-      (λ φ v. (λ q. let r = alternative-argument φ f a [] t j e y .0 (q, tt) in (r .0, r .1 .0), λ (q, r). alternative-argument φ f a [] t j e y .1 (q, (r, tt)) .0))
+      (λ φ v. (
+        λ q. let r = alternative-argument φ f a [] t j e y .0 (q, tt) in (r .0, r .1 .0),
+        λ (q, r). alternative-argument φ f a [] t j e y .1 (q, (r, tt)) .0,
+      ))
       (listing-both n S (Meets (match a e)) (Meets (build f t e)) (listing-goal n S (match a e) z) (listing-goal n S (build f t e) w)))
       (λ m. listing-none n S (Alternative f a t (suc (suc j))) (λ φ v. alternative-no-argument φ f a t j (λ e y. m (e, y))))

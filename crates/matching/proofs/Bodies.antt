@@ -18,7 +18,8 @@ use Rattle.terms.specs.Term.{Term, app, lam, loc, con, var, Normal, Closed, Gro
 use Rattle.terms.specs.Sweep.{fill}
 use Rattle.terms.proofs.Tests.{by-eqb, or-true}
 use Rattle.terms.proofs.Shift.{shift-unshift, unused-shift, size-shift}
-use Rattle.terms.proofs.Substitute.{by-substitute, substitute-here, substitute-unused, substitute-shift, normal-substitute, size-pos, size-used}
+use Rattle.terms.proofs.Substitute.{by-substitute, substitute-here, substitute-unused, substitute-shift, normal-substitute, size-pos}
+use Rattle.terms.proofs.Substitute.{size-used}
 use Rattle.terms.proofs.Contracted.{contracted-sweep}
 use Rattle.matching.specs.Abstractions.{same}
 use Rattle.matching.proofs.Decide.{by-dec, either, either-no}
@@ -44,7 +45,8 @@ abbrev pub Family : Type 0
 Family = (ℕ → Bool) → ℕ → Term
 
 abbrev pub body : Term → ℕ → Term → Family
-body e d (app f a) c k = either (same (app f a) (shift d 0 e)) (choose (c k) d (app f a)) (app (body e d f c k) (body e d a c (k + copies e d f)))
+body e d (app f a) c k =
+    either (same (app f a) (shift d 0 e)) (choose (c k) d (app f a)) (app (body e d f c k) (body e d a c (k + copies e d f)))
 body e d (lam b) c k = either (same (lam b) (shift d 0 e)) (choose (c k) d (lam b)) (lam (body e (suc d) b c k))
 body e d (loc n) c k = either (same (loc n) (shift d 0 e)) (choose (c k) d (loc n)) (shift 1 d (loc n))
 body e d (con n) c k = either (same (con n) (shift d 0 e)) (choose (c k) d (con n)) (con n)
@@ -62,7 +64,8 @@ Leaf (var n) = Unit {0}
 pub body-induction :
     (e : Term) (P : ℕ → Term → ℕ → Family → Type 0)
     → ((d : ℕ) (t : Term) → t ≡ shift d 0 e → P d t 1 (λ c k. choose (c k) d t))
-    → ((d : ℕ) (f a : Term) (m n : ℕ) (x y : Family) → ¬ (app f a ≡ shift d 0 e) → P d f m x → P d a n y → P d (app f a) (m + n) (λ c k. app (x c k) (y c (k + m))))
+    → ((d : ℕ) (f a : Term) (m n : ℕ) (x y : Family) → ¬ (app f a ≡ shift d 0 e) → P d f m x → P d a n y
+    → P d (app f a) (m + n) (λ c k. app (x c k) (y c (k + m))))
     → ((d : ℕ) (b : Term) (n : ℕ) (x : Family) → ¬ (lam b ≡ shift d 0 e) → P (suc d) b n x → P d (lam b) n (λ c k. lam (x c k)))
     → ((d : ℕ) (t : Term) → Leaf t → ¬ (t ≡ shift d 0 e) → P d t 0 (λ c k. shift 1 d t))
     → (d : ℕ) (t : Term) → P d t (copies e d t) (body e d t)
@@ -70,17 +73,22 @@ body-induction e P here at-app at-lam at-leaf = go
   where
     go : (d : ℕ) (t : Term) → P d t (copies e d t) (body e d t)
     go d (app f a) =
-        by-dec (λ o. P d (app f a) (either o 1 (copies e d f + copies e d a)) (λ c k. either o (choose (c k) d (app f a)) (app (body e d f c k) (body e d a c (k + copies e d f)))))
-        (same (app f a) (shift d 0 e)) (here d (app f a)) (λ q. at-app d f a (copies e d f) (copies e d a) (body e d f) (body e d a) q (go d f) (go d a))
+        by-dec (λ o. P d (app f a) (either o 1 (copies e d f + copies e d a))
+        (λ c k. either o (choose (c k) d (app f a)) (app (body e d f c k) (body e d a c (k + copies e d f)))))
+        (same (app f a) (shift d 0 e)) (here d (app f a))
+        (λ q. at-app d f a (copies e d f) (copies e d a) (body e d f) (body e d a) q (go d f) (go d a))
     go d (lam b) =
         by-dec (λ o. P d (lam b) (either o 1 (copies e (suc d) b)) (λ c k. either o (choose (c k) d (lam b)) (lam (body e (suc d) b c k))))
         (same (lam b) (shift d 0 e)) (here d (lam b)) (λ q. at-lam d b (copies e (suc d) b) (body e (suc d) b) q (go (suc d) b))
     go d (loc n) =
-        by-dec (λ o. P d (loc n) (either o 1 0) (λ c k. either o (choose (c k) d (loc n)) (shift 1 d (loc n)))) (same (loc n) (shift d 0 e)) (here d (loc n)) (at-leaf d (loc n) tt)
+        by-dec (λ o. P d (loc n) (either o 1 0) (λ c k. either o (choose (c k) d (loc n)) (shift 1 d (loc n)))) (same (loc n) (shift d 0 e))
+        (here d (loc n)) (at-leaf d (loc n) tt)
     go d (con n) =
-        by-dec (λ o. P d (con n) (either o 1 0) (λ c k. either o (choose (c k) d (con n)) (con n))) (same (con n) (shift d 0 e)) (here d (con n)) (at-leaf d (con n) tt)
+        by-dec (λ o. P d (con n) (either o 1 0) (λ c k. either o (choose (c k) d (con n)) (con n))) (same (con n) (shift d 0 e))
+        (here d (con n)) (at-leaf d (con n) tt)
     go d (var n) =
-        by-dec (λ o. P d (var n) (either o 1 0) (λ c k. either o (choose (c k) d (var n)) (var n))) (same (var n) (shift d 0 e)) (here d (var n)) (at-leaf d (var n) tt)
+        by-dec (λ o. P d (var n) (either o 1 0) (λ c k. either o (choose (c k) d (var n)) (var n))) (same (var n) (shift d 0 e))
+        (here d (var n)) (at-leaf d (var n) tt)
 
 -- at a copy, and at each kind of term that is none
 pub body-here : (e : Term) (d : ℕ) (t : Term) (c : ℕ → Bool) (k : ℕ) → t ≡ shift d 0 e → body e d t c k ≡ choose (c k) d t
@@ -90,14 +98,16 @@ body-here e =
 
 pub copies-here : (e : Term) (d : ℕ) (t : Term) → t ≡ shift d 0 e → copies e d t ≡ 1
 copies-here e =
-    body-induction e (λ d t n x. t ≡ shift d 0 e → n ≡ 1) (λ d t p q. refl) (λ d f a m n x y q hf ha p. absurd (q p)) (λ d b n x q h p. absurd (q p))
+    body-induction e (λ d t n x. t ≡ shift d 0 e → n ≡ 1) (λ d t p q. refl) (λ d f a m n x y q hf ha p. absurd (q p))
+    (λ d b n x q h p. absurd (q p))
     (λ d t _ q p. absurd (q p))
 
 module _ (e : Term) (d : ℕ) where
   pub copies-app : (f a : Term) → ¬ (app f a ≡ shift d 0 e) → copies e d (app f a) ≡ copies e d f + copies e d a
   copies-app f a n = either-no (same (app f a) (shift d 0 e)) _ _ n
 
-  pub body-app : (f a : Term) (c : ℕ → Bool) (k : ℕ) → ¬ (app f a ≡ shift d 0 e) → body e d (app f a) c k ≡ app (body e d f c k) (body e d a c (k + copies e d f))
+  pub body-app : (f a : Term) (c : ℕ → Bool) (k : ℕ) → ¬ (app f a ≡ shift d 0 e)
+      → body e d (app f a) c k ≡ app (body e d f c k) (body e d a c (k + copies e d f))
   body-app f a c k n = either-no (same (app f a) (shift d 0 e)) _ _ n
 
   pub copies-lam : (b : Term) → ¬ (lam b ≡ shift d 0 e) → copies e d (lam b) ≡ copies e (suc d) b
@@ -108,7 +118,8 @@ module _ (e : Term) (d : ℕ) where
 
 pub body-leaf : (e : Term) (d : ℕ) (t : Term) (c : ℕ → Bool) (k : ℕ) → Leaf t → ¬ (t ≡ shift d 0 e) → body e d t c k ≡ shift 1 d t
 body-leaf e =
-    body-induction e (λ d t n x. (c : ℕ → Bool) (k : ℕ) → Leaf t → ¬ (t ≡ shift d 0 e) → x c k ≡ shift 1 d t) (λ d t p c k l q. absurd (q p))
+    body-induction e (λ d t n x. (c : ℕ → Bool) (k : ℕ) → Leaf t → ¬ (t ≡ shift d 0 e) → x c k ≡ shift 1 d t)
+    (λ d t p c k l q. absurd (q p))
     (λ d f a m n x y q hf ha c k l p. absurd l) (λ d b n x q h c k l p. absurd l) (λ d t _ q c k l p. refl)
 
 pub copies-leaf : (e : Term) (d : ℕ) (t : Term) → Leaf t → ¬ (t ≡ shift d 0 e) → copies e d t ≡ 0
@@ -133,7 +144,8 @@ substitute-choose e false d t p = substitute-shift d e t
 pub body-substitute : (e : Term) (d : ℕ) (t : Term) (c : ℕ → Bool) (k : ℕ) → substitute d e (body e d t c k) ≡ t
 body-substitute e =
     body-induction e (λ d t n x. (c : ℕ → Bool) (k : ℕ) → substitute d e (x c k) ≡ t) (λ d t p c k. substitute-choose e (c k) d t p)
-    (λ d f a m n x y q hf ha c k. ap₂ app (hf c k) (ha c (k + m))) (λ d b n x q h c k. ap lam (h c k)) (λ d t _ q c k. substitute-shift d e t)
+    (λ d f a m n x y q hf ha c k. ap₂ app (hf c k) (ha c (k + m))) (λ d b n x q h c k. ap lam (h c k))
+    (λ d t _ q c k. substitute-shift d e t)
 
 -- the choices at the copies make the body
 pub body-same :
@@ -142,7 +154,8 @@ pub body-same :
 body-same e =
     body-induction e (λ d t n x. (c c′ : ℕ → Bool) (k : ℕ) → ((i : ℕ) → k ≤ i → i < k + n → c i ≡ c′ i) → x c k ≡ x c′ k)
     (λ d t p c c′ k h. ap (λ b. choose b d t) (h k (omega arith) (omega arith)))
-    (λ d f a m n x y q hf ha c c′ k h. ap₂ app (hf c c′ k (λ i l u. h i l (omega arith))) (ha c c′ (k + m) (λ i l u. h i (omega arith) (omega arith))))
+    (λ d f a m n x y q hf ha c c′ k h. ap₂ app (hf c c′ k (λ i l u. h i l (omega arith)))
+    (ha c c′ (k + m) (λ i l u. h i (omega arith) (omega arith))))
     (λ d b n x q hb c c′ k h. ap lam (hb c c′ k h)) (λ d t _ q c c′ k h. refl)
 
 -- and the body shows them
@@ -154,7 +167,8 @@ body-choice e =
     (λ d t p c c′ k q i l u.
     let r : k ≡ i = omega arith in
     subst (λ j. c j ≡ c′ j) r (sym (uses-choose (c k) d t) ∙ ap (uses d) q ∙ uses-choose (c′ k) d t))
-    (λ d f a m n x y _ hf ha c c′ k q i l u. by-dec (λ _. c i ≡ c′ i) (decLt i (k + m)) (λ v. hf c c′ k (cc) i l v) (λ v. ha c c′ (k + m) (cc) i (omega arith) (omega arith)))
+    (λ d f a m n x y _ hf ha c c′ k q i l u. by-dec (λ _. c i ≡ c′ i) (decLt i (k + m)) (λ v. hf c c′ k (cc) i l v)
+    (λ v. ha c c′ (k + m) (cc) i (omega arith) (omega arith)))
     (λ d b n x _ hb c c′ k q i l u. hb c c′ k (cc) i l u) (λ d t _ _ c c′ k q i l u. absurd (omega arith))
 
 -- the local is used where some copy is chosen
@@ -166,7 +180,8 @@ body-used e =
     body-induction e (λ d t n x. (c : ℕ → Bool) (k : ℕ) → uses d (x c k) ≡ true → Some c k n)
     (λ d t p c k u. (k, omega arith, omega arith, sym (uses-choose (c k) d t) ∙ u))
     (λ d f a m n x y q hf ha c k u.
-    ⊎-elim (λ v. let r = hf c k v in (r .0, r .1, omega (arith, r .2), r .3)) (λ v. let r = ha c (k + m) v in (r .0, omega (arith, r .1), omega (arith, r .2), r .3))
+    ⊎-elim (λ v. let r = hf c k v in (r .0, r .1, omega (arith, r .2), r .3))
+    (λ v. let r = ha c (k + m) v in (r .0, omega (arith, r .1), omega (arith, r .2), r .3))
     (or-true (uses d (x c k)) (uses d (y c (k + m))) u))
     (λ d b n x q h c k u. h c k u) (λ d t _ q c k u. absurd (subst T (sym u ∙ unused-shift d t) tt))
 
@@ -195,7 +210,8 @@ whole-or-unused e d (app f a) h = go (uses d (app f a)) refl
   where
     go : (u : Bool) → uses d (app f a) ≡ u → (app f a ≡ loc d) ⊎ (uses d (app f a) ≡ false)
     go true p =
-        absurd (⊎-elim (λ v. omega (arith, size-used d e f v, size-pos (substitute d e a))) (λ v. omega (arith, size-used d e a v, size-pos (substitute d e f)))
+        absurd (⊎-elim (λ v. omega (arith, size-used d e f v, size-pos (substitute d e a)))
+        (λ v. omega (arith, size-used d e a v, size-pos (substitute d e f)))
         (or-true (uses d f) (uses d a) p))
     go false p = inr p
 whole-or-unused e d (lam b) h = go (uses (suc d) b) refl
@@ -220,11 +236,13 @@ both k c c′ i = cond (ltb i k) (c i) (c′ i)
 abbrev Given : Term → ℕ → Term → ℕ → Term → Type 0
 Given e d t k b = (c : ℕ → Bool) × (b ≡ body e d t c k)
 
-given-app : (e : Term) (d : ℕ) (f a : Term) (k : ℕ) (g b : Term) → ¬ (app f a ≡ shift d 0 e) → Given e d f k g → Given e d a (k + copies e d f) b → Given e d (app f a) k (app g b)
+given-app : (e : Term) (d : ℕ) (f a : Term) (k : ℕ) (g b : Term) → ¬ (app f a ≡ shift d 0 e) → Given e d f k g
+    → Given e d a (k + copies e d f) b → Given e d (app f a) k (app g b)
 given-app e d f a k g b n x y = (
   both (k + copies e d f) (x .0) (y .0),
   ap₂ app (x .1 ∙ body-same e d f (x .0) (both (k + copies e d f) (x .0) (y .0)) k (λ i l u. rw (lt-ltb i (k + copies e d f) u)))
-      (y .1 ∙ body-same e d a (y .0) (both (k + copies e d f) (x .0) (y .0)) (k + copies e d f) (λ i l u. rw (le-ltb i (k + copies e d f) l)))
+      (y .1
+      ∙ body-same e d a (y .0) (both (k + copies e d f) (x .0) (y .0)) (k + copies e d f) (λ i l u. rw (le-ltb i (k + copies e d f) l)))
       ∙ sym (body-app e d f a (both (k + copies e d f) (x .0) (y .0)) k n),
 )
 
@@ -234,7 +252,10 @@ given-here e d b t k p q = let r = at-copy e d b t p q in (λ _. r .0, r .1 ∙ 
 given-leaf : (e : Term) (d : ℕ) (b t : Term) (k : ℕ) → Leaf t → substitute d e b ≡ t → ¬ (t ≡ shift d 0 e) → Given e d t k b
 given-leaf e d b t k l p n =
     ⊎-elim (λ r. absurd (n (sym p ∙ ap (substitute d e) r ∙ substitute-here d e d refl)))
-    (λ u. (λ _. false, sym (shift-unshift d b u) ∙ ap (shift 1 d) (sym (substitute-unused d e b u) ∙ p) ∙ sym (body-leaf e d t (λ _. false) k l n)))
+    (λ u. (
+      λ _. false,
+      sym (shift-unshift d b u) ∙ ap (shift 1 d) (sym (substitute-unused d e b u) ∙ p) ∙ sym (body-leaf e d t (λ _. false) k l n),
+    ))
     (whole-or-unused e d b (omega (arith, ap size p, size-leaf t l, size-pos e)))
 
 leaf-of : (e : Term) (d n : ℕ) → ¬ (substitute d e (loc n) ≡ shift d 0 e) → Leaf (substitute d e (loc n))
@@ -242,18 +263,23 @@ leaf-of e d n = by-substitute (λ s. ¬ (s ≡ shift d 0 e) → Leaf s) d e n (�
 
 given : (e : Term) (d : ℕ) (b : Term) (k : ℕ) → Given e d (substitute d e b) k b
 given e d (app f a) k =
-    by-dec (λ _. Given e d (substitute d e (app f a)) k (app f a)) (same (substitute d e (app f a)) (shift d 0 e)) (given-here e d (app f a) (substitute d e (app f a)) k refl)
+    by-dec (λ _. Given e d (substitute d e (app f a)) k (app f a)) (same (substitute d e (app f a)) (shift d 0 e))
+    (given-here e d (app f a) (substitute d e (app f a)) k refl)
     (λ n. given-app e d (substitute d e f) (substitute d e a) k f a n (given e d f k) (given e d a (k + copies e d (substitute d e f))))
 given e d (lam b) k =
-    by-dec (λ _. Given e d (substitute d e (lam b)) k (lam b)) (same (substitute d e (lam b)) (shift d 0 e)) (given-here e d (lam b) (substitute d e (lam b)) k refl)
+    by-dec (λ _. Given e d (substitute d e (lam b)) k (lam b)) (same (substitute d e (lam b)) (shift d 0 e))
+    (given-here e d (lam b) (substitute d e (lam b)) k refl)
     (λ n. let r = given e (suc d) b k in (r .0, ap lam (r .1) ∙ sym (body-lam e d (substitute (suc d) e b) (r .0) k n)))
 given e d (loc n) k =
-    by-dec (λ _. Given e d (substitute d e (loc n)) k (loc n)) (same (substitute d e (loc n)) (shift d 0 e)) (given-here e d (loc n) (substitute d e (loc n)) k refl)
+    by-dec (λ _. Given e d (substitute d e (loc n)) k (loc n)) (same (substitute d e (loc n)) (shift d 0 e))
+    (given-here e d (loc n) (substitute d e (loc n)) k refl)
     (λ q. given-leaf e d (loc n) (substitute d e (loc n)) k (leaf-of e d n q) refl q)
 given e d (con n) k =
-    by-dec (λ _. Given e d (con n) k (con n)) (same (con n) (shift d 0 e)) (given-here e d (con n) (con n) k refl) (given-leaf e d (con n) (con n) k tt refl)
+    by-dec (λ _. Given e d (con n) k (con n)) (same (con n) (shift d 0 e)) (given-here e d (con n) (con n) k refl)
+    (given-leaf e d (con n) (con n) k tt refl)
 given e d (var n) k =
-    by-dec (λ _. Given e d (var n) k (var n)) (same (var n) (shift d 0 e)) (given-here e d (var n) (var n) k refl) (given-leaf e d (var n) (var n) k tt refl)
+    by-dec (λ _. Given e d (var n) k (var n)) (same (var n) (shift d 0 e)) (given-here e d (var n) (var n) k refl)
+    (given-leaf e d (var n) (var n) k tt refl)
 
 pub body-of : (e : Term) (d : ℕ) (b t : Term) (k : ℕ) → substitute d e b ≡ t → (c : ℕ → Bool) × (b ≡ body e d t c k)
 body-of e d b t k p = subst (λ s. (c : ℕ → Bool) × (b ≡ body e d s c k)) p (given e d b k)
@@ -273,13 +299,15 @@ body-all e =
 
 pub copies-size : (e : Term) (d : ℕ) (t : Term) → copies e d t ≤ size t
 copies-size e =
-    body-induction e (λ d t n x. n ≤ size t) (λ d t p. size-pos t) (λ d f a m n x y q hf ha. omega arith) (λ d b n x q h. omega arith) (λ d t _ q. omega arith)
+    body-induction e (λ d t n x. n ≤ size t) (λ d t p. size-pos t) (λ d f a m n x y q hf ha. omega arith) (λ d b n x q h. omega arith)
+    (λ d t _ q. omega arith)
 
 -- its length, its locals and its constants
 pub body-size : (e : Term) (d : ℕ) (t : Term) (c : ℕ → Bool) (k : ℕ) → size (body e d t c k) ≤ size t
 body-size e =
     body-induction e (λ d t n x. (c : ℕ → Bool) (k : ℕ) → size (x c k) ≤ size t) (λ d t p c k. chosen (c k) d t)
-    (λ d f a m n x y q hf ha c k. omega (arith, hf c k, ha c (k + m))) (λ d b n x q h c k. omega (arith, h c k)) (λ d t _ q c k. omega (arith, size-shift 1 d t))
+    (λ d f a m n x y q hf ha c k. omega (arith, hf c k, ha c (k + m))) (λ d b n x q h c k. omega (arith, h c k))
+    (λ d t _ q c k. omega (arith, size-shift 1 d t))
   where
     chosen : (b : Bool) (d : ℕ) (t : Term) → size (choose b d t) ≤ size t
     chosen true d t = size-pos t
@@ -287,8 +315,10 @@ body-size e =
 
 pub body-closed : (e : Term) (d : ℕ) (t : Term) (c : ℕ → Bool) (k m : ℕ) → d ≤ m → Closed m t → Closed (suc m) (body e d t c k)
 body-closed e =
-    body-induction e (λ d t n x. (c : ℕ → Bool) (k m : ℕ) → d ≤ m → Closed m t → Closed (suc m) (x c k)) (λ d t p c k m l h. chosen (c k) d t m l h)
-    (λ d f a m n x y q hf ha c k i l h. (hf c k i l (h .0), ha c (k + m) i l (h .1))) (λ d b n x q hb c k m l h. hb c k (suc m) (omega arith) h)
+    body-induction e (λ d t n x. (c : ℕ → Bool) (k m : ℕ) → d ≤ m → Closed m t → Closed (suc m) (x c k))
+    (λ d t p c k m l h. chosen (c k) d t m l h)
+    (λ d f a m n x y q hf ha c k i l h. (hf c k i l (h .0), ha c (k + m) i l (h .1)))
+    (λ d b n x q hb c k m l h. hb c k (suc m) (omega arith) h)
     (λ d t _ q c k m l h. closed-shift 1 d m (suc m) t (omega arith) h)
   where
     chosen : (b : Bool) (d : ℕ) (t : Term) (m : ℕ) → d ≤ m → Closed m t → Closed (suc m) (choose b d t)
@@ -298,7 +328,8 @@ body-closed e =
 pub body-ground : (e : Term) (d : ℕ) (t : Term) (c : ℕ → Bool) (k : ℕ) → Ground t → Ground (body e d t c k)
 body-ground e =
     body-induction e (λ d t n x. (c : ℕ → Bool) (k : ℕ) → Ground t → Ground (x c k)) (λ d t p c k h. chosen (c k) d t h)
-    (λ d f a m n x y q hf ha c k h. (hf c k (h .0), ha c (k + m) (h .1))) (λ d b n x q hb c k h. hb c k h) (λ d t _ q c k h. rw (ground-shift 1 d t) h)
+    (λ d f a m n x y q hf ha c k h. (hf c k (h .0), ha c (k + m) (h .1))) (λ d b n x q hb c k h. hb c k h)
+    (λ d t _ q c k h. rw (ground-shift 1 d t) h)
   where
     chosen : (b : Bool) (d : ℕ) (t : Term) → Ground t → Ground (choose b d t)
     chosen true d t h = tt
@@ -331,7 +362,8 @@ module _ (φ : ℕ → Term) (f t e : Term) (c c₀ c₁ : ℕ → Bool) (k : �
   Agree x = (i : ℕ) → i < k → x i ≡ c i
 
   agree-next : (x y : ℕ → Bool) → Agree x → Agree y → x k ≡ y k → (i : ℕ) → i < suc k → x i ≡ y i
-  agree-next x y g h p i l = by-dec (λ _. x i ≡ y i) (decLt i k) (λ m. g i m ∙ sym (h i m)) (λ m. let q : k ≡ i = omega arith in subst (λ j. x j ≡ y j) q p)
+  agree-next x y g h p i l =
+      by-dec (λ _. x i ≡ y i) (decLt i k) (λ m. g i m ∙ sym (h i m)) (λ m. let q : k ≡ i = omega arith in subst (λ j. x j ≡ y j) q p)
 
   module _ (a₀ : Agree c₀) (a₁ : Agree c₁) (h₀ : c₀ k ≡ false) (h₁ : c₁ k ≡ true) where
     pub chosen-next : Chosen f t e c k φ ↔ (Chosen f t e c₀ (suc k) φ ⊎ Chosen f t e c₁ (suc k) φ)

@@ -89,33 +89,34 @@ complete-of a (loc k) h i o = absurd o
 complete-of a (con k) h i o = absurd o
 complete-of a (var k) h i o = rw o (filled-is (entry a k) h)
 
--- a row's test: what computes, and the claim that it gives
-abbrev Test : Case → Type 0
-Test (lists p t ls) = (Below variables p × Normal t) × (listing variables p t ≡ ls)
-Test (rejects p t a) = Entries variables a × (FilledIn a p × ¬ (sweep (fill (values a) p) ≡ t))
-Test (sweeps t s) = sweep t ≡ s
-Test (reducible t) = ¬ Normal t
+-- a row's test over n variables: what computes, and the claim that it gives
+abbrev Test : ℕ → Case → Type 0
+Test n (lists p t ls) = (Below n p × Normal t) × (listing n p t ≡ ls)
+Test n (rejects p t a) = Entries n a × (FilledIn a p × ¬ (sweep (fill (values a) p) ≡ t))
+Test n (sweeps t s) = sweep t ≡ s
+Test n (reducible t) = ¬ Normal t
 
-abbrev test? : (c : Case) → Dec (Test c)
-test? (lists p t ls) = dec-× (dec-× (below? variables p) (normal? t)) (same-list (same-list same-option) (listing variables p t) ls)
-test? (rejects p t a) = dec-× (dec-× (ℕ-discrete (length a) variables) (assigns? a)) (dec-× (filledIn? a p) (dec-¬ (same (sweep (fill (values a) p)) t)))
-test? (sweeps t s) = same (sweep t) s
-test? (reducible t) = dec-¬ (normal? t)
+abbrev test? : (n : ℕ) (c : Case) → Dec (Test n c)
+test? n (lists p t ls) = dec-× (dec-× (below? n p) (normal? t)) (same-list (same-list same-option) (listing n p t) ls)
+test? n (rejects p t a) =
+    dec-× (dec-× (ℕ-discrete (length a) n) (assigns? a)) (dec-× (filledIn? a p) (dec-¬ (same (sweep (fill (values a) p)) t)))
+test? n (sweeps t s) = same (sweep t) s
+test? n (reducible t) = dec-¬ (normal? t)
 
-test-holds : (c : Case) → Test c → Holds c
-test-holds (lists p t ls) h = subst (Full variables p t) (h .1) (full variables p t (h .0 .0) (h .0 .1))
-test-holds (rejects p t a) h = (h .0, complete-of a p (h .1 .0), λ m. h .1 .1 (m .2))
-test-holds (sweeps t s) h = h
-test-holds (reducible t) h = h
+test-holds : (n : ℕ) (c : Case) → Test n c → Holds n c
+test-holds n (lists p t ls) h = subst (Full n p t) (h .1) (full n p t (h .0 .0) (h .0 .1))
+test-holds n (rejects p t a) h = (h .0, complete-of a p (h .1 .0), λ m. h .1 .1 (m .2))
+test-holds n (sweeps t s) h = h
+test-holds n (reducible t) h = h
 
 -- all rows at once
-abbrev Tests : List Case → Type 0
-Tests [] = Unit {0}
-Tests (c ∷ cs) = Test c × Tests cs
+abbrev Tests : ℕ → List Case → Type 0
+Tests n [] = Unit {0}
+Tests n (c ∷ cs) = Test n c × Tests n cs
 
-abbrev tests? : (cs : List Case) → Dec (Tests cs)
-tests? [] = yes tt
-tests? (c ∷ cs) = dec-× (test? c) (tests? cs)
+abbrev tests? : (n : ℕ) (cs : List Case) → Dec (Tests n cs)
+tests? n [] = yes tt
+tests? n (c ∷ cs) = dec-× (test? n c) (tests? n cs)
 
 abbrev decided : {A : Type 0} → Dec A → Bool
 decided (yes a) = true
@@ -125,13 +126,23 @@ proof : {A : Type 0} (o : Dec A) → T (decided o) → A
 proof (yes a) h = a
 proof (no a) h = absurd h
 
-computed : decided (tests? cases) ≡ true
+tests-hold : (n : ℕ) (cs : List Case) → Tests n cs → (c : Case) → In c cs → Holds n c
+tests-hold n (c ∷ cs) h d (inl p) = subst (Holds n) (sym p) (test-holds n c (h .0))
+tests-hold n (c ∷ cs) h d (inr i) = tests-hold n cs (h .1) d i
+
+computed-hold : (n : ℕ) → decided (tests? n (cases n)) ≡ true → (c : Case) → In c (cases n) → Holds n c
+computed-hold n e c i = tests-hold n (cases n) (proof (tests? n (cases n)) (subst T (sym e) tt)) c i
+
+computed-eight : decided (tests? 8 (cases 8)) ≡ true
 unfolding ℕ-discrete decLt
-computed = refl
+computed-eight = refl
 
-tests-hold : (cs : List Case) → Tests cs → (c : Case) → In c cs → Holds c
-tests-hold (c ∷ cs) h d (inl p) = subst Holds (sym p) (test-holds c (h .0))
-tests-hold (c ∷ cs) h d (inr i) = tests-hold cs (h .1) d i
+computed-sixteen : decided (tests? 16 (cases 16)) ≡ true
+unfolding ℕ-discrete decLt
+computed-sixteen = refl
 
-pub cases-hold : (c : Case) → In c cases → Holds c
-cases-hold c i = tests-hold cases (proof (tests? cases) (subst T (sym computed) tt)) c i
+pub cases-hold : (c : Case) → In c (cases variables) → Holds variables c
+cases-hold c i = computed-hold variables computed-eight c i
+
+pub cases-sixteen : (c : Case) → In c (cases 16) → Holds 16 c
+cases-sixteen c i = computed-hold 16 computed-sixteen c i

@@ -51,13 +51,16 @@ module _ (n : ℕ) (S : ℕ → Type 0) (f t e : Term) (x : Listable n S (build 
                 (λ φ v. (λ s. chosen-all φ f t e c k l .0 s .0, λ s. chosen-all φ f t e c k l .1 (s, u))) (y .lists);
           }
 
-  listing-next : (c : ℕ → Bool) (k : ℕ) → k < copies e 0 t → ((d : ℕ → Bool) → Listing n S (Chosen f t e d (suc k))) → Listing n S (Chosen f t e c k)
+  listing-next : (c : ℕ → Bool) (k : ℕ) → k < copies e 0 t → ((d : ℕ → Bool) → Listing n S (Chosen f t e d (suc k)))
+      → Listing n S (Chosen f t e c k)
   listing-next c k l g = record {
     lines = g c₀ .lines ++ g c₁ .lines;
     lists = lists-same n S (Chosen f t e c k) (λ φ. Chosen f t e c₀ (suc k) φ ⊎ Chosen f t e c₁ (suc k) φ) (g c₀ .lines ++ g c₁ .lines)
-        (λ φ v. chosen-next φ f t e c c₀ c₁ k (chooseAt-below c k false) (chooseAt-below c k true) (chooseAt-here c k false) (chooseAt-here c k true))
+        (λ φ v. chosen-next φ f t e c c₀ c₁ k (chooseAt-below c k false) (chooseAt-below c k true) (chooseAt-here c k false)
+        (chooseAt-here c k true))
         (lists-or n S (Chosen f t e c₀ (suc k)) (Chosen f t e c₁ (suc k)) (g c₀ .lines) (g c₁ .lines)
-        (λ φ v. chosen-apart φ f t e c c₀ c₁ k (chooseAt-below c k false) (chooseAt-below c k true) (chooseAt-here c k false) (chooseAt-here c k true) l)
+        (λ φ v. chosen-apart φ f t e c c₀ c₁ k (chooseAt-below c k false) (chooseAt-below c k true) (chooseAt-here c k false)
+        (chooseAt-here c k true) l)
         (g c₀ .lists) (g c₁ .lists));
   }
     where

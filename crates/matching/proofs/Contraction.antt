@@ -19,7 +19,8 @@ use Rattle.terms.specs.Sweep.{sweep, contract, fill}
 use Rattle.terms.specs.Listing.{Line, Full}
 use Rattle.terms.proofs.Tests.{by-ltb, by-eqb, or-true}
 use Rattle.terms.proofs.Shift.{isEta-shift, isAbstraction-shift, shift-unshift}
-use Rattle.terms.proofs.Substitute.{by-substitute, substitute-here, substitute-low, substitute-high, substitute-shift, substitute-unused, unused-substitute, isEta-substitute}
+use Rattle.terms.proofs.Substitute.{by-substitute, substitute-here, substitute-low, substitute-high, substitute-shift, substitute-unused}
+use Rattle.terms.proofs.Substitute.{unused-substitute, isEta-substitute}
 use Rattle.terms.proofs.Sweep.{contract-app}
 use Rattle.terms.proofs.Occurs.{occurs-below}
 use Rattle.terms.proofs.Contracted.{isProper, Abstracted, Abstracted.out, Abstracted.kept, abstracted}
@@ -51,9 +52,11 @@ raised n k l = rw (le-ltb (n - 1) k (omega arith)) (ap loc (omega arith))
 module _ (h : ℕ → Term → Term) (x : Passes h) where
   pub passes-shift : (d b k j : ℕ) (t : Term) → j ≡ k + d → b ≤ k → h j (shift d b t) ≡ shift d b (h k t)
   passes-shift d b k j (app f a) e l =
-      rw (x .application j (shift d b f) (shift d b a), x .application k f a) (ap₂ app (passes-shift d b k j f e l) (passes-shift d b k j a e l))
+      rw (x .application j (shift d b f) (shift d b a), x .application k f a)
+      (ap₂ app (passes-shift d b k j f e l) (passes-shift d b k j a e l))
   passes-shift d b k j (lam t) e l =
-      rw (x .abstraction j (shift d (suc b) t), x .abstraction k t) (ap lam (passes-shift d (suc b) (suc k) (suc j) t (omega arith) (omega arith)))
+      rw (x .abstraction j (shift d (suc b) t), x .abstraction k t)
+      (ap lam (passes-shift d (suc b) (suc k) (suc j) t (omega arith) (omega arith)))
   passes-shift d b k j (loc n) e l =
       by-ltb (λ s. h j (cond s (loc n) (loc (n + d))) ≡ shift d b (h k (loc n))) n b
       (λ g. x .low j n (omega arith) ∙ sym (ap (shift d b) (x .low k n (omega arith)) ∙ shift-low d b n g))
@@ -69,14 +72,17 @@ module _ (h : ℕ → Term → Term) (x : Passes h) where
       rw (x .application j (substitute k a f) (substitute k a b), x .application (suc j) f b)
       (ap₂ app (passes-substitute c k j a f e) (passes-substitute c k j a b e))
   passes-substitute c k j a (lam b) e =
-      rw (x .abstraction j (substitute (suc k) a b), x .abstraction (suc j) b) (ap lam (passes-substitute c (suc k) (suc j) a b (omega arith)))
+      rw (x .abstraction j (substitute (suc k) a b), x .abstraction (suc j) b)
+      (ap lam (passes-substitute c (suc k) (suc j) a b (omega arith)))
   passes-substitute c k j a (loc n) e =
       by-substitute (λ s. h j s ≡ substitute k (h c a) (h (suc j) (loc n))) k a n
       (λ l. x .low j n (omega arith) ∙ sym (ap (substitute k (h c a)) (x .low (suc j) n (omega arith)) ∙ substitute-low n k (h c a) l))
-      (λ q. passes-shift k 0 c j a e (omega arith) ∙ sym (ap (substitute k (h c a)) (x .low (suc j) n (omega arith)) ∙ substitute-here k (h c a) n q))
+      (λ q. passes-shift k 0 c j a e (omega arith)
+      ∙ sym (ap (substitute k (h c a)) (x .low (suc j) n (omega arith)) ∙ substitute-here k (h c a) n q))
       (λ l. sym
       (ap (λ s. substitute k (h c a) (h (suc j) s)) (raised n k l)
-      ∙ ap (substitute k (h c a)) (passes-shift 1 k j (suc j) (loc (n - 1)) (omega arith) (omega arith)) ∙ substitute-shift k (h c a) (h j (loc (n - 1)))))
+      ∙ ap (substitute k (h c a)) (passes-shift 1 k j (suc j) (loc (n - 1)) (omega arith) (omega arith))
+      ∙ substitute-shift k (h c a) (h j (loc (n - 1)))))
   passes-substitute c k j a (con n) e = rw (x .constant j n, x .constant (suc j) n)
   passes-substitute c k j a (var n) e = rw (x .variable j n, x .variable (suc j) n)
 
@@ -92,7 +98,8 @@ shift-within : (d b k c : ℕ) (t : Term) → c ≤ b → b ≤ c + k → shift 
 shift-within d b k c (app f a) l g = ap₂ app (shift-within d b k c f l g) (shift-within d b k c a l g)
 shift-within d b k c (lam t) l g = ap lam (shift-within d (suc b) k (suc c) t (omega arith) (omega arith))
 shift-within d b k c (loc n) l g =
-    by-ltb (λ s. cond s (loc n) (loc (n + (k + d))) ≡ shift d b (cond s (loc n) (loc (n + k)))) n c (λ p. sym (shift-low d b n (omega arith)))
+    by-ltb (λ s. cond s (loc n) (loc (n + (k + d))) ≡ shift d b (cond s (loc n) (loc (n + k)))) n c
+    (λ p. sym (shift-low d b n (omega arith)))
     (λ p. ap loc (omega arith) ∙ sym (shift-high d b (n + k) (omega arith)))
 shift-within d b k c (con n) l g = refl
 shift-within d b k c (var n) l g = refl
@@ -105,7 +112,8 @@ shift-passes d = record {
   variable = λ k n. refl;
   low = λ k n l. shift-low d k n l;
   high = λ i b k n l g.
-      shift-high d (k + i) (n + i) (omega arith) ∙ ap loc (omega arith) ∙ sym (ap (shift i b) (shift-high d k n g) ∙ shift-high i b (n + d) (omega arith));
+      shift-high d (k + i) (n + i) (omega arith) ∙ ap loc (omega arith)
+      ∙ sym (ap (shift i b) (shift-high d k n g) ∙ shift-high i b (n + d) (omega arith));
 }
 
 substitute-high-shift : (e : Term) (d b k n : ℕ) → b ≤ k → k ≤ n → substitute (k + d) e (loc (n + d)) ≡ shift d b (substitute k e (loc n))
@@ -131,11 +139,14 @@ module _ (F : Term → Term) (local : (n : ℕ) → F (loc n) ≡ loc n) where
 
   substitute-at : (k : ℕ) (e u : Term) (n : ℕ) → F (shift k 0 e) ≡ shift k 0 u → F (substitute k e (loc n)) ≡ substitute k u (loc n)
   substitute-at k e u n p =
-      by-ltb (λ s. F (cond s (loc n) (cond (eqb n k) (shift k 0 e) (loc (n - 1)))) ≡ cond s (loc n) (cond (eqb n k) (shift k 0 u) (loc (n - 1)))) n k (λ l. local n)
+      by-ltb
+      (λ s. F (cond s (loc n) (cond (eqb n k) (shift k 0 e) (loc (n - 1)))) ≡ cond s (loc n) (cond (eqb n k) (shift k 0 u) (loc (n - 1))))
+      n k (λ l. local n)
       (λ l. by-eqb (λ s. F (cond s (shift k 0 e) (loc (n - 1))) ≡ cond s (shift k 0 u) (loc (n - 1))) n k (λ q. p) (λ q. local (n - 1)))
 
 -- the sweep of terms of which S holds; of their swept forms G holds, so that h leaves their heads as they are
-module _ (h : ℕ → Term → Term) (x : Passes h) (G : ℕ → Term → Type 0) (head : (k : ℕ) (t : Term) → G k t → isAbstraction (h k t) ≡ isAbstraction t) where
+module _ (h : ℕ → Term → Term) (x : Passes h) (G : ℕ → Term → Type 0)
+    (head : (k : ℕ) (t : Term) → G k t → isAbstraction (h k t) ≡ isAbstraction t) where
   kept-application : (k : ℕ) (f a : Term) → G k f → isAbstraction f ≡ false → contract (app (h k f) (h k a)) ≡ h k (contract (app f a))
   kept-application k f a c l =
       contract-app (h k f) (h k a) (rw (head k f c, l) tt) ∙ sym (x .application k f a) ∙ ap (h k) (sym (contract-app f a (rw l tt)))
@@ -167,13 +178,15 @@ module _ (h : ℕ → Term → Term) (x : Passes h) (G : ℕ → Term → Type 0
             let d : G k (unshift 1 0 m) = outer k m u (first (suc k) m (loc 0) (subst (G (suc k)) p c)) in
             rw w (contract-to-other (h (suc k) s) (h k (unshift 1 0 m)) (head k (unshift 1 0 m) d ∙ q) .1
             (ap (h (suc k)) p ∙ x .application (suc k) m (loc 0)
-            ∙ ap₂ app (ap (h (suc k)) (sym (shift-unshift 0 m u)) ∙ passes-shift h x 1 0 k (suc k) (unshift 1 0 m) (omega arith) (omega arith)) (x .low (suc k) 0 (omega arith))))
+            ∙ ap₂ app (ap (h (suc k)) (sym (shift-unshift 0 m u))
+            ∙ passes-shift h x 1 0 k (suc k) (unshift 1 0 m) (omega arith) (omega arith)) (x .low (suc k) 0 (omega arith))))
         go (kept o w) = rw (w, isProper-passes k s c o) (sym (x .abstraction k s))
 
     module _
         (g : ℕ → Term → Term) (y : Passes g) (local : (k n : ℕ) → sweep (g k (loc n)) ≡ h k (loc n))
         (S : ℕ → Term → Type 0) (swept : (k : ℕ) (t : Term) → S k t → G k (sweep t))
-        (parts : (k : ℕ) (f a : Term) → S k (app f a) → S k f × ((a ≡ loc k) ⊎ S k a)) (under : (k : ℕ) (b : Term) → S k (lam b) → S (suc k) b) where
+        (parts : (k : ℕ) (f a : Term) → S k (app f a) → S k f × ((a ≡ loc k) ⊎ S k a))
+        (under : (k : ℕ) (b : Term) → S k (lam b) → S (suc k) b) where
       sweep-passes : (k : ℕ) (t : Term) → S k t → sweep (g k t) ≡ h k (sweep t)
       sweep-passes k (app f a) s =
           let p = parts k f a s in
@@ -195,15 +208,18 @@ module _
 
   sweep-every : (k : ℕ) (t : Term) → sweep (g k t) ≡ h k (sweep t)
   sweep-every k t =
-      sweep-passes h x Every (λ k t c. head k t) eta (λ k m a c. tt) (λ k m u c. tt) g y local Every (λ k t c. tt) (λ k f a c. (tt, inr tt)) (λ k b c. tt) k t tt
+      sweep-passes h x Every (λ k t c. head k t) eta (λ k m a c. tt) (λ k m u c. tt) g y local Every (λ k t c. tt) (λ k f a c. (tt, inr tt))
+      (λ k b c. tt) k t tt
 
 pub sweep-shift : (d c : ℕ) (t : Term) → sweep (shift d c t) ≡ shift d c (sweep t)
-sweep-shift d c t = sweep-every (shift d) (shift-passes d) (isAbstraction-shift d) (isEta-shift d) (shift d) (shift-passes d) (shift-at sweep (λ n. refl) d) c t
+sweep-shift d c t = sweep-every (shift d) (shift-passes d) (isAbstraction-shift d) (isEta-shift d) (shift d) (shift-passes d)
+    (shift-at sweep (λ n. refl) d) c t
 
 isAbstraction-put : (e : Term) → isAbstraction e ≡ false → (k : ℕ) (t : Term) → isAbstraction (substitute k e t) ≡ isAbstraction t
 isAbstraction-put e r k (app f a) = refl
 isAbstraction-put e r k (lam b) = refl
-isAbstraction-put e r k (loc n) = by-substitute (λ s. isAbstraction s ≡ false) k e n (λ l. refl) (λ l. isAbstraction-shift k 0 e ∙ r) (λ l. refl)
+isAbstraction-put e r k (loc n) =
+    by-substitute (λ s. isAbstraction s ≡ false) k e n (λ l. refl) (λ l. isAbstraction-shift k 0 e ∙ r) (λ l. refl)
 isAbstraction-put e r k (con n) = refl
 isAbstraction-put e r k (var n) = refl
 
@@ -219,11 +235,13 @@ module _ (e : Term) where
 
   pub sweep-substitute : (k : ℕ) (q : Term) → isAbstraction (sweep e) ≡ false → sweep (substitute k e q) ≡ substitute k (sweep e) (sweep q)
   sweep-substitute k q r =
-      sweep-every after (substitute-passes (sweep e)) (isAbstraction-put (sweep e) r) (λ j t. isEta-substitute j (sweep e) t) before (substitute-passes e) put-local k q
+      sweep-every after (substitute-passes (sweep e)) (isAbstraction-put (sweep e) r) (λ j t. isEta-substitute j (sweep e) t) before
+      (substitute-passes e) put-local k q
 
   pub sweep-guarded : (k : ℕ) (q : Term) → Guarded k q → sweep (substitute k e q) ≡ substitute k (sweep e) (sweep q)
   sweep-guarded k q g =
-      sweep-passes after (substitute-passes (sweep e)) Guarded (guarded-head (sweep e)) (λ j t. isEta-substitute j (sweep e) t) (λ j m a c. c .0)
+      sweep-passes after (substitute-passes (sweep e)) Guarded (guarded-head (sweep e))
+      (λ j t. isEta-substitute j (sweep e) t) (λ j m a c. c .0)
       (λ j m u c. guarded-unshift 0 j m (omega arith) u c) before (substitute-passes e) put-local Guarded guarded-sweep
       (λ j f a c. (c .0, ⊎-elim (λ p. inl (p .0)) inr (c .1))) (λ j b c. c) k q g
 
@@ -235,7 +253,8 @@ shift-zero c (con n) = refl
 shift-zero c (var n) = refl
 
 -- the redex: the head's swept form is the abstraction over the swept body, or what the abstraction was over, applied to its local
-pub sweep-redex : (q e : Term) → sweep (substitute 0 e q) ≡ substitute 0 (sweep e) (sweep q) → sweep (app (lam q) e) ≡ sweep (substitute 0 e q)
+pub sweep-redex : (q e : Term) → sweep (substitute 0 e q) ≡ substitute 0 (sweep e) (sweep q)
+    → sweep (app (lam q) e) ≡ sweep (substitute 0 e q)
 sweep-redex q e r = go (abstracted (sweep q)) ∙ sym r
   where
     go : Abstracted (sweep q) → sweep (app (lam q) e) ≡ substitute 0 (sweep e) (sweep q)
@@ -247,7 +266,8 @@ sweep-redex q e r = go (abstracted (sweep q)) ∙ sym r
 module _ (φ : ℕ → Term) (v : Values φ) where
   module _ (g h : ℕ → Term → Term) (x : Passes g) (y : Passes h) (local : (k n : ℕ) → fill φ (g k (loc n)) ≡ h k (loc n)) where
     fill-passes : (k : ℕ) (t : Term) → fill φ (g k t) ≡ h k (fill φ t)
-    fill-passes k (app f a) = rw (x .application k f a, y .application k (fill φ f) (fill φ a)) (ap₂ app (fill-passes k f) (fill-passes k a))
+    fill-passes k (app f a) =
+        rw (x .application k f a, y .application k (fill φ f) (fill φ a)) (ap₂ app (fill-passes k f) (fill-passes k a))
     fill-passes k (lam b) = rw (x .abstraction k b, y .abstraction k (fill φ b)) (ap lam (fill-passes (suc k) b))
     fill-passes k (loc n) = local k n
     fill-passes k (con n) = rw (x .constant k n, y .constant k n)
@@ -280,7 +300,8 @@ reduct (con n) = con n
 reduct (var n) = var n
 
 -- the two cases of an application
-pub by-applied : (P : Term → Type 0) (f a : Term) → P (app f a) → ((b : Term) → f ≡ lam b → isPassed a b ≡ true → P (substitute 0 a b)) → P (applied f a)
+pub by-applied : (P : Term → Type 0) (f a : Term) → P (app f a)
+    → ((b : Term) → f ≡ lam b → isPassed a b ≡ true → P (substitute 0 a b)) → P (applied f a)
 by-applied P (app f b) a y z = y
 by-applied P (lam b) a y z = go (isPassed a b) refl
   where
@@ -293,7 +314,8 @@ by-applied P (var n) a y z = y
 
 -- it sweeps to the same, whatever the values
 module _ (φ : ℕ → Term) (v : Values φ) where
-  passed-substitute : (a b : Term) → isPassed a b ≡ true → sweep (substitute 0 (fill φ a) (fill φ b)) ≡ substitute 0 (sweep (fill φ a)) (sweep (fill φ b))
+  passed-substitute : (a b : Term) → isPassed a b ≡ true
+      → sweep (substitute 0 (fill φ a) (fill φ b)) ≡ substitute 0 (sweep (fill φ a)) (sweep (fill φ b))
   passed-substitute a b r =
       ⊎-elim (λ o. sweep-substitute (fill φ a) 0 (fill φ b) (rigid-sweep φ a o))
       (λ o. sweep-guarded (fill φ a) 0 (fill φ b) (guarded-fill φ v 0 b (guarded-is 0 b o))) (or-true (rigid a) (guarded 0 b) r)
@@ -390,9 +412,11 @@ reduct-below n p b = below-each n (reduct p) (λ i o. occurs-below n i p b (redu
 
 -- lines that list the reduct's matches list the pattern's
 pub reduct-lists :
-    (n : ℕ) (p t : Term) (ls : List Line) → Lists n (λ i. Occurs i (reduct p)) (Sweeps (reduct p) t) ls → Lists n (λ i. Occurs i p) (Sweeps p t) ls
+    (n : ℕ) (p t : Term) (ls : List Line) → Lists n (λ i. Occurs i (reduct p)) (Sweeps (reduct p) t) ls
+    → Lists n (λ i. Occurs i p) (Sweeps p t) ls
 reduct-lists n p t ls x =
-    lists-same n (λ i. Occurs i p) (Sweeps p t) (Sweeps (reduct p) t) ls (λ φ v. (λ s. reduct-sweep φ v p ∙ s, λ s. sym (reduct-sweep φ v p) ∙ s))
+    lists-same n (λ i. Occurs i p) (Sweeps p t) (Sweeps (reduct p) t) ls
+    (λ φ v. (λ s. reduct-sweep φ v p ∙ s, λ s. sym (reduct-sweep φ v p) ∙ s))
     (lists-more n (λ i. Occurs i p) (λ i. Occurs i (reduct p)) (Sweeps (reduct p) t) ls (λ i o. reduct-occurs i p o) x)
 
 pub reduct-full : (n : ℕ) (p t : Term) → Below n p → (ls : List Line) → Full n (reduct p) t ls → Full n p t ls

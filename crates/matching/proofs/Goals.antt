@@ -1,5 +1,5 @@
--- The goals of a search, and that lines which list their assignments exist, whatever a search has done of them. A goal that builds a head is
--- one of several matches, one for each body; goals are met together. Assumes nothing.
+-- The goals of a search, and that lines which list their assignments exist, whatever a search has done of them. A goal that builds a head
+-- is one of several matches, one for each body; goals are met together. Assumes nothing.
 --   Goal              a part has to sweep to a target; or a head to an abstraction that comes to a target with an argument put in
 --   Meets g φ         φ satisfies the goal g
 --   All gs φ          φ satisfies each goal of gs
@@ -52,8 +52,12 @@ module _ (n : ℕ) (S : ℕ → Type 0) where
 
   lists-build : (f t e : Term) → Suits n S f → Normal t → Lists n S (Build f t e) (flatMap (λ b. solve n f (lam b)) (buildable t e))
   lists-build f t e s h =
-      lists-same n S (Build f t e) (λ φ. (b : Term) × In b (buildable t e) × Sweeps f (lam b) φ) (flatMap (λ b. solve n f (lam b)) (buildable t e))
-      (λ φ v. (λ x. (x .0, in-buildable t e (x .0) (x .2) (x .3) (normal φ x), x .1), λ x. let k = buildable-in t e (x .0) (x .1) in (x .0, x .2, k .0, k .1)))
+      lists-same n S (Build f t e) (λ φ. (b : Term) × In b (buildable t e) × Sweeps f (lam b) φ)
+      (flatMap (λ b. solve n f (lam b)) (buildable t e))
+      (λ φ v. (
+        λ x. (x .0, in-buildable t e (x .0) (x .2) (x .3) (normal φ x), x .1),
+        λ x. let k = buildable-in t e (x .0) (x .1) in (x .0, x .2, k .0, k .1),
+      ))
       (lists-some n S (λ b. Sweeps f (lam b)) (λ b. solve n f (lam b)) (buildable t e) (buildable-distinct t e)
       (λ φ v b c i j p q. lam-inj b c (sym p ∙ q)) (λ b i. lists-match f (lam b) s (buildable-in t e b i .2)))
     where
@@ -67,7 +71,10 @@ module _ (n : ℕ) (S : ℕ → Type 0) where
 
   pub listing-goal : (g : Goal) → Listable n S g → Listing (Meets g)
   listing-goal (match p t) x = record { lines = solve n p t; lists = lists-match p t (x .0) (x .1) }
-  listing-goal (build f t e) x = record { lines = flatMap (λ b. solve n f (lam b)) (buildable t e); lists = lists-build f t e (x .0) (x .1) }
+  listing-goal (build f t e) x = record {
+    lines = flatMap (λ b. solve n f (lam b)) (buildable t e);
+    lists = lists-build f t e (x .0) (x .1);
+  }
 
   pub listing-same : (Q R : Predicate) → ((φ : ℕ → Term) → Values φ → Q φ ↔ R φ) → Listing R → Listing Q
   listing-same Q R e x = record { lines = x .lines; lists = lists-same n S Q R (x .lines) e (x .lists) }
@@ -76,7 +83,10 @@ module _ (n : ℕ) (S : ℕ → Type 0) where
   listing-none Q g = record { lines = []; lists = lists-none n S Q g }
 
   pub listing-or : (Q R : Predicate) → ((φ : ℕ → Term) → Values φ → Q φ → R φ → ⊥) → Listing Q → Listing R → Listing (λ φ. Q φ ⊎ R φ)
-  listing-or Q R apart x y = record { lines = x .lines ++ y .lines; lists = lists-or n S Q R (x .lines) (y .lines) apart (x .lists) (y .lists) }
+  listing-or Q R apart x y = record {
+    lines = x .lines ++ y .lines;
+    lists = lists-or n S Q R (x .lines) (y .lines) apart (x .lists) (y .lists);
+  }
 
   pub listing-both : (Q R : Predicate) → Listing Q → Listing R → Listing (λ φ. Q φ × R φ)
   listing-both Q R x y = record { lines = _; lists = lists-and n S Q R (x .lines) (y .lines) (x .lists) (y .lists) }

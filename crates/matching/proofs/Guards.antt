@@ -1,5 +1,5 @@
--- A local that stands only as the argument of a constant, or of what a constant was applied to before: the sweep leaves each such application
--- as it is, so that what is put for the local never meets an argument of its own. By induction on the term. Assumes nothing.
+-- A local that stands only as the argument of a constant, or of what a constant was applied to before: the sweep leaves each such
+-- application as it is, so that what is put for the local never meets an argument of its own. By induction on the term. Assumes nothing.
 --   constantHead t   the first record of t that is no application is a constant
 --   isLocal k t      t is local k
 --   guarded k t      each use of local k in t is the argument of an application whose head begins with a constant
@@ -64,7 +64,8 @@ guarded-is k (app f a) e =
     let p = and-both (guarded k f) (cond (isLocal k a) (constantHead f) (guarded k a)) e in
     (guarded-is k f (p .0), go (isLocal k a) refl (p .1) (guarded-is k a))
   where
-    go : (b : Bool) → isLocal k a ≡ b → cond b (constantHead f) (guarded k a) ≡ true → (guarded k a ≡ true → Guarded k a) → ((a ≡ loc k) × (constantHead f ≡ true)) ⊎ Guarded k a
+    go : (b : Bool) → isLocal k a ≡ b → cond b (constantHead f) (guarded k a) ≡ true → (guarded k a ≡ true → Guarded k a)
+        → ((a ≡ loc k) × (constantHead f ≡ true)) ⊎ Guarded k a
     go true i h w = inl (is-local k a i, h)
     go false i h w = inr (w h)
 guarded-is k (lam b) e = guarded-is (suc k) b e
@@ -116,7 +117,10 @@ shift-high d c n l = rw (le-ltb n c l)
 guarded-shift : (d c k j : ℕ) (t : Term) → c ≤ k → j ≡ k + d → Guarded k t → Guarded j (shift d c t)
 guarded-shift d c k j (app f a) l e g = (
   guarded-shift d c k j f l e (g .0),
-  ⊎-elim (λ p. inl (ap (shift d c) (p .0) ∙ shift-high d c k l ∙ ap loc (sym e), constant-kept (shift d c) (shift d c) (λ u v. refl) (λ n. refl) f (p .1)))
+  ⊎-elim (λ p. inl (
+    ap (shift d c) (p .0) ∙ shift-high d c k l ∙ ap loc (sym e),
+    constant-kept (shift d c) (shift d c) (λ u v. refl) (λ n. refl) f (p .1),
+  ))
       (λ p. inr (guarded-shift d c k j a l e p)) (g .1),
 )
 guarded-shift d c k j (lam b) l e g = guarded-shift d (suc c) (suc k) (suc j) b (omega arith) (omega arith) g
@@ -136,7 +140,8 @@ guarded-unshift c k (app f a) l u g =
     )
 guarded-unshift c k (lam b) l u g = guarded-unshift (suc c) (suc k) b (omega arith) u g
 guarded-unshift c k (loc n) l u g =
-    by-ltb (λ s. Guarded k (cond s (loc n) (loc (n - 1)))) n c (λ p q. omega (arith, p, q)) (λ p q. let z = eqb-false n c u in g (omega (arith, p, q, z)))
+    by-ltb (λ s. Guarded k (cond s (loc n) (loc (n - 1)))) n c (λ p q. omega (arith, p, q))
+    (λ p q. let z = eqb-false n c u in g (omega (arith, p, q, z)))
 guarded-unshift c k (con n) l u g = tt
 guarded-unshift c k (var n) l u g = tt
 
@@ -151,7 +156,8 @@ guarded-substitute j k i a (app f b) l e g h = (
 )
 guarded-substitute j k i a (lam b) l e g h = guarded-substitute (suc j) (suc k) i a b (omega arith) (omega arith) g h
 guarded-substitute j k i a (loc n) l e g h =
-    by-substitute (Guarded k) j a n (λ p q. omega (arith, p, q)) (λ p. guarded-shift j 0 i k a (omega arith) e h) (λ p q. g (omega (arith, p, q)))
+    by-substitute (Guarded k) j a n (λ p q. omega (arith, p, q)) (λ p. guarded-shift j 0 i k a (omega arith) e h)
+    (λ p q. g (omega (arith, p, q)))
 guarded-substitute j k i a (con n) l e g h = tt
 guarded-substitute j k i a (var n) l e g h = tt
 
@@ -159,16 +165,19 @@ guarded-substitute j k i a (var n) l e g h = tt
 pub guarded-fill : (φ : ℕ → Term) → Values φ → (k : ℕ) (t : Term) → Guarded k t → Guarded k (fill φ t)
 guarded-fill φ v k (app f a) g = (
   guarded-fill φ v k f (g .0),
-  ⊎-elim (λ p. inl (ap (fill φ) (p .0), constant-kept (fill φ) (fill φ) (λ u w. refl) (λ n. refl) f (p .1))) (λ p. inr (guarded-fill φ v k a p)) (g .1),
+  ⊎-elim (λ p. inl (ap (fill φ) (p .0), constant-kept (fill φ) (fill φ) (λ u w. refl) (λ n. refl) f (p .1)))
+      (λ p. inr (guarded-fill φ v k a p)) (g .1),
 )
 guarded-fill φ v k (lam b) g = guarded-fill φ v (suc k) b g
 guarded-fill φ v k (loc n) g = g
 guarded-fill φ v k (con n) g = tt
 guarded-fill φ v k (var n) g = guarded-closed 0 k (φ n) (omega arith) (v n .0)
 
-guarded-contract : (k : ℕ) (f a : Term) → Guarded k f → ((a ≡ loc k) × (constantHead f ≡ true)) ⊎ Guarded k a → Guarded k (contract (app f a))
+guarded-contract : (k : ℕ) (f a : Term) → Guarded k f → ((a ≡ loc k) × (constantHead f ≡ true)) ⊎ Guarded k a
+    → Guarded k (contract (app f a))
 guarded-contract k (app f b) a g h = (g, h)
-guarded-contract k (lam b) a g h = guarded-substitute 0 k k a b (omega arith) (omega arith) g (⊎-elim (λ p. absurd (subst T (sym (p .1)) tt)) (λ p. p) h)
+guarded-contract k (lam b) a g h =
+    guarded-substitute 0 k k a b (omega arith) (omega arith) g (⊎-elim (λ p. absurd (subst T (sym (p .1)) tt)) (λ p. p) h)
 guarded-contract k (loc n) a g h = (g, h)
 guarded-contract k (con n) a g h = (g, h)
 guarded-contract k (var n) a g h = (g, h)

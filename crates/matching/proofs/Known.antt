@@ -1,5 +1,5 @@
--- A goal whose part's swept form is known, whatever the open variables are: it is met exactly if that form is the target, or solves the goal
--- to build. By what a goal says. Assumes nothing.
+-- A goal whose part's swept form is known, whatever the open variables are: it is met exactly if that form is the target, or solves the
+-- goal to build. By what a goal says. Assumes nothing.
 use mathlib.Core.Path.{_≡_, sym, _∙_}
 use mathlib.Core.Bool.{true}
 use mathlib.Core.Logic.{_↔_}

@@ -24,3 +24,4 @@ pub mod Contraction
 pub mod Repeated
 pub mod Known
 pub mod Skeletons
+pub mod Instances

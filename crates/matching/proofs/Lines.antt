@@ -18,7 +18,8 @@ use Rattle.terms.specs.Assignment.{entry, Assigned, Assigns}
 use Rattle.terms.specs.Listing.{In, Line}
 use Rattle.terms.proofs.Members.{Distinct, one}
 use Rattle.matching.specs.Abstractions.{same, pairs}
-use Rattle.matching.proofs.Members.{guard, flatMap, in-guard, guard-in, distinct-guard, in-pairs, pairs-in, distinct-pairs, in-flatMap, flatMap-in}
+use Rattle.matching.proofs.Members.{guard, flatMap, in-guard, guard-in, distinct-guard, in-pairs, pairs-in, distinct-pairs}
+use Rattle.matching.proofs.Members.{in-flatMap, flatMap-in}
 
 abbrev pub Values : (ℕ → Term) → Type 0
 Values φ = (i : ℕ) → Value (φ i)
@@ -57,7 +58,8 @@ extends-entry φ [] i v e g = absurd (let z : _≡_ {A = ℕ} 0 1 = cc in omega 
 extends-entry φ (o ∷ l) zero v e g = subst (ExtendsAt (φ 0)) e (g .0)
 extends-entry φ (o ∷ l) (suc i) v e g = extends-entry (λ j. φ (suc j)) l i v e (g .1)
 
-pub extends-set : (φ : ℕ → Term) (l : Line) (i : ℕ) (t : Term) → i < length l → entry l i ≡ none → Extends φ (set l i (some t)) ↔ ((φ i ≡ t) × Extends φ l)
+pub extends-set : (φ : ℕ → Term) (l : Line) (i : ℕ) (t : Term) → i < length l → entry l i ≡ none
+    → Extends φ (set l i (some t)) ↔ ((φ i ≡ t) × Extends φ l)
 extends-set φ [] i t h e = absurd (omega arith)
 extends-set φ (o ∷ l) zero t h e = (λ g. (g .0, (rw e tt, g .1)), λ g. (g .0, g .1 .1))
 extends-set φ (o ∷ l) (suc i) t h e =
@@ -75,7 +77,8 @@ assigned-more A B f (some v) h = (f (h .0), h .1)
 
 pub assigns-more : (S R : ℕ → Type 0) → ((i : ℕ) → S i → R i) → (l : Line) → Assigns S l → Assigns R l
 assigns-more S R f [] h = tt
-assigns-more S R f (o ∷ l) h = (assigned-more (S 0) (R 0) (f 0) o (h .0), assigns-more (λ i. S (suc i)) (λ i. R (suc i)) (λ i. f (suc i)) l (h .1))
+assigns-more S R f (o ∷ l) h =
+    (assigned-more (S 0) (R 0) (f 0) o (h .0), assigns-more (λ i. S (suc i)) (λ i. R (suc i)) (λ i. f (suc i)) l (h .1))
 
 pub assigns-entry : (S : ℕ → Type 0) (l : Line) (i : ℕ) (v : Term) → Assigns S l → entry l i ≡ some v → S i × Value v
 assigns-entry S [] i v a e = absurd (let z : _≡_ {A = ℕ} 0 1 = cc in omega arith)
@@ -142,7 +145,8 @@ extends-joins φ (o ∷ l) (q ∷ m) k p g =
     let b = extends-joins (λ i. φ (suc i)) l m (r .1) (r .3) (h .1) in
     ((a .0, b .0), (a .1, b .1))
 
-pub joins-extends : (φ : ℕ → Term) (l m : Line) → length l ≡ length m → Extends φ l → Extends φ m → (k : Line) × In k (joins l m) × Extends φ k
+pub joins-extends : (φ : ℕ → Term) (l m : Line) → length l ≡ length m → Extends φ l → Extends φ m
+    → (k : Line) × In k (joins l m) × Extends φ k
 joins-extends φ [] [] e g h = ([], inl refl, tt)
 joins-extends φ [] (q ∷ m) e g h = absurd (omega arith)
 joins-extends φ (o ∷ l) [] e g h = absurd (omega arith)
@@ -155,7 +159,8 @@ pub joins-distinct : (l m : Line) → Distinct (joins l m)
 joins-distinct [] [] = (λ p. p, tt)
 joins-distinct [] (q ∷ m) = tt
 joins-distinct (o ∷ l) [] = tt
-joins-distinct (o ∷ l) (q ∷ m) = distinct-pairs _∷_ (λ x x′ y y′ p. (cc, cc)) (both o q) (joins l m) (both-distinct o q) (joins-distinct l m)
+joins-distinct (o ∷ l) (q ∷ m) =
+    distinct-pairs _∷_ (λ x x′ y y′ p. (cc, cc)) (both o q) (joins l m) (both-distinct o q) (joins-distinct l m)
 
 both-once : (o q x y : Option Term) → In x (both o q) → In y (both o q) → x ≡ y
 both-once none q x y p r = one p ∙ sym (one r)
@@ -198,7 +203,8 @@ assigns-entrywise S (o ∷ l) = rw (assigns-entrywise (λ i. S (suc i)) l)
 
 pub assigns-joins : (S : ℕ → Type 0) (l m k : Line) → In k (joins l m) → Assigns S l → Assigns S m → Assigns S k
 assigns-joins S l m k p g h =
-    rw (assigns-entrywise S k) (joins-keeps (λ i. Assigned (S i)) l m k p (rw (assigns-entrywise S l) at g) (rw (assigns-entrywise S m) at h))
+    rw (assigns-entrywise S k)
+    (joins-keeps (λ i. Assigned (S i)) l m k p (rw (assigns-entrywise S l) at g) (rw (assigns-entrywise S m) at h))
 
 -- a predicate of each value
 abbrev held : (Term → Type 0) → Option Term → Type 0

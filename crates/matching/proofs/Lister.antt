@@ -15,9 +15,11 @@ use Rattle.terms.specs.Listing.{In, Line}
 use Rattle.matching.specs.Abstractions.{same}
 use Rattle.matching.proofs.Decide.{value?}
 use Rattle.matching.proofs.Members.{guard, flatMap}
-use Rattle.matching.proofs.Step.{Split, bodyTarget, constant, match-variable, match-abstraction, match-application, bodyTarget-normal, head-normal, argument-normal, constant-normal, split-constant}
+use Rattle.matching.proofs.Step.{Split, bodyTarget, constant, match-variable, match-abstraction, match-application}
+use Rattle.matching.proofs.Step.{bodyTarget-normal, head-normal, argument-normal, constant-normal, split-constant}
 use Rattle.matching.proofs.Splits.{splits, splits-in, in-splits, splits-distinct}
-use Rattle.matching.proofs.Lines.{Values, blank, merge, length-blank, extends-blank, assigns-blank, blank-open, extends-set, assigns-set}
+use Rattle.matching.proofs.Lines.{Values, blank, merge, length-blank, extends-blank, assigns-blank, blank-open, extends-set}
+use Rattle.matching.proofs.Lines.{assigns-set}
 use Rattle.matching.proofs.Lists.{Predicate, Lists, lists-same, lists-more, lists-none, lists-one, lists-or, lists-some, lists-and}
 
 abbrev pub Sweeps : Term → Term → Predicate
@@ -37,7 +39,8 @@ module _ (n : ℕ) (S : ℕ → Type 0) (A : Type 0) (Q : Predicate) where
   lists-guard (no a) k f g = lists-none n S Q (g a)
 
 -- a leaf that sweeps to itself
-lists-leaf : (n : ℕ) (S : ℕ → Type 0) (p t : Term) → ((φ : ℕ → Term) → sweep (fill φ p) ≡ p) → Lists n S (Sweeps p t) (guard (same t p) (blank n))
+lists-leaf : (n : ℕ) (S : ℕ → Type 0) (p t : Term) → ((φ : ℕ → Term) → sweep (fill φ p) ≡ p)
+    → Lists n S (Sweeps p t) (guard (same t p) (blank n))
 lists-leaf n S p t f =
     lists-guard n S (t ≡ p) (Sweeps p t) (same t p) (blank n)
     (λ e. lists-one n S (Sweeps p t) (blank n) (length-blank n) (assigns-blank S n) (λ φ v. (λ _. extends-blank φ n, λ _. f φ ∙ sym e)))
@@ -74,14 +77,17 @@ module _ (n : ℕ) (f a t : Term) (h : Normal t) where
   application-from φ (inr s) = inr s
 
   lists-application :
-      ((g : Term) → Normal g → Lists n (λ i. Occurs i f) (Sweeps f g) (solve n f g)) → ((e : Term) → Normal e → Lists n (λ i. Occurs i a) (Sweeps a e) (solve n a e))
+      ((g : Term) → Normal g → Lists n (λ i. Occurs i f) (Sweeps f g) (solve n f g))
+      → ((e : Term) → Normal e → Lists n (λ i. Occurs i a) (Sweeps a e) (solve n a e))
       → Lists n S (Sweeps (app f a) t) (solve n (app f a) t)
   lists-application lf la =
       lists-same n S (Sweeps (app f a) t) Rows (solve n (app f a) t)
       (λ φ v. let m = match-application φ f a t h in (λ s. application-to φ (m .0 s), λ s. m .1 (application-from φ s)))
-      (lists-or n S (λ φ. (q : Term × Term) × In q (splits t) × Pair q φ) (Sweeps f (constant t)) (flatMap pairLines (splits t)) (solve n f (constant t))
+      (lists-or n S (λ φ. (q : Term × Term) × In q (splits t) × Pair q φ) (Sweeps f (constant t)) (flatMap pairLines (splits t))
+      (solve n f (constant t))
       (λ φ v s r. split-constant (s .0 .0) (s .0 .1) t h (splits-in t (s .0) (s .1)) (sym (s .2 .0) ∙ r))
-      (lists-some n S Pair pairLines (splits t) (splits-distinct t h) (λ φ v q r i j s u z. ((sym (s .0) ∙ u .0) z, (sym (s .1) ∙ u .1) z)) pair)
+      (lists-some n S Pair pairLines (splits t) (splits-distinct t h)
+      (λ φ v q r i j s u z. ((sym (s .0) ∙ u .0) z, (sym (s .1) ∙ u .1) z)) pair)
       (headLines (constant t) (constant-normal t h)))
     where
       pairLines : Term × Term → List Line
@@ -93,13 +99,16 @@ module _ (n : ℕ) (f a t : Term) (h : Normal t) where
       pair : (q : Term × Term) → In q (splits t) → Lists n S (Pair q) (pairLines q)
       pair q i =
           let s = splits-in t q i in
-          lists-and n S (Sweeps f (q .0)) (Sweeps a (q .1)) (solve n f (q .0)) (solve n a (q .1)) (headLines (q .0) (head-normal (q .0) (q .1) t h s))
-          (lists-more n S (λ i. Occurs i a) (Sweeps a (q .1)) (solve n a (q .1)) (λ i. inr) (la (q .1) (argument-normal (q .0) (q .1) t h s)))
+          lists-and n S (Sweeps f (q .0)) (Sweeps a (q .1)) (solve n f (q .0)) (solve n a (q .1))
+          (headLines (q .0) (head-normal (q .0) (q .1) t h s))
+          (lists-more n S (λ i. Occurs i a) (Sweeps a (q .1)) (solve n a (q .1)) (λ i. inr)
+          (la (q .1) (argument-normal (q .0) (q .1) t h s)))
 
 pub lists-solve : (n : ℕ) (p t : Term) → Below n p → Normal t → Lists n (λ i. Occurs i p) (Sweeps p t) (solve n p t)
 lists-solve n (app f a) t b h = lists-application n f a t h (λ g m. lists-solve n f g (b .0) m) (λ e m. lists-solve n a e (b .1) m)
 lists-solve n (lam p) t b h =
-    lists-same n (λ i. Occurs i p) (Sweeps (lam p) t) (Sweeps p (bodyTarget t)) (solve n p (bodyTarget t)) (λ φ v. match-abstraction φ p t h)
+    lists-same n (λ i. Occurs i p) (Sweeps (lam p) t) (Sweeps p (bodyTarget t)) (solve n p (bodyTarget t))
+    (λ φ v. match-abstraction φ p t h)
     (lists-solve n p (bodyTarget t) b (bodyTarget-normal t h))
 lists-solve n (loc k) t b h = lists-leaf n (λ i. ⊥) (loc k) t (λ φ. refl)
 lists-solve n (con k) t b h = lists-leaf n (λ i. ⊥) (con k) t (λ φ. refl)

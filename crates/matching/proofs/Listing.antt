@@ -18,7 +18,8 @@ use Rattle.matching.proofs.Unique.{lists-members, lists-length}
 
 -- the same members, none twice
 pub lists-members-same :
-    (n : ℕ) (S : ℕ → Type 0) (Q : Predicate) (ls ms : List Line) → Distinct ms → ((l : Line) → In l ms ↔ In l ls) → Lists n S Q ls → Lists n S Q ms
+    (n : ℕ) (S : ℕ → Type 0) (Q : Predicate) (ls ms : List Line) → Distinct ms → ((l : Line) → In l ms ↔ In l ls)
+    → Lists n S Q ls → Lists n S Q ms
 lists-members-same n S Q ls ms d e x = record {
   entries = λ l i. x .entries l (e l .0 i);
   assigns = λ l i. x .assigns l (e l .0 i);
@@ -38,7 +39,8 @@ module _ (n : ℕ) (p t : Term) (b : Below n p) where
   -- lines that list the matches, sorted, are a full listing of as many lines
   pub full-sort : (ls : List Line) → Lists n S (Sweeps p t) ls → Full n p t (sort ls)
   full-sort ls x =
-      full-lists n p t b (sort ls) (lists-members-same n S (Sweeps p t) ls (sort ls) (sort-distinct ls) (λ l. (sort-in l ls, in-sort l ls)) x) (rising-sort ls)
+      full-lists n p t b (sort ls)
+      (lists-members-same n S (Sweeps p t) ls (sort ls) (sort-distinct ls) (λ l. (sort-in l ls, in-sort l ls)) x) (rising-sort ls)
 
   -- two full listings are equal
   pub unique : (ls ms : List Line) → Full n p t ls → Full n p t ms → ls ≡ ms
@@ -64,6 +66,7 @@ module _ (n : ℕ) (p t : Term) (b : Below n p) where
     full-members ls d e = full-sort ls (lists-members-same n S (Sweeps p t) (solve n p t) ls d e (lists-solve n p t b h))
 
     -- more distinct lines of the lister's than k: no full listing has at most k
-    pub too-many : (k : ℕ) (fs : List Line) → Distinct fs → ((l : Line) → In l fs → In l (solve n p t)) → k < length fs → (ls : List Line) → Full n p t ls → ¬ (length ls ≤ k)
+    pub too-many : (k : ℕ) (fs : List Line) → Distinct fs → ((l : Line) → In l fs → In l (solve n p t)) → k < length fs → (ls : List Line)
+        → Full n p t ls → ¬ (length ls ≤ k)
     too-many k fs d e g ls x m =
         omega (arith, found-length fs (solve n p t) d e, full-length (solve n p t) ls (lists-solve n p t b h) x)

@@ -15,7 +15,8 @@ use Rattle.terms.specs.Assignment.{Assigns}
 use Rattle.terms.specs.Listing.{In, Line}
 use Rattle.terms.proofs.Members.{Distinct, in-left, in-right, in-append, distinct-append, one}
 use Rattle.matching.proofs.Members.{flatMap, flatMap-in, distinct-flatMap}
-use Rattle.matching.proofs.Lines.{Values, Extends, joins, merge, extends-joins, joins-extends, joins-once, joins-distinct, length-joins, assigns-joins, assigns-more, merge-in, in-merge}
+use Rattle.matching.proofs.Lines.{Values, Extends, joins, merge, extends-joins, joins-extends, joins-once, joins-distinct}
+use Rattle.matching.proofs.Lines.{length-joins, assigns-joins, assigns-more, merge-in, in-merge}
 
 abbrev pub Predicate : Type 1
 Predicate = (ℕ → Term) → Type 0
@@ -98,7 +99,8 @@ module _ (n : ℕ) (S : ℕ → Type 0) where
   }
 
   -- one line
-  pub lists-one : (Q : Predicate) (k : Line) → length k ≡ n → Assigns S k → ((φ : ℕ → Term) → Values φ → Q φ ↔ Extends φ k) → Lists n S Q (k ∷ [])
+  pub lists-one : (Q : Predicate) (k : Line) → length k ≡ n → Assigns S k → ((φ : ℕ → Term) → Values φ → Q φ ↔ Extends φ k)
+      → Lists n S Q (k ∷ [])
   lists-one Q k e a f = record {
     entries = λ l i. ap length (one i) ∙ e;
     assigns = λ l i. subst (Assigns S) (sym (one i)) a;
@@ -192,12 +194,14 @@ module _ (n : ℕ) (S : ℕ → Type 0) where
         (λ l i. distinct-flatMap (λ m. joins l m) ms (y .distinct) (λ m j. joins-distinct l m)
         (λ m m′ k j j′ p p′.
         let w = witness S k (assigned l m k i j p) in
-        y .once (w .φ) (w .values) m m′ j j′ (extends-joins (w .φ) l m k p (w .extends) .1) (extends-joins (w .φ) l m′ k p′ (w .extends) .1)))
+        y .once (w .φ) (w .values) m m′ j j′ (extends-joins (w .φ) l m k p (w .extends) .1)
+        (extends-joins (w .φ) l m′ k p′ (w .extends) .1)))
         (λ l l′ k i i′ p p′.
         let r = flatMap-in (λ m. joins l m) k ms p in
         let s = flatMap-in (λ m. joins l′ m) k ms p′ in
         let w = witness S k (assigned l (r .0) k i (r .1) (r .2)) in
-        x .once (w .φ) (w .values) l l′ i i′ (extends-joins (w .φ) l (r .0) k (r .2) (w .extends) .0) (extends-joins (w .φ) l′ (s .0) k (s .2) (w .extends) .0));
+        x .once (w .φ) (w .values) l l′ i i′ (extends-joins (w .φ) l (r .0) k (r .2) (w .extends) .0)
+        (extends-joins (w .φ) l′ (s .0) k (s .2) (w .extends) .0));
   }
     where
       assigned : (l m k : Line) → In l ls → In m ms → In k (joins l m) → Assigns S k

@@ -77,15 +77,20 @@ module _ {A B C : Type 0} (f : A → B → C) where
   pub pairs-in : (z : C) (l : List A) (m : List B) → In z (pairs f l m) → (x : A) × (y : B) × In x l × In y m × (z ≡ f x y)
   pairs-in z (x ∷ l) m p = go (in-append z (map (f x) m) (pairs f l m) p) (pairs-in z l m)
     where
-      go : In z (map (f x) m) ⊎ In z (pairs f l m) → (In z (pairs f l m) → (x : A) × (y : B) × In x l × In y m × (z ≡ f x y)) → (w : A) × (y : B) × In w (x ∷ l) × In y m × (z ≡ f w y)
+      go : In z (map (f x) m) ⊎ In z (pairs f l m) → (In z (pairs f l m) → (x : A) × (y : B) × In x l × In y m × (z ≡ f x y))
+          → (w : A) × (y : B) × In w (x ∷ l) × In y m × (z ≡ f w y)
       go (inl q) ih = let r = map-in (f x) z m q in (x, r .0, inl refl, r .1, r .2)
       go (inr q) ih = let r = ih q in (r .0, r .1, inr (r .2), r .3, r .4)
 
-  pub distinct-pairs : ((x x′ : A) (y y′ : B) → f x y ≡ f x′ y′ → (x ≡ x′) × (y ≡ y′)) → (l : List A) (m : List B) → Distinct l → Distinct m → Distinct (pairs f l m)
+  pub distinct-pairs : ((x x′ : A) (y y′ : B) → f x y ≡ f x′ y′ → (x ≡ x′) × (y ≡ y′)) → (l : List A) (m : List B) → Distinct l → Distinct m
+      → Distinct (pairs f l m)
   distinct-pairs inj [] m h k = tt
   distinct-pairs inj (x ∷ l) m h k =
       distinct-append (map (f x) m) (pairs f l m) (distinct-map (f x) (λ y y′ e. inj x x y y′ e .1) m k) (distinct-pairs inj l m (h .1) k)
-      (λ z p q. let r = map-in (f x) z m p in let s = pairs-in z l m q in h .0 (subst (λ w. In w l) (inj (s .0) x (s .1) (r .0) (sym (s .4) ∙ r .2) .0) (s .2)))
+      (λ z p q.
+      let r = map-in (f x) z m p in
+      let s = pairs-in z l m q in
+      h .0 (subst (λ w. In w l) (inj (s .0) x (s .1) (r .0) (sym (s .4) ∙ r .2) .0) (s .2)))
 
 module _ {A : Type 0} (same : Discrete A) where
   unless-in : {B : Type 0} (o : Dec B) (x y : A) (l m : List A) → (In y m → In y l) → In y (unless o x m) → In y (x ∷ l)
@@ -116,8 +121,10 @@ module _ {A : Type 0} (same : Discrete A) where
   distinct-nub (x ∷ l) = distinct-unless x l (nub same l) (in? same x l) (nub-in x l) (distinct-nub l)
 
 module _ {A B : Type 0} (f : A → List B) where
-  pub distinct-flatMap : (l : List A) → Distinct l → ((x : A) → In x l → Distinct (f x)) → ((x y : A) (z : B) → In x l → In y l → In z (f x) → In z (f y) → x ≡ y) → Distinct (flatMap f l)
+  pub distinct-flatMap : (l : List A) → Distinct l → ((x : A) → In x l → Distinct (f x))
+      → ((x y : A) (z : B) → In x l → In y l → In z (f x) → In z (f y) → x ≡ y) → Distinct (flatMap f l)
   distinct-flatMap [] h g k = tt
   distinct-flatMap (x ∷ l) h g k =
-      distinct-append (f x) (flatMap f l) (g x (inl refl)) (distinct-flatMap l (h .1) (λ y p. g y (inr p)) (λ y w z p q. k y w z (inr p) (inr q)))
+      distinct-append (f x) (flatMap f l) (g x (inl refl))
+      (distinct-flatMap l (h .1) (λ y p. g y (inr p)) (λ y w z p q. k y w z (inr p) (inr q)))
       (λ z p q. let r = flatMap-in f z l q in h .0 (subst (λ w. In w l) (sym (k x (r .0) z (inl refl) (inr (r .1)) p (r .2))) (r .1)))

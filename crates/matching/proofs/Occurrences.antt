@@ -53,7 +53,8 @@ partAt-head d f a j h = List·getD-append (parts d f) (parts d a) (0, con 0) j (
 
 pub partAt-argument : (d : ℕ) (f a : Term) (j : ℕ) → partAt d (app f a) (suc (size f + j)) ≡ partAt d a j
 partAt-argument d f a j =
-    ap (λ n. getD (parts d f ++ parts d a) (n + j) (0, con 0)) (sym (length-parts d f)) ∙ getD-append-add (parts d f) (parts d a) j (0, con 0)
+    ap (λ n. getD (parts d f ++ parts d a) (n + j) (0, con 0)) (sym (length-parts d f))
+    ∙ getD-append-add (parts d f) (parts d a) j (0, con 0)
 
 pub partAt-first : (d : ℕ) (t : Term) → partAt d t 0 ≡ (d, t)
 partAt-first d (app f a) = refl
@@ -64,14 +65,17 @@ partAt-first d (var n) = refl
 
 -- a part of a term is the term itself or a part of its own parts
 module _ (Q : ℕ × Term → Type 0) (d : ℕ) where
-  pub by-app : (f a : Term) (j : ℕ) → j < size (app f a) → Q (d, app f a) → ((i : ℕ) → i < size f → Q (partAt d f i)) → ((i : ℕ) → i < size a → Q (partAt d a i)) → Q (partAt d (app f a) j)
+  pub by-app : (f a : Term) (j : ℕ) → j < size (app f a) → Q (d, app f a) → ((i : ℕ) → i < size f → Q (partAt d f i))
+      → ((i : ℕ) → i < size a → Q (partAt d a i)) → Q (partAt d (app f a) j)
   by-app f a zero h q x y = q
-  by-app f a (suc j) h q x y = by-dec (λ _. Q (partAt d (app f a) (suc j))) (decLt j (size f)) (λ l. subst Q (sym (partAt-head d f a j l)) (x j l))
+  by-app f a (suc j) h q x y =
+      by-dec (λ _. Q (partAt d (app f a) (suc j))) (decLt j (size f)) (λ l. subst Q (sym (partAt-head d f a j l)) (x j l))
       (λ l.
       let m : suc j ≡ suc (size f + (j - size f)) = omega arith in
       subst Q (sym (ap (partAt d (app f a)) m ∙ partAt-argument d f a (j - size f))) (y (j - size f) (omega arith)))
 
-  pub by-lam : (b : Term) (j : ℕ) → j < size (lam b) → Q (d, lam b) → ((i : ℕ) → i < size b → Q (partAt (suc d) b i)) → Q (partAt d (lam b) j)
+  pub by-lam : (b : Term) (j : ℕ) → j < size (lam b) → Q (d, lam b) → ((i : ℕ) → i < size b → Q (partAt (suc d) b i))
+      → Q (partAt d (lam b) j)
   by-lam b zero h q x = q
   by-lam b (suc j) h q x = x j (omega arith)
 
@@ -80,9 +84,11 @@ module _ (Q : ℕ × Term → Type 0) (d : ℕ) where
   by-leaf t (suc j) h q = absurd (omega arith)
 
 -- what goes down to the parts of a term holds of each
-module _ (P : ℕ → Term → Type 0) (at-app : (d : ℕ) (f a : Term) → P d (app f a) → P d f × P d a) (at-lam : (d : ℕ) (b : Term) → P d (lam b) → P (suc d) b) where
+module _ (P : ℕ → Term → Type 0) (at-app : (d : ℕ) (f a : Term) → P d (app f a) → P d f × P d a)
+    (at-lam : (d : ℕ) (b : Term) → P d (lam b) → P (suc d) b) where
   pub each-part : (d : ℕ) (t : Term) (j : ℕ) → j < size t → P d t → P (partAt d t j .0) (partAt d t j .1)
-  each-part d (app f a) j h p = by-app (λ q. P (q .0) (q .1)) d f a j h p (λ i l. each-part d f i l (at-app d f a p .0)) (λ i l. each-part d a i l (at-app d f a p .1))
+  each-part d (app f a) j h p = by-app (λ q. P (q .0) (q .1)) d f a j h p (λ i l. each-part d f i l (at-app d f a p .0))
+      (λ i l. each-part d a i l (at-app d f a p .1))
   each-part d (lam b) j h p = by-lam (λ q. P (q .0) (q .1)) d b j h p (λ i l. each-part (suc d) b i l (at-lam d b p))
   each-part d (loc n) j h p = by-leaf (λ q. P (q .0) (q .1)) d (loc n) j h p
   each-part d (con n) j h p = by-leaf (λ q. P (q .0) (q .1)) d (con n) j h p
@@ -164,17 +170,21 @@ pub first-not-again :
 first-not-again t i j e h c x = x .none-before i h (subst (Copy (partAt 0 t i)) (sym (first-lowered t j e x)) c)
 
 -- what code finds by looking
-pub first-from : (t : Term) (j : ℕ) (e : Term) → j < size t → Copy (partAt 0 t j) e → ((i : ℕ) → i < j → ¬ Copy (partAt 0 t i) e) → First t j e
+pub first-from : (t : Term) (j : ℕ) (e : Term) → j < size t → Copy (partAt 0 t j) e
+    → ((i : ℕ) → i < j → ¬ Copy (partAt 0 t i) e) → First t j e
 first-from t j e h c f = record { within = h; copy = c; none-before = f }
 
 -- whether a part is the first occurrence of an argument
 none-below : (e t : Term) (j : ℕ) → Dec ((i : ℕ) → i < j → ¬ Copy (partAt 0 t i) e)
 none-below e t zero = yes (λ i h c. omega arith)
-none-below e t (suc j) = by-dec (λ _. Dec ((i : ℕ) → i < suc j → ¬ Copy (partAt 0 t i) e)) (same (partAt 0 t j .1) (shift (partAt 0 t j .0) 0 e))
-    (λ c. no (λ f. f j (omega arith) c)) (λ n. by-dec (λ _. Dec ((i : ℕ) → i < suc j → ¬ Copy (partAt 0 t i) e)) (none-below e t j) (λ f. yes (more n f)) (λ f. no (λ g. f (λ i h. g i (omega arith)))))
+none-below e t (suc j) =
+    by-dec (λ _. Dec ((i : ℕ) → i < suc j → ¬ Copy (partAt 0 t i) e)) (same (partAt 0 t j .1) (shift (partAt 0 t j .0) 0 e))
+    (λ c. no (λ f. f j (omega arith) c)) (λ n. by-dec (λ _. Dec ((i : ℕ) → i < suc j → ¬ Copy (partAt 0 t i) e)) (none-below e t j)
+    (λ f. yes (more n f)) (λ f. no (λ g. f (λ i h. g i (omega arith)))))
   where
     more : ¬ Copy (partAt 0 t j) e → ((i : ℕ) → i < j → ¬ Copy (partAt 0 t i) e) → (i : ℕ) → i < suc j → ¬ Copy (partAt 0 t i) e
-    more n f i h c = by-dec (λ _. ⊥) (decLt i j) (λ l. f i l c) (λ l. let q : i ≡ j = omega arith in n (subst (λ k. Copy (partAt 0 t k) e) q c))
+    more n f i h c =
+        by-dec (λ _. ⊥) (decLt i j) (λ l. f i l c) (λ l. let q : i ≡ j = omega arith in n (subst (λ k. Copy (partAt 0 t k) e) q c))
 
 pub dec-first : (t : Term) (j : ℕ) → Dec ((e : Term) × First t j e)
 dec-first t j =

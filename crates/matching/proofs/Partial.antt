@@ -44,7 +44,8 @@ agrees-extends (o ∷ a) (some v ∷ l) g = (ap (valueOr (con 0)) (g .0), agrees
 
 -- what the line assigns is assigned
 extends-agrees :
-    (S : ℕ → Type 0) (a l : Line) → length a ≡ length l → ((i : ℕ) → S i → (v : Term) × (entry a i ≡ some v)) → Assigns S l → Extends (total a) l → Agrees a l
+    (S : ℕ → Type 0) (a l : Line) → length a ≡ length l → ((i : ℕ) → S i → (v : Term) × (entry a i ≡ some v)) → Assigns S l
+    → Extends (total a) l → Agrees a l
 extends-agrees S [] [] e c h g = tt
 extends-agrees S [] (q ∷ l) e c h g = absurd (omega arith)
 extends-agrees S (o ∷ a) [] e c h g = absurd (omega arith)
@@ -118,11 +119,13 @@ module _ (n : ℕ) (p t : Term) (b : Below n p) (ls : List Line) where
         let r = x .covers (restrict n φ) (match-restrict φ v s) in
         (r .0, r .1, agrees-restrict n φ (r .0) (x .entries (r .0) (r .1)) .1 (r .2));
     once = λ φ v l m i j g h.
-        x .once (restrict n φ) (match-restrict φ v (sound φ v l i g)) l m i j (agrees-restrict n φ l (x .entries l i) .0 g) (agrees-restrict n φ m (x .entries m j) .0 h);
+        x .once (restrict n φ) (match-restrict φ v (sound φ v l i g)) l m i j (agrees-restrict n φ l (x .entries l i) .0 g)
+        (agrees-restrict n φ m (x .entries m j) .0 h);
     distinct = rising-distinct ls (x .rising);
   }
     where
       sound : (φ : ℕ → Term) → Values φ → (l : Line) → In l ls → Extends φ l → Sweeps p t φ
       sound φ v l i g =
           sym (ap sweep (fill-restrict n p b φ))
-          ∙ x .sound (restrict n φ) (entries-restrict n φ v) (complete-restrict n p b φ) l i (agrees-restrict n φ l (x .entries l i) .0 g) .2
+          ∙ x .sound (restrict n φ) (entries-restrict n φ v) (complete-restrict n p b φ) l i
+          (agrees-restrict n φ l (x .entries l i) .0 g) .2

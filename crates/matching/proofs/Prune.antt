@@ -60,7 +60,8 @@ unlike-kind q t r n φ d e p s = n (sym (rigid-kind φ d q r) ∙ ap (λ x. kind
 
 pub unlike-head : (f a g b : Term) → rigid f ≡ true → Unlike f g → Unlike (app f a) (app g b)
 unlike-head f a g b r u φ d e p s =
-    let q : app g b ≡ app (shift d 0 (sweep (fill φ f))) (shift d 0 (sweep (fill φ a))) = p ∙ ap (shift d 0) (sym s ∙ rigid-parts φ f a r) in
+    let q : app g b ≡ app (shift d 0 (sweep (fill φ f))) (shift d 0 (sweep (fill φ a))) =
+    p ∙ ap (shift d 0) (sym s ∙ rigid-parts φ f a r) in
     u φ d (sweep (fill φ f)) (cc) refl
 
 pub unlike-constant : (q t : Term) → kind q ≡ 3 → ¬ (number q ≡ number t) → Unlike q t
@@ -88,7 +89,8 @@ Build f t e φ = (b : Term) × Sweeps f (lam b) φ × (substitute 0 e b ≡ t) �
 -- how an application comes to the target, with the argument's target named first
 abbrev pub Choice : Term → Term → Term → Predicate
 Choice f a t φ =
-    (t ≡ app (sweep (fill φ f)) (sweep (fill φ a))) ⊎ (((e : Term) × In e (candidates t) × Sweeps a e φ × Build f t e φ) ⊎ Sweeps f (constant t) φ)
+    (t ≡ app (sweep (fill φ f)) (sweep (fill φ a)))
+    ⊎ (((e : Term) × In e (candidates t) × Sweeps a e φ × Build f t e φ) ⊎ Sweeps f (constant t) φ)
 
 pub argument-first : (φ : ℕ → Term) (f a t : Term) → Normal t → Sweeps (app f a) t φ ↔ Choice f a t φ
 argument-first φ f a t h = (λ s. to (m .0 s), from)
@@ -123,7 +125,8 @@ replaceAll-here e d (con n) p = either-yes (same (con n) (shift d 0 e)) (loc d) 
 replaceAll-here e d (var n) p = either-yes (same (var n) (shift d 0 e)) (loc d) _ p
 
 module _ (e : Term) (i : ℕ) (u : uses i e ≡ true) where
-  not-here : (d j : ℕ) → j ≡ i + d → (b : Term) → (uses d b ≡ true → size e < size (substitute d e b)) → uses (suc j) b ≡ false → substitute d e b ≡ shift d 0 e → ⊥
+  not-here : (d j : ℕ) → j ≡ i + d → (b : Term) → (uses d b ≡ true → size e < size (substitute d e b)) → uses (suc j) b ≡ false
+      → substitute d e b ≡ shift d 0 e → ⊥
   not-here d j q b s h p = go (uses d b) refl
     where
       go : (t : Bool) → uses d b ≡ t → ⊥
@@ -139,22 +142,30 @@ module _ (e : Term) (i : ℕ) (u : uses i e ≡ true) where
       ∙ sym (either-no (same (substitute d e (app f a)) (shift d 0 e)) (loc d) _ (not-here d j q (app f a) strict h))
     where
       strict : uses d (app f a) ≡ true → size e < size (substitute d e (app f a))
-      strict x = ⊎-elim (λ y. let z = size-used d e f y in let w : size e < suc (size (substitute d e f) + size (substitute d e a)) = omega arith in w)
-          (λ y. let z = size-used d e a y in let w : size e < suc (size (substitute d e f) + size (substitute d e a)) = omega arith in w) (or-true (uses d f) (uses d a) x)
+      strict x = ⊎-elim
+          (λ y. let z = size-used d e f y in let w : size e < suc (size (substitute d e f) + size (substitute d e a)) = omega arith in w)
+          (λ y. let z = size-used d e a y in let w : size e < suc (size (substitute d e f) + size (substitute d e a)) = omega arith in w)
+          (or-true (uses d f) (uses d a) x)
   forced d j q (lam b) h =
       ap lam (forced (suc d) (suc j) (omega arith) b h)
-      ∙ sym (either-no (same (substitute d e (lam b)) (shift d 0 e)) (loc d) _ (not-here d j q (lam b) (λ x. omega (arith, size-used (suc d) e b x)) h))
+      ∙ sym (either-no (same (substitute d e (lam b)) (shift d 0 e)) (loc d) _
+      (not-here d j q (lam b) (λ x. omega (arith, size-used (suc d) e b x)) h))
   forced d j q (loc n) h =
       by-substitute (λ s. loc n ≡ replaceAll e d s) d e n
-      (λ l. sym (either-no (same (loc n) (shift d 0 e)) (loc d) _ (λ p. not-here d j q (loc n) (λ x. absurd (omega (arith, eqb-true n d x))) h (substitute-low n d e l ∙ p)) ∙ rw (lt-ltb n d)))
+      (λ l. sym (either-no (same (loc n) (shift d 0 e)) (loc d) _
+      (λ p. not-here d j q (loc n) (λ x. absurd (omega (arith, eqb-true n d x))) h (substitute-low n d e l ∙ p)) ∙ rw (lt-ltb n d)))
       (λ l. ap loc l ∙ sym (replaceAll-here e d (shift d 0 e) refl))
-      (λ l. sym (either-no (same (loc (n - 1)) (shift d 0 e)) (loc d) _ (λ p. not-here d j q (loc n) (λ x. absurd (omega (arith, eqb-true n d x))) h (substitute-high n d e l ∙ p))
+      (λ l. sym (either-no (same (loc (n - 1)) (shift d 0 e)) (loc d) _
+      (λ p. not-here d j q (loc n) (λ x. absurd (omega (arith, eqb-true n d x))) h (substitute-high n d e l ∙ p))
       ∙ rw (le-ltb (n - 1) d (omega arith)) (ap loc (omega arith))))
-  forced d j q (con n) h = sym (either-no (same (con n) (shift d 0 e)) (loc d) (con n) (not-here d j q (con n) (λ x. absurd (subst T (sym x) tt)) h))
-  forced d j q (var n) h = sym (either-no (same (var n) (shift d 0 e)) (loc d) (var n) (not-here d j q (var n) (λ x. absurd (subst T (sym x) tt)) h))
+  forced d j q (con n) h =
+      sym (either-no (same (con n) (shift d 0 e)) (loc d) (con n) (not-here d j q (con n) (λ x. absurd (subst T (sym x) tt)) h))
+  forced d j q (var n) h =
+      sym (either-no (same (var n) (shift d 0 e)) (loc d) (var n) (not-here d j q (var n) (λ x. absurd (subst T (sym x) tt)) h))
 
 -- so one body is left
-pub one-body : (φ : ℕ → Term) → Values φ → (f t e : Term) (j : ℕ) → uses j e ≡ true → uses j f ≡ false → (x : Build f t e φ) → x .0 ≡ replaceAll e 0 t
+pub one-body : (φ : ℕ → Term) → Values φ → (f t e : Term) (j : ℕ) → uses j e ≡ true → uses j f ≡ false → (x : Build f t e φ)
+    → x .0 ≡ replaceAll e 0 t
 one-body φ v f t e j u c x =
     forced e j u 0 j (omega arith) (x .0) (sym (ap (uses j) (x .1)) ∙ unused-sweep φ v j f c) ∙ ap (replaceAll e 0) (x .2)
 
@@ -165,7 +176,8 @@ build-local φ v f t e j (b, s, p, _) u c = go (uses j e) refl
   where
     go : (x : Bool) → uses j e ≡ x → x ≡ true
     go true q = refl
-    go false q = absurd (subst T (sym u ∙ ap (uses j) (sym p) ∙ unused-substitute j j 0 e b (omega arith) (sym (ap (uses j) s) ∙ unused-sweep φ v j f c) q) tt)
+    go false q = absurd (subst T
+        (sym u ∙ ap (uses j) (sym p) ∙ unused-substitute j j 0 e b (omega arith) (sym (ap (uses j) s) ∙ unused-sweep φ v j f c) q) tt)
 
 -- skeletons: an abstraction fits only a hole or an abstraction
 pub fits-abstraction : (s b : Term) → Fits s (lam b) → ¬ (kind s ≡ 4) → kind s ≡ 1

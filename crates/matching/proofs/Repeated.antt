@@ -70,7 +70,9 @@ normal-contract : (b : Term) → Normal b → Normal (contract (lam b))
 normal-contract b h = go (abstracted b)
   where
     go : Abstracted b → Normal (contract (lam b))
-    go (out m p u l w) = let g : Normal (app m (loc 0)) = rw p at h in rw w (rw (normal-shift 1 0 (unshift 1 0 m)) at (rw (← shift-unshift 0 m u) at (g .1)))
+    go (out m p u l w) =
+        let g : Normal (app m (loc 0)) = rw p at h in
+        rw w (rw (normal-shift 1 0 (unshift 1 0 m)) at (rw (← shift-unshift 0 m u) at (g .1)))
     go (kept o w) = rw w (lam-normal b (rw o tt) h)
 
 pub closed-contract : (n : ℕ) (b : Term) → Closed (suc n) b → Closed n (contract (lam b))
@@ -86,7 +88,9 @@ ground-contract : (b : Term) → Ground b → Ground (contract (lam b))
 ground-contract b h = go (abstracted b)
   where
     go : Abstracted b → Ground (contract (lam b))
-    go (out m p u l w) = let g : Ground (app m (loc 0)) = rw p at h in rw w (rw (ground-shift 1 0 (unshift 1 0 m)) at (rw (← shift-unshift 0 m u) at (g .0)))
+    go (out m p u l w) =
+        let g : Ground (app m (loc 0)) = rw p at h in
+        rw w (rw (ground-shift 1 0 (unshift 1 0 m)) at (rw (← shift-unshift 0 m u) at (g .0)))
     go (kept o w) = rw w h
 
 pub size-contract : (b : Term) → size (contract (lam b)) ≤ suc (size b)
@@ -106,7 +110,8 @@ normal-enclose (suc n) b h = normal-enclose n (contract (lam b)) (normal-contrac
 
 closed-enclose : (m n k : ℕ) (b : Term) → k ≡ m + n → Closed k b → Closed m (enclose n b)
 closed-enclose m zero k b e h = subst (λ d. Closed d b) (omega arith) h
-closed-enclose m (suc n) k b e h = closed-enclose m n (m + n) (contract (lam b)) refl (closed-contract (m + n) b (subst (λ d. Closed d b) (omega arith) h))
+closed-enclose m (suc n) k b e h =
+    closed-enclose m n (m + n) (contract (lam b)) refl (closed-contract (m + n) b (subst (λ d. Closed d b) (omega arith) h))
 
 ground-enclose : (n : ℕ) (b : Term) → Ground b → Ground (enclose n b)
 ground-enclose zero b h = h
@@ -162,7 +167,8 @@ substitute-replace d c cs (var n) = refl
 -- a term is closed, normal and without variables where it is so with the constants put in
 normal-replace : (d : ℕ) (cs : List ℕ) (t : Term) → Normal (replace d cs t) → Normal t
 normal-replace d [] t h = rw (replace-none d t) at h
-normal-replace d (c ∷ cs) t h = normal-replace (suc d) cs t (normal-substitute d (con c) (replace (suc d) cs t) (rw (substitute-replace d c cs t) h))
+normal-replace d (c ∷ cs) t h =
+    normal-replace (suc d) cs t (normal-substitute d (con c) (replace (suc d) cs t) (rw (substitute-replace d c cs t) h))
 
 pick-closed : (m d k : ℕ) (cs : List ℕ) → d ≤ m → Closed m (pick d cs k) → d + k < m + length cs
 pick-closed m d k [] l h = omega (arith, h)
@@ -229,7 +235,8 @@ pick-no-abstraction d [] k = refl
 pick-no-abstraction d (c ∷ cs) zero = refl
 pick-no-abstraction d (c ∷ cs) (suc k) = pick-no-abstraction d cs k
 
-replace-innermost : (d : ℕ) (cs : List ℕ) (t : Term) → app (shift 1 0 (replace d cs t)) (loc 0) ≡ replace (suc d) cs (app (shift 1 0 t) (loc 0))
+replace-innermost : (d : ℕ) (cs : List ℕ) (t : Term)
+    → app (shift 1 0 (replace d cs t)) (loc 0) ≡ replace (suc d) cs (app (shift 1 0 t) (loc 0))
 replace-innermost d cs t = ap₂ app (sym (replace-shift 0 d cs t (omega arith))) (rw (lt-ltb 0 (suc d) (omega arith)))
 
 bodyTarget-replace : (d : ℕ) (cs : List ℕ) (t : Term) → bodyTarget (replace d cs t) ≡ replace (suc d) cs (bodyTarget t)
@@ -251,12 +258,14 @@ contract-constant (con n) c = refl
 contract-constant (var n) c = refl
 
 pub sweep-spine :
-    (φ : ℕ → Term) (i n : ℕ) (cs : List ℕ) → length cs ≡ n → Normal (φ i) → sweep (fill φ (spine (var i) cs)) ≡ replace 0 cs (bodies n (φ i))
+    (φ : ℕ → Term) (i n : ℕ) (cs : List ℕ) → length cs ≡ n → Normal (φ i)
+    → sweep (fill φ (spine (var i) cs)) ≡ replace 0 cs (bodies n (φ i))
 sweep-spine φ i zero [] e h = sweep-normal (φ i) h ∙ sym (replace-none 0 (φ i))
 sweep-spine φ i zero (c ∷ cs) e h = absurd (omega arith)
 sweep-spine φ i (suc n) [] e h = absurd (omega arith)
 sweep-spine φ i (suc n) (c ∷ cs) e h =
-    contract-constant (sweep (fill φ (spine (var i) cs))) c ∙ ap (λ x. substitute 0 (con c) (bodyTarget x)) (sweep-spine φ i n cs (omega arith) h)
+    contract-constant (sweep (fill φ (spine (var i) cs))) c
+    ∙ ap (λ x. substitute 0 (con c) (bodyTarget x)) (sweep-spine φ i n cs (omega arith) h)
     ∙ ap (substitute 0 (con c)) (bodyTarget-replace 0 cs (bodies n (φ i))) ∙ substitute-replace 0 c cs (bodies (suc n) (φ i))
 
 -- the two targets, place by place
@@ -451,13 +460,15 @@ comes-later d p ps m n b x = (
 
 constants-sound : (d : ℕ) (ps : List (ℕ × ℕ)) (m n : ℕ) (b : Term) → atConstants d ps m n ≡ some b → Comes d ps (con m) (con n) b
 constants-sound d [] m n b e =
-    by-eqb (λ s. cond s (some (con m)) none ≡ some b → Comes d [] (con m) (con n) b) m n (λ q r. let z : b ≡ con m = cc in rw z (refl, ap con q))
+    by-eqb (λ s. cond s (some (con m)) none ≡ some b → Comes d [] (con m) (con n) b) m n
+    (λ q r. let z : b ≡ con m = cc in rw z (refl, ap con q))
     (λ q r. absurd (none-some b r)) e
 constants-sound d (p ∷ ps) m n b e =
     go (λ r. comes-later d p ps m n b (constants-sound (suc d) ps m n b r)) (eqb m (p .0)) refl (eqb n (p .1)) refl
   where
     go :
-        (atConstants (suc d) ps m n ≡ some b → Comes d (p ∷ ps) (con m) (con n) b) → (x : Bool) → eqb m (p .0) ≡ x → (y : Bool) → eqb n (p .1) ≡ y
+        (atConstants (suc d) ps m n ≡ some b → Comes d (p ∷ ps) (con m) (con n) b) → (x : Bool) → eqb m (p .0) ≡ x
+        → (y : Bool) → eqb n (p .1) ≡ y
         → Comes d (p ∷ ps) (con m) (con n) b
     go later true q true r =
         let z : some (loc d) ≡ some b = rw (q, r) at e in
@@ -520,7 +531,8 @@ module _ (ps : List (ℕ × ℕ)) where
   join-sound d (var m) (loc n) c e = absurd (none-some c e)
   join-sound d (var m) (con n) c e = absurd (none-some c e)
   join-sound d (var m) (var n) c e =
-      by-eqb (λ s. cond s (some (var m)) none ≡ some c → Comes d ps (var m) (var n) c) m n (λ q r. let z : c ≡ var m = cc in rw z (refl, ap var q)) (λ q r. absurd (none-some c r)) e
+      by-eqb (λ s. cond s (some (var m)) none ≡ some c → Comes d ps (var m) (var n) c) m n
+      (λ q r. let z : c ≡ var m = cc in rw z (refl, ap var q)) (λ q r. absurd (none-some c r)) e
 
   -- record for record
   pub size-join : (d : ℕ) (t u b : Term) → join d ps t u ≡ some b → (size b ≡ size t) × (size b ≡ size u)
@@ -554,7 +566,8 @@ module _ (ps : List (ℕ × ℕ)) (t u b : Term) (e : join 0 ps t u ≡ some b) 
   enclose-normal h = normal-enclose (length ps) b (join-normal h)
 
   pub join-closed : (m : ℕ) → Closed m t → Closed (m + length ps) b
-  join-closed m h = closed-replace m (m + length ps) 0 (firsts ps) b (omega (arith, length-firsts ps)) (omega arith) (rw (join-sound ps 0 t u b e .0) h)
+  join-closed m h =
+      closed-replace m (m + length ps) 0 (firsts ps) b (omega (arith, length-firsts ps)) (omega arith) (rw (join-sound ps 0 t u b e .0) h)
 
   pub enclose-closed : (m : ℕ) → Closed m t → Closed m (enclose (length ps) b)
   enclose-closed m h = closed-enclose m (length ps) (m + length ps) b refl (join-closed m h)

@@ -74,7 +74,8 @@ module _ (p t : Term) (hp : size p ≤ patternRecords) (ht : size t ≤ recipeRe
   target-fits q s g = omega (arith, goal-size g, size-pos q)
 
   -- "the search never needs one above 160"
-  pub value-fits : (n : ℕ) → Below n p → Normal t → (ls : List Line) → Full n p t ls → (l : Line) → In l ls → Each (λ v. size v ≤ valueRecords) l
+  pub value-fits : (n : ℕ) → Below n p → Normal t → (ls : List Line) → Full n p t ls → (l : Line) → In l ls
+      → Each (λ v. size v ≤ valueRecords) l
   value-fits n b h ls x l i =
       let j : In l (listing n p t) = subst (In l) (unique n p t b ls (listing n p t) x (full n p t b h)) i in
       each-more (Met n p t) (λ v. size v ≤ valueRecords) (λ v m. target-fits (var (m .0)) v (m .1)) l

@@ -116,8 +116,10 @@ fits-shift d c (var m) t h = fills-passes (shift d) (shift-passes d) c m t h
 module _ (e g : Term) (x : Fits e g) where
   fits-local : (k n : ℕ) → Fits (substitute k e (loc n)) (substitute k g (loc n))
   fits-local k n =
-      by-ltb (λ s. Fits (cond s (loc n) (cond (eqb n k) (shift k 0 e) (loc (n - 1)))) (cond s (loc n) (cond (eqb n k) (shift k 0 g) (loc (n - 1))))) n k (λ l. refl)
-      (λ l. by-eqb (λ s. Fits (cond s (shift k 0 e) (loc (n - 1))) (cond s (shift k 0 g) (loc (n - 1)))) n k (λ q. fits-shift k 0 e g x) (λ q. refl))
+      by-ltb (λ s. Fits (cond s (loc n) (cond (eqb n k) (shift k 0 e) (loc (n - 1))))
+      (cond s (loc n) (cond (eqb n k) (shift k 0 g) (loc (n - 1))))) n k (λ l. refl)
+      (λ l. by-eqb (λ s. Fits (cond s (shift k 0 e) (loc (n - 1))) (cond s (shift k 0 g) (loc (n - 1)))) n k
+      (λ q. fits-shift k 0 e g x) (λ q. refl))
 
   pub fits-substitute : (k : ℕ) (s t : Term) → Fits s t → Fits (substitute k e s) (substitute k g t)
   fits-substitute k (app f a) (app u b) h = (fits-substitute k f u (h .0), fits-substitute k a b (h .1))
@@ -153,7 +155,8 @@ closed-abstraction (var n) c = refl
 same-contract : (s t : Term) → s ≡ t → Fits (contract (lam s)) (contract (lam t))
 same-contract s t e = subst (λ u. Fits (contract (lam s)) (contract (lam u))) e (fits-refl (contract (lam s)))
 
-applied-abstract : (f g a b : Term) → isUnsure (app f a) ≡ false → Fits f g → Fits a b → Fits (contract (lam (app f a))) (contract (lam (app g b)))
+applied-abstract : (f g a b : Term) → isUnsure (app f a) ≡ false → Fits f g → Fits a b
+    → Fits (contract (lam (app f a))) (contract (lam (app g b)))
 applied-abstract f g (app a u) (app b v) n h x = (h, x)
 applied-abstract f g (lam u) (lam v) n h x = (h, x)
 applied-abstract f g (loc i) (loc j) n h x = go (eqb i 0) refl
@@ -190,5 +193,6 @@ closed-abstract d s c = go (abstracted s)
     go (out m p u l w) =
         rw w (unused-closed d (unshift 1 0 m) (λ j h.
         sym (uses-above (suc j) j 1 0 (unshift 1 0 m) (omega arith) (omega arith)) ∙ ap (uses (suc j)) (shift-unshift 0 m u)
-        ∙ or-false (uses (suc j) m) (uses (suc j) (loc 0)) (sym (ap (uses (suc j)) p) ∙ closed-unused (suc d) (suc j) s (omega arith) c) .0))
+        ∙ or-false (uses (suc j) m) (uses (suc j) (loc 0))
+        (sym (ap (uses (suc j)) p) ∙ closed-unused (suc d) (suc j) s (omega arith) c) .0))
     go (kept o w) = rw w c

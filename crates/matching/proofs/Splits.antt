@@ -18,7 +18,8 @@ use Rattle.terms.proofs.Members.{Distinct, in-left, in-right, in-append, distin
 use Rattle.matching.specs.Abstractions.{same, abstractions}
 use Rattle.matching.proofs.Abstractions.{abstractions-iff, abstractions-distinct}
 use Rattle.matching.proofs.Decide.{normal?, dec-T, dec-×}
-use Rattle.matching.proofs.Members.{guard, flatMap, nub, in-guard, guard-in, distinct-guard, in-map, map-in, distinct-map, in-flatMap, flatMap-in, distinct-flatMap, in-nub, distinct-nub}
+use Rattle.matching.proofs.Members.{guard, flatMap, nub, in-guard, guard-in, distinct-guard, in-map, map-in, distinct-map}
+use Rattle.matching.proofs.Members.{in-flatMap, flatMap-in, distinct-flatMap, in-nub, distinct-nub}
 use Rattle.matching.proofs.Step.{lam-inj, Split, Split.parts, Split.body}
 
 -- a term that stands below d binders, moved out of them, if it uses none
@@ -73,7 +74,8 @@ movable-in d e (var n) p = p
 in-movableParts : (d : ℕ) (e b : Term) → uses d b ≡ true → In e (movableParts d (substitute d e b))
 in-movableParts d e (app f a) u =
     in-right e (movable d (substitute d e (app f a))) _
-    (⊎-elim (λ p. in-left e (movableParts d (substitute d e f)) _ (in-movableParts d e f p)) (λ p. in-right e (movableParts d (substitute d e f)) _ (in-movableParts d e a p)) (or-true (uses d f) (uses d a) u))
+    (⊎-elim (λ p. in-left e (movableParts d (substitute d e f)) _ (in-movableParts d e f p))
+    (λ p. in-right e (movableParts d (substitute d e f)) _ (in-movableParts d e a p)) (or-true (uses d f) (uses d a) u))
 in-movableParts d e (lam b) u = in-right e (movable d (substitute d e (lam b))) _ (in-movableParts (suc d) e b u)
 in-movableParts d e (loc n) u = rw (substitute-here d e n (eqb-true n d u)) (movable-in d e (shift d 0 e) (in-movable d e))
 in-movableParts d e (con n) u = absurd (subst T (sym u) tt)
@@ -99,11 +101,13 @@ buildable-in t e b p =
 
 pub in-buildable : (t e b : Term) → substitute 0 e b ≡ t → uses 0 b ≡ true → Normal (lam b) → In b (buildable t e)
 in-buildable t e b p u n =
-    in-flatMap built b b (abstractions e 0 t) (abstractions-iff e 0 t b .1 p) (in-guard (dec-× (dec-T (uses 0 b)) (normal? (lam b))) b (rw u tt, n))
+    in-flatMap built b b (abstractions e 0 t) (abstractions-iff e 0 t b .1 p)
+    (in-guard (dec-× (dec-T (uses 0 b)) (normal? (lam b))) b (rw u tt, n))
 
 pub buildable-distinct : (t e : Term) → Distinct (buildable t e)
 buildable-distinct t e =
-    distinct-flatMap built (abstractions e 0 t) (abstractions-distinct e 0 t) (λ b i. distinct-guard (dec-× (dec-T (uses 0 b)) (normal? (lam b))) b)
+    distinct-flatMap built (abstractions e 0 t) (abstractions-distinct e 0 t)
+    (λ b i. distinct-guard (dec-× (dec-T (uses 0 b)) (normal? (lam b))) b)
     (λ b c d i j p q.
     sym (guard-in (dec-× (dec-T (uses 0 b)) (normal? (lam b))) b d p .0) ∙ guard-in (dec-× (dec-T (uses 0 c)) (normal? (lam c))) c d q .0)
 

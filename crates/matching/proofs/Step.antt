@@ -108,8 +108,10 @@ module _ (φ : ℕ → Term) where
   pub match-application :
       (f e t : Term) → Normal t
       → (sweep (fill φ (app f e)) ≡ t) ↔ (Split (sweep (fill φ f)) (sweep (fill φ e)) t ⊎ (sweep (fill φ f) ≡ constant t))
-  match-application f e t h =
-      (split-to (sweep (fill φ f)) (sweep (fill φ e)) t (contracted-sweep (fill φ f)) h, split-from (sweep (fill φ f)) (sweep (fill φ e)) t h)
+  match-application f e t h = (
+    split-to (sweep (fill φ f)) (sweep (fill φ e)) t (contracted-sweep (fill φ f)) h,
+    split-from (sweep (fill φ f)) (sweep (fill φ e)) t h,
+  )
 
 -- every new target is normal
 pub bodyTarget-normal : (t : Term) → Normal t → Normal (bodyTarget t)

@@ -65,7 +65,8 @@ module _ (t : Term) (j : ℕ) (e : Term) (h : j < size t) (c : Copy (partAt 0 t 
   pub part-closed : (n : ℕ) → Closed n t → Closed n e
   part-closed n g =
       shift-closed (partAt 0 t j .0) 0 n (n + partAt 0 t j .0) e refl (omega arith)
-      (rw c at (each-part (λ d x. Closed (n + d) x) (λ d f a p. p) (λ d b p. subst (λ m. Closed m b) (omega arith) p) 0 t j h (subst (λ m. Closed m t) (omega arith) g)))
+      (rw c at (each-part (λ d x. Closed (n + d) x) (λ d f a p. p) (λ d b p. subst (λ m. Closed m b) (omega arith) p) 0 t j h
+      (subst (λ m. Closed m t) (omega arith) g)))
 
   pub part-normal : Normal t → Normal e
   part-normal g = rw normal-shift at (rw c at (each-part (λ d x. Normal x) (λ d f a p. (p .1, p .2)) (λ d b p. p .1) 0 t j h g))

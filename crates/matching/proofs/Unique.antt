@@ -1,5 +1,5 @@
--- Lines that list the same assignments are the same lines. Fill a line's open entries with a value longer than any that is listed: a line of
--- the other list that this filling extends assigns nothing else, and back again; so each assigns what the other does. Assumes nothing.
+-- Lines that list the same assignments are the same lines. Fill a line's open entries with a value longer than any that is listed: a line
+-- of the other list that this filling extends assigns nothing else, and back again; so each assigns what the other does. Assumes nothing.
 use mathlib.Core.Path.{_≡_, refl, sym, ap, ap₂, _∙_, subst}
 use mathlib.Core.Bool.{false}
 use mathlib.Core.Option.{Option, none, some}
@@ -87,7 +87,8 @@ agrees-long k u h (some v ∷ l) (some w ∷ m) e s g = (ap some (g .0), agrees-
 module _ (n : ℕ) (S : ℕ → Type 0) (Q : Predicate) where
   -- for a bound on the values of both
   also :
-      (k : ℕ) (ls ms : List Line) → Lists n S Q ls → Lists n S Q ms → ((l : Line) → In l ls → Short k l) → ((l : Line) → In l ms → Short k l)
+      (k : ℕ) (ls ms : List Line) → Lists n S Q ls → Lists n S Q ms → ((l : Line) → In l ls → Short k l)
+      → ((l : Line) → In l ms → Short k l)
       → (l : Line) → In l ls → In l ms
   also k ls ms x y sl sm l i =
       let u = spine k in

@@ -2,17 +2,21 @@
 //
 // A case is one line of fields, each ended by `;` or the line. A table is written in items, each a sign and a number, which is 0 if it is
 // left out: `@`, `\`, `#n`, `kn`, `pn` are records, `=n:n` an assigned entry by its first record and its count, `-` an open one, `!n` one
-// byte, and `*n` has the next item n times. It promises that a table's length and a field lie within what they are part of; what is read
-// is not promised: the programs print it. It rests on `records` for the kinds.
+// byte, and `*n` has the next item n times; `..` leaves all entries open from there to the end of a line, however many variables there are.
+// A number of bytes is written in digits, or as a number of lines: `2 lines`. It promises that a table's length and a field lie within what
+// they are part of; what is read is not promised: the programs print it. It rests on `records` for the kinds and a line's length.
 
 use libc::STDOUT_FILENO;
 use records::Kind;
+use records::RECORD;
+use records::TABLE_BYTES;
+use records::VARIABLES;
 ghost use Prim.Native.Nat.{_≤_};
 ghost use lib.ListN.{length};
 ghost use Rattle.io.specs.Counts.{Counts};
 
-// The most that a number of bytes can be.
-const TABLE_BYTES: usize = 65536;
+// The bytes of a line, which has an entry for each variable.
+const LINE: usize = RECORD * VARIABLES;
 
 // How many values one byte has.
 const BYTE: usize = 256;
@@ -63,7 +67,7 @@ fn put_item(out: &mut [u8], at: usize, sign: u8, number: usize) -> usize
     ensures { λ r. ⌜ r ≤ length (now (out .exit)) ⌝ }
 {
     match sign {
-        b'@' | b'-' => put_record(out, at, Kind::APPLICATION.code, number),
+        b'@' | b'-' | b'.' => put_record(out, at, Kind::APPLICATION.code, number),
         b'\\' => put_record(out, at, Kind::ABSTRACTION.code, number),
         b'#' => put_record(out, at, Kind::LOCAL.code, number),
         b'k' => put_record(out, at, Kind::CONSTANT.code, number),
@@ -74,13 +78,25 @@ fn put_item(out: &mut [u8], at: usize, sign: u8, number: usize) -> usize
     }
 }
 
+// How many times an item is put at byte `at`. A `.` is an open entry for each that a line has from there on, so a second one is none.
+fn times_at(item: Item, at: usize) -> usize {
+    if item.sign != b'.' {
+        return item.times;
+    }
+    if LINE < at {
+        return 0;
+    }
+    (LINE - at) / RECORD
+}
+
 fn put_items(out: &mut [u8], at: usize, item: Item) -> usize
     requires { ⌜ at ≤ length (now out) ⌝ }
     ensures { λ r. ⌜ r ≤ length (now (out .exit)) ⌝ }
 {
+    let times = times_at(item, at);
     let mut end = at;
     let mut i = 0;
-    while i < item.times {
+    while i < times {
         end = put_item(out, end, item.sign, item.number);
         i += 1;
     }
@@ -153,6 +169,25 @@ fn build(text: &[u8], out: &mut [u8]) -> usize
     put_items(out, end, item)
 }
 
+// A number of lines, in bytes; no text has one of more than five digits.
+fn lines_in(number: usize) -> usize {
+    if TABLE_BYTES < number {
+        return number;
+    }
+    number * LINE
+}
+
+// A number with the character c behind it: a digit, or the first of the word that makes it one of lines.
+fn with_character(number: usize, c: u8) -> usize {
+    if is_digit(c) {
+        return with_digit(number, c);
+    }
+    if c == b'l' {
+        return lines_in(number);
+    }
+    number
+}
+
 // The number of bytes that a field gives, or `none` if it is empty.
 pub fn bytes_in(field: &[u8], none: usize) -> usize {
     if field.len() == 0 {
@@ -161,7 +196,7 @@ pub fn bytes_in(field: &[u8], none: usize) -> usize {
     let mut number = 0;
     let mut i = 0;
     while i < field.len() {
-        number = with_digit(number, field[i]);
+        number = with_character(number, field[i]);
         i += 1;
     }
     number
@@ -216,18 +251,16 @@ pub fn field(case: &[u8], k: usize) -> &[u8] {
     &case[at..end]
 }
 
-// Builds the table of the k-th field, and gives its length.
-pub fn build_field(case: &[u8], k: usize, out: &mut [u8]) -> usize
-    ensures { λ r. ⌜ Counts r (now (out .exit)) ⌝ }
-{
-    build(field(case, k), out)
+// The table that the k-th field writes, built at the start of `room`.
+pub fn build_field<'a>(case: &[u8], k: usize, room: &'a mut [u8]) -> &'a mut [u8] {
+    let end = build(field(case, k), room);
+    &mut room[..end]
 }
 
-// How many bytes of a table the k-th field lends.
-pub fn lend_field(case: &[u8], k: usize, none: usize, table: &[u8]) -> usize
-    ensures { λ r. ⌜ Counts r (now (table .entry)) ⌝ }
-{
-    within(bytes_in(field(case, k), none), table)
+// As many bytes of a table as the k-th field lends.
+pub fn lend_field<'a>(case: &[u8], k: usize, none: usize, table: &'a mut [u8]) -> &'a mut [u8] {
+    let end = within(bytes_in(field(case, k), none), table);
+    &mut table[..end]
 }
 
 pub fn say(text: &[u8]) {

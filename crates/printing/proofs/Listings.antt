@@ -1,5 +1,5 @@
--- The tables of a listing can be printed. Each line stands in the table of lines with its values behind those of the lines before it, so each
--- assigned entry has its records in the value table. Assumes nothing.
+-- The tables of a listing can be printed. Each line stands in the table of lines with its values behind those of the lines before it, so
+-- each assigned entry has its records in the value table. Assumes nothing.
 use mathlib.Core.Path.{_≡_, refl, sym, ap, _∙_, subst}
 use mathlib.Core.Logic.{inl, inr}
 use mathlib.Core.List.{List, [], _∷_, _++_, append-assoc, append-nil}
@@ -23,7 +23,8 @@ pub record Stands (X D : List ℕ) : Type 0 where
   pub line : Line
   pub laid : Laid X D line
 
-line-at : (X behind rest : List ℕ) (k i : ℕ) (ls : List Line) → Entire ls → i < length ls → drop (4 * k) X ≡ valueTable ls ++ behind → 4 * (k + valuesRecords ls) ≤ length X → Stands X (drop (32 * i) (lineTable k ls ++ rest))
+line-at : (X behind rest : List ℕ) (k i : ℕ) (ls : List Line) → Entire ls → i < length ls → drop (4 * k) X ≡ valueTable ls ++ behind
+    → 4 * (k + valuesRecords ls) ≤ length X → Stands X (drop ((4 * variables) * i) (lineTable k ls ++ rest))
 line-at X behind rest k i [] e h d w = absurd (omega (arith, h))
 line-at X behind rest k zero (l ∷ ls) e h d w = record {
   line = l;
@@ -39,12 +40,14 @@ line-at X behind rest k zero (l ∷ ls) e h d w = record {
 }
 line-at X behind rest k (suc i) (l ∷ ls) e h d w =
     let t = lineTable (k + valueRecords l) ls ++ rest in
-    let p : 32 * suc i ≡ 32 + 32 * i = omega arith in
+    let p : (4 * variables) * suc i ≡ 4 * variables + (4 * variables) * i = omega arith in
     let q : 4 * (k + valueRecords l) ≡ 4 * k + 4 * valueRecords l = omega arith in
-    let n : length (lineBytes k l) ≡ 32 = line-bytes-length k l ∙ ap (λ (j : ℕ). 4 * j) (e l (inl refl)) in
-    let s : drop (32 * suc i) (lineTable k (l ∷ ls) ++ rest) ≡ drop (32 * i) t =
-    ap (λ (j : ℕ). drop j (lineTable k (l ∷ ls) ++ rest)) p ∙ sym (drop-drop (32 * i) 32 (lineTable k (l ∷ ls) ++ rest))
-    ∙ ap (drop (32 * i)) (ap (drop 32) (append-assoc (lineBytes k l) (lineTable (k + valueRecords l) ls) rest) ∙ drop-at (lineBytes k l) t 32 n) in
+    let n : length (lineBytes k l) ≡ 4 * variables = line-bytes-length k l ∙ ap (λ (j : ℕ). 4 * j) (e l (inl refl)) in
+    let s : drop ((4 * variables) * suc i) (lineTable k (l ∷ ls) ++ rest) ≡ drop ((4 * variables) * i) t =
+    ap (λ (j : ℕ). drop j (lineTable k (l ∷ ls) ++ rest)) p
+    ∙ sym (drop-drop ((4 * variables) * i) (4 * variables) (lineTable k (l ∷ ls) ++ rest))
+    ∙ ap (drop ((4 * variables) * i)) (ap (drop (4 * variables)) (append-assoc (lineBytes k l) (lineTable (k + valueRecords l) ls) rest)
+    ∙ drop-at (lineBytes k l) t (4 * variables) n) in
     let v : drop (4 * (k + valueRecords l)) X ≡ valueTable ls ++ behind =
     ap (λ (j : ℕ). drop j X) q ∙ sym (drop-drop (4 * valueRecords l) (4 * k) X)
     ∙ ap (drop (4 * valueRecords l)) (d ∙ append-assoc (lineValues l) (valueTable ls) behind)
@@ -53,17 +56,18 @@ line-at X behind rest k (suc i) (l ∷ ls) e h d w =
 
 -- its entries
 module _ (X D : List ℕ) (x : Stands X D) where
-  laid-bytes : take 32 D ≡ lineBytes (x .laid .first) (x .line)
+  laid-bytes : take (4 * variables) D ≡ lineBytes (x .laid .first) (x .line)
   laid-bytes =
-      ap (take 32) (x .laid .line)
-      ∙ take-at (lineBytes (x .laid .first) (x .line)) (x .laid .rest) 32 (line-bytes-length (x .laid .first) (x .line) ∙ ap (λ (j : ℕ). 4 * j) (x .laid .entries))
+      ap (take (4 * variables)) (x .laid .line)
+      ∙ take-at (lineBytes (x .laid .first) (x .line)) (x .laid .rest) (4 * variables)
+      (line-bytes-length (x .laid .first) (x .line) ∙ ap (λ (j : ℕ). 4 * j) (x .laid .entries))
 
-  laid-length : length (take 32 D) ≡ 32
+  laid-length : length (take (4 * variables) D) ≡ 4 * variables
   laid-length = ap length laid-bytes ∙ line-bytes-length (x .laid .first) (x .line) ∙ ap (λ (j : ℕ). 4 * j) (x .laid .entries)
 
-  standing : Standing (take 32 D) 0 X (x .line)
+  standing : Standing (take (4 * variables) D) 0 X (x .line)
   standing =
-      laid-standing X (take 32 D) (x .line)
+      laid-standing X (take (4 * variables) D) (x .line)
       (record {
         first = x .laid .first;
         rest = [];
@@ -76,21 +80,24 @@ module _ (X D : List ℕ) (x : Stands X D) where
 
   record From (v : ℕ) : Type 0 where
     pub entries : Line
-    pub stand : Standing (take 32 D) v X entries
+    pub stand : Standing (take (4 * variables) D) v X entries
 
-  next-from : (v : ℕ) (m : Line) → v < variables → Standing (take 32 D) v X m → From (suc v)
+  next-from : (v : ℕ) (m : Line) → v < variables → Standing (take (4 * variables) D) v X m → From (suc v)
   next-from v [] h s = absurd (omega (arith, s .entries))
-  next-from v (o ∷ m) h s = record { entries = m; stand = subst (λ (j : ℕ). Standing (take 32 D) j X m) (add-one v) (next-standing (take 32 D) v X o m s) }
+  next-from v (o ∷ m) h s = record {
+    entries = m;
+    stand = subst (λ (j : ℕ). Standing (take (4 * variables) D) j X m) (add-one v) (next-standing (take (4 * variables) D) v X o m s);
+  }
 
   from : (v : ℕ) → v < variables → From v
   from zero h = record { entries = x .line; stand = standing }
   from (suc v) h = let y = from v (omega (arith, h)) in next-from v (y .entries) (omega (arith, h)) (y .stand)
 
-  line-within : length X ≤ tableBytes → Within (take 32 D) X
+  line-within : length X ≤ tableBytes → Within (take (4 * variables) D) X
   line-within f = record {
     whole = laid-length;
     few = f;
-    each = λ v y h e. let z = from v h in value-within (take 32 D) v X (z .entries) y h (z .stand) e;
+    each = λ v y h e. let z = from v h in value-within (take (4 * variables) D) v X (z .entries) y h (z .stand) e;
   }
 
 pub printable :
@@ -100,6 +107,7 @@ printable n L X a b ls e c p q f g = record {
   enough = omega (arith, c, ap length p ∙ length-append (lineTable 0 ls) a, line-table-length 0 ls e);
   most = f;
   each = λ i h.
-      line-within X (drop (32 * i) L) (subst (λ (l : List ℕ). Stands X (drop (32 * i) l)) (sym p)
-      (line-at X b a 0 i ls e (omega (arith, c, h)) q (omega (arith, ap length q ∙ length-append (valueTable ls) b, value-table-length ls)))) g;
+      line-within X (drop ((4 * variables) * i) L) (subst (λ (l : List ℕ). Stands X (drop ((4 * variables) * i) l)) (sym p)
+      (line-at X b a 0 i ls e (omega (arith, c, h)) q
+      (omega (arith, ap length q ∙ length-append (valueTable ls) b, value-table-length ls)))) g;
 }

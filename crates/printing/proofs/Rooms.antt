@@ -9,7 +9,7 @@ use native.Mathlib.Nat.{eq-or-lt-of-le}
 use native.Mathlib.Omega.{arith}
 use lib.ListN.{length, take, drop, length-drop}
 use lib.Seq.{length-take-le}
-use Rattle.terms.specs.Figures.{tableBytes}
+use Rattle.terms.specs.Figures.{variables, tableBytes}
 use Rattle.records.specs.Tests.{Says}
 use Rattle.assignments.specs.Entries.{entryAt}
 use Rattle.assignments.specs.declared.Span.{Span}
@@ -21,7 +21,10 @@ module _ (l : List ℕ) (v : ℕ) (e : Entry) (b : Bool) (is : e ≡ entryAt l v
   pub opens-more : Opens l v → b ≡ true → Opens l (v + 1)
   opens-more x t =
       let o : e ≡ Open = subst (λ (a : Bool). Says a (e ≡ Open)) t says in
-      record { each = λ i h. ⊎-elim (λ (q : i ≡ v). ap (entryAt l) q ∙ sym is ∙ o) (λ (q : i < v). x .each i q) (eq-or-lt-of-le (omega (arith, h))) }
+      record {
+        each =
+            λ i h. ⊎-elim (λ (q : i ≡ v). ap (entryAt l) q ∙ sym is ∙ o) (λ (q : i < v). x .each i q) (eq-or-lt-of-le (omega (arith, h)));
+      }
 
   pub opens-not : (n : ℕ) → v < n → b ≡ false → ¬ Opens l n
   opens-not n h t x = subst (λ (a : Bool). Says a (e ≡ Open)) t says (is ∙ x .each v h)
@@ -33,13 +36,16 @@ pub opens-all : (l : List ℕ) (v n : ℕ) → v ≡ n → Opens l v → Opens l
 opens-all l v n e x = subst (Opens l) e x
 
 -- room for the printed line of a value
-pub value-fits : (x : Span) (s v : List ℕ) (n : ℕ) → v ≡ take (4 * x .count) (drop (4 * x .first) s) → 4 * (x .first + x .count) ≤ length s → length s ≤ tableBytes → room ≤ n → 64 + 9 * (length v / 4) ≤ n
+pub value-fits : (x : Span) (s v : List ℕ) (n : ℕ) → v ≡ take (4 * x .count) (drop (4 * x .first) s) → 4 * (x .first + x .count) ≤ length s
+    → length s ≤ tableBytes → room ≤ n → 64 + 9 * (length v / 4) ≤ n
 value-fits x s v n e w f r =
-    let m : length v ≡ 4 * x .count = ap length e ∙ length-take-le (4 * x .count) (drop (4 * x .first) s) (omega (arith, length-drop (4 * x .first) s)) in
+    let m : length v ≡ 4 * x .count =
+    ap length e ∙ length-take-le (4 * x .count) (drop (4 * x .first) s) (omega (arith, length-drop (4 * x .first) s)) in
     omega (arith, m)
 
 -- a line of a listing, as a part of the table of lines
-pub line-within : (n : ℕ) (lines s : List ℕ) (i : ℕ) → Printable n lines s → i < n → Within (take (32 * i + 32 - 32 * i) (drop (32 * i) lines)) s
+pub line-within : (n : ℕ) (lines s : List ℕ) (i : ℕ) → Printable n lines s → i < n
+    → Within (take ((4 * variables) * i + (4 * variables) - (4 * variables) * i) (drop ((4 * variables) * i) lines)) s
 line-within n lines s i x h =
-    let e : 32 ≡ 32 * i + 32 - 32 * i = omega arith in
-    subst (λ (k : ℕ). Within (take k (drop (32 * i) lines)) s) e (x .each i h)
+    let e : (4 * variables) ≡ (4 * variables) * i + (4 * variables) - (4 * variables) * i = omega arith in
+    subst (λ (k : ℕ). Within (take k (drop ((4 * variables) * i) lines)) s) e (x .each i h)

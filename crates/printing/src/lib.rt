@@ -1,14 +1,14 @@
 // What the program prints.
 //
-// A listing is printed line by line: each assigned entry as its numbers and the records of its value, in hexadecimal digits. The crate promises
-// that the text of each printed line is the one that document 01 gives, and that it stays within the tables of a listing. What goes to
-// standard output, and in which order, no contract can say: the programs' outputs are compared with stored ones. It rests on `records`,
-// `assignments`, `listing` and, for copying bytes, on `sweeping`.
+// A listing is printed line by line: each assigned entry as its numbers and the records of its value, in hexadecimal digits. The crate
+// promises that the text of each printed line is the one that document 01 gives, and that it stays within the tables of a listing. What
+// goes to standard output, and in which order, no contract can say: the programs' outputs are compared with stored ones. It rests on
+// `records`, `assignments`, `listing` and, for copying bytes, on `sweeping`.
 
 use assignments::Entry;
+use assignments::LINE;
 use assignments::Span;
 use libc::STDOUT_FILENO;
-use listing::LINE;
 use records::RECORD;
 use records::VARIABLES;
 ghost use mathlib.Core.Path.{_≡_};
@@ -20,10 +20,12 @@ ghost use Rattle.io.specs.Counts.{Counts};
 ghost use Rattle.io.specs.Digits.{glyph as Digits·glyph};
 ghost use Rattle.terms.specs.Figures.{variables, tableBytes};
 ghost use Rattle.records.specs.Tests.{Says};
-ghost use Rattle.printing.specs.Text.{Is, Decimal, Numbers, Entry as EntryText, Bare, Labelled, hex, recordText, recordsText, Puts, Opens, room, Within, Printable};
+ghost use Rattle.printing.specs.Text.{Is, Decimal, Numbers, Entry as EntryText, Bare, Labelled, hex, recordText, recordsText, Puts};
+ghost use Rattle.printing.specs.Text.{Opens, room, Within, Printable};
 ghost use Rattle.assignments.specs.declared.Entry.{Entry as assignments·Entry};
 
-// Room for the longest printed line: three numbers, the records of a whole value table, a blank before each but the first, and the line's end.
+// Room for the longest printed line: three numbers, the records of a whole value table, a blank before each but the first,
+// and the line's end.
 const ROOM: usize = 147520;
 
 // The base of a byte's digits.
@@ -43,7 +45,7 @@ fn put_digits(out: &mut [u8], at: usize, digits: [u8; 20], k: usize) -> usize
     requires { ⌜ (at + 20 ≤ length (now out)) × Counts k digits ⌝ }
     ensures { λ r. ⌜ (now (out .exit) ≡ sets (now (out .entry)) at (take k digits)) × (r ≡ at + k) × (r ≤ at + 20) ⌝ }
 {
-    sweeping::copy_into(&digits[..k], out, at);
+    copying::copy_into(&digits[..k], out, at);
     at + k
 }
 
@@ -93,7 +95,8 @@ fn put_record(out: &mut [u8], at: usize, table: &[u8], k: usize) -> usize
 // Puts the records of a table, each behind a blank.
 fn put_records(out: &mut [u8], at: usize, table: &[u8]) -> usize
     requires { ⌜ at + 9 * (length (now table) / 4) ≤ length (now out) ⌝ }
-    ensures { λ r. ⌜ Puts (Is (recordsText (now (table .entry)) (length (now (table .entry)) / 4))) (now (out .entry)) at r (now (out .exit)) × (r ≡ at + 9 * (length (now (table .entry)) / 4)) ⌝ }
+    ensures { λ r. ⌜ Puts (Is (recordsText (now (table .entry)) (length (now (table .entry)) / 4))) (now (out .entry)) at
+        r (now (out .exit)) × (r ≡ at + 9 * (length (now (table .entry)) / 4)) ⌝ }
 {
     let n = table.len() / RECORD;
     let mut end = at;
@@ -120,7 +123,8 @@ fn put_numbers(out: &mut [u8], line: usize, variable: usize, count: usize) -> us
 // Puts the printed line of an assigned entry.
 fn put_entry(out: &mut [u8], line: usize, variable: usize, count: usize, value: &[u8]) -> usize
     requires { ⌜ 64 + 9 * (length (now value) / 4) ≤ length (now out) ⌝ }
-    ensures { λ r. ⌜ Puts (EntryText line variable count (now (value .entry))) (now (out .entry)) 0 r (now (out .exit)) × (r ≤ length (now (out .exit))) ⌝ }
+    ensures { λ r. ⌜ Puts (EntryText line variable count (now (value .entry))) (now (out .entry)) 0 r (now (out .exit))
+        × (r ≤ length (now (out .exit))) ⌝ }
 {
     let numbers = put_numbers(out, line, variable, count);
     let end = put_records(out, numbers, value);
@@ -143,7 +147,7 @@ fn put_labelled(out: &mut [u8], word: &[u8], n: usize) -> usize
     requires { ⌜ length (now word) + 22 ≤ length (now out) ⌝ }
     ensures { λ r. ⌜ Puts (Labelled (now (word .entry)) n) (now (out .entry)) 0 r (now (out .exit)) × (r ≤ length (now (out .exit))) ⌝ }
 {
-    sweeping::copy_into(word, out, 0);
+    copying::copy_into(word, out, 0);
     let a = put(out, word.len(), b' ');
     let b = put_decimal(out, a, n);
     put(out, b, b'\n')
@@ -170,7 +174,8 @@ fn print_bare(out: &mut [u8], line: usize)
 
 // Prints an assigned entry.
 fn print_value(out: &mut [u8], line: usize, variable: usize, span: Span, values: &[u8])
-    requires { ⌜ (room ≤ length (now out)) × (4 * (span .first + span .count) ≤ length (now values)) × (length (now values) ≤ tableBytes) ⌝ }
+    requires { ⌜ (room ≤ length (now out)) × (4 * (span .first + span .count) ≤ length (now values))
+        × (length (now values) ≤ tableBytes) ⌝ }
 {
     let value = assignments::value_of(values, span);
     let end = put_entry(out, line, variable, span.count, value);

@@ -10,11 +10,14 @@ use Rattle.matcher.specs.declared.ListAnswer.{ListAnswer}
 use Rattle.printing.specs.Text.{Printable}
 use Rattle.printing.proofs.Listings.{printable}
 
-written-printable : (p r l s : List ℕ) (n : ℕ) (L X : List ℕ) → WrittenLines p r l s n L X → length L ≤ tableBytes → length X ≤ tableBytes → Printable n L X
-written-printable p r l s n L X f g h = printable n L X _ _ (f .lines) (f .listing-of .full .entries) (f .count) (f .line-bytes) (f .value-bytes) g h
+written-printable : (p r l s : List ℕ) (n : ℕ) (L X : List ℕ) → WrittenLines p r l s n L X → length L ≤ tableBytes
+    → length X ≤ tableBytes → Printable n L X
+written-printable p r l s n L X f g h =
+    printable n L X _ _ (f .lines) (f .listing-of .full .entries) (f .count) (f .line-bytes) (f .value-bytes) g h
 
 pub listed-printable :
-    (p r l s w : List ℕ) (a : ListAnswer) (L X : List ℕ) → Listed p r l s w a L X → (n : ℕ) → a ≡ ListAnswer.Lines n → length L ≤ tableBytes → length X ≤ tableBytes
+    (p r l s w : List ℕ) (a : ListAnswer) (L X : List ℕ) → Listed p r l s w a L X → (n : ℕ) → a ≡ ListAnswer.Lines n → length L ≤ tableBytes
+    → length X ≤ tableBytes
     → Printable n L X
 unfolding Listed
 listed-printable p r l s w a L X x n e g h =

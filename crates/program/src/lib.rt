@@ -1,22 +1,21 @@
 // The program: reads a pattern and a recipe, lists their matches with full tables, and prints the listing.
 //
-// It reads `pattern.rec` and `recipe.rec` from the folder it is run in. A file that won't open counts as empty, and of one that is too long so
-// much is read that the length is still refused. `onestep` is the program itself; the other programs over this crate are cases of it, whose
-// outputs are compared with stored ones. It promises that it is safe and ends; `matcher` promises the listing, and `printing` the text of each
-// printed line. It rests on these two.
+// A file that won't open counts as empty, and of one that is too long so much is read that the length is still refused. Two programs call
+// it: `onestep`, document 01's program, on `pattern.rec` and `recipe.rec` in the folder it is run in, and `test_program` on cases whose
+// outputs are compared with stored ones. It promises that it is safe and ends; `matcher` promises the listing, and `printing` the text of
+// each printed line. It rests on these two.
 
 use libc::close;
 use matcher::ListAnswer;
 use records::PATTERN_RECORDS;
 use records::RECIPE_RECORDS;
 use records::RECORD;
+use records::TABLE_BYTES;
 ghost use Prim.Native.Nat.{_≤_};
+ghost use mathlib.Core.Path.{_≡_};
 ghost use lib.ListN.{length};
 ghost use Rattle.io.specs.Counts.{Counts};
 ghost use Rattle.terms.specs.Figures.{tableBytes};
-
-// The bytes of full tables, and of a work area.
-const TABLE_BYTES: usize = 65536;
 
 // Room for a table that is one record too long.
 const PATTERN_ROOM: usize = RECORD * PATTERN_RECORDS + RECORD;
@@ -43,23 +42,30 @@ fn print_answer(pattern: &[u8], recipe: &[u8], lines: &mut [u8], values: &mut [u
     let answer = matcher::list(pattern, recipe, lines, values, work);
     match answer {
         ListAnswer::Lines(n) => printing::print_listing(n, lines, values),
-        ListAnswer::Refused(c) => printing::print_refusal(matcher::number_of(c)),
+        ListAnswer::Refused(c) => printing::print_refusal(refusals::number_of(c)),
     }
+}
+
+// A full table, or a work area, from a function of its own: a proof then has its length, and no literal to compute with.
+fn full_table() -> [u8; TABLE_BYTES]
+    ensures { λ r. ⌜ tableBytes ≡ length r ⌝ }
+{
+    [0; TABLE_BYTES]
 }
 
 // Lists with full tables and prints.
 fn print_matches(pattern: &[u8], recipe: &[u8]) {
-    let mut lines = [0u8; TABLE_BYTES];
-    let mut values = [0u8; TABLE_BYTES];
-    let mut work = [0u8; TABLE_BYTES];
+    let mut lines = full_table();
+    let mut values = full_table();
+    let mut work = full_table();
     print_answer(pattern, recipe, &mut lines, &mut values, &mut work);
 }
 
-// The whole program.
-pub fn run() {
+// The whole program, on the files at two paths.
+pub fn run(pattern_path: &[u8], recipe_path: &[u8]) {
     let mut pattern = [0u8; PATTERN_ROOM];
     let mut recipe = [0u8; RECIPE_ROOM];
-    let n = read(b"pattern.rec", &mut pattern);
-    let m = read(b"recipe.rec", &mut recipe);
+    let n = read(pattern_path, &mut pattern);
+    let m = read(recipe_path, &mut recipe);
     print_matches(&pattern[..n], &recipe[..m]);
 }

@@ -46,7 +46,8 @@ size-most m l t b e = omega (arith, length-most m l b, ap length e, encode-lengt
 length-right : (m : ℕ) (l : List ℕ) (t : Term) → l ≡ encode t → size t ≤ m → ¬ BadLength m l
 length-right m l t e h b =
     let n : length l ≡ 4 * size t = ap length e ∙ encode-length t in
-    ⊎-elim (λ (x : length l ≡ 0). omega (arith, size-some t)) (λ c. ⊎-elim (λ (x : 4 * m < length l). omega arith) (λ f. f (omega arith)) c) b
+    ⊎-elim (λ (x : length l ≡ 0). omega (arith, size-some t))
+    (λ c. ⊎-elim (λ (x : 4 * m < length l). omega arith) (λ f. f (omega arith)) c) b
 
 -- one term, from where the part that the table begins with ends
 ended : (l : List ℕ) (r s : End) → Ended l r → r ≡ s → Ended l s
@@ -73,7 +74,8 @@ tree-found l r n g x e h =
     let y : Ended l (At n) = ended l r (At n) x e in
     let w = y .1 (g .allowed) (g .good) in
     let q = y .0 .exact (w .tree) (w .part) in
-    let z = nothing (w .part .rest) (omega (arith, ap length (w .part .bytes), length-append (encode (w .tree)) (w .part .rest), encode-length (w .tree))) in
+    let z = nothing (w .part .rest)
+    (omega (arith, ap length (w .part .bytes), length-append (encode (w .tree)) (w .part .rest), encode-length (w .tree))) in
     tree l (w .tree) (w .part .bytes ∙ ap (encode (w .tree) ++_) z ∙ append-nil (encode (w .tree)))
 
 pub one-term : (l : List ℕ) (r : Bool) → Tree l → Tells l (Closed 0) r → Says r (OneTerm l)
@@ -134,7 +136,8 @@ module _ (m v : ℕ) (l : List ℕ) (a b c : ℕ) (more : List Row) where
 below-good : (v : ℕ) (l : List ℕ) (t : Term) → goodRecords v l ≡ true → l ≡ encode t → Below v t
 below-good v l t g e = good-below v t [] (ap (goodRecords v) (append-nil (encode t) ∙ sym e) ∙ g) .0
 
-pub pattern-answer : (l : List ℕ) (r : PatternCheck) → Checked patternRecords variables l r → Answers (pattern l) (Pattern l) (patternRefusal r)
+pub pattern-answer : (l : List ℕ) (r : PatternCheck) → Checked patternRecords variables l r
+    → Answers (pattern l) (Pattern l) (patternRefusal r)
 unfolding Checked
 pattern-answer l PatternCheck.Right x = (
   passed-all patternRecords variables l 1 2 3 [] x tt,
@@ -152,8 +155,11 @@ pattern-answer l PatternCheck.NoTerm x = refused-term patternRecords variables l
 -- the constants of a table of bytes fit
 ground : (t : Term) (r : List ℕ) → Bytes (encode t ++ r) → Below 0 t → Ground t
 ground (app f a) r b h =
-    let c : Bytes (encode f ++ (encode a ++ r)) = subst Bytes (append-assoc (encode f) (encode a) r) (rest-bytes 0 0 ((encode f ++ encode a) ++ r) b) in
-    (ground f (encode a ++ r) c (h .0), ground a r (λ i. rw (getD-append-add (encode f) (encode a ++ r) i 0) at (c (length (encode f) + i))) (h .1))
+    let c : Bytes (encode f ++ (encode a ++ r)) =
+    subst Bytes (append-assoc (encode f) (encode a) r) (rest-bytes 0 0 ((encode f ++ encode a) ++ r) b) in (
+      ground f (encode a ++ r) c (h .0),
+      ground a r (λ i. rw (getD-append-add (encode f) (encode a ++ r) i 0) at (c (length (encode f) + i))) (h .1),
+    )
 ground (lam d) r b h = ground d r (rest-bytes 1 0 (encode d ++ r) b) h
 ground (loc n) r b h = tt
 ground (con n) r b h = number-fits 3 n r b
@@ -166,7 +172,8 @@ ground-table l t b e h = ground t [] (subst Bytes (e ∙ sym (append-nil (encode
 abbrev pub last : List ℕ → List Row
 last l = (7, (t : Term) → IsTable l t → ¬ Normal t) ∷ []
 
-pub normal-right : (m : ℕ) (l : List ℕ) → Bytes l → Checked m 0 l PatternCheck.Right → Tells l Normal true → Answers (recipeRows m l) (NormalTable m l) none
+pub normal-right : (m : ℕ) (l : List ℕ) → Bytes l → Checked m 0 l PatternCheck.Right → Tells l Normal true
+    → Answers (recipeRows m l) (NormalTable m l) none
 unfolding Checked
 normal-right m l b x n =
     let t = x .2 .tree in
@@ -208,12 +215,15 @@ value-passed l x =
       (not-both (goodRecords 0 l) g, ((λ n. n t (x .bytes, x .value .0)), ((λ f. f t (x .bytes, x .value .0) (x .value .1)), tt))),
     )
 
-pub value-refused : (l : List ℕ) (r : RecipeCheck) (k : ℕ) → Answers (recipeRows valueRecords l) (NormalTable valueRecords l) (recipeRefusal r) → recipeRefusal r ≡ some k → ¬ ValueTable l
+pub value-refused : (l : List ℕ) (r : RecipeCheck) (k : ℕ)
+    → Answers (recipeRows valueRecords l) (NormalTable valueRecords l) (recipeRefusal r) → recipeRefusal r ≡ some k → ¬ ValueTable l
 value-refused l r k x e y =
-    let z : Refused (recipeRows valueRecords l) k = subst (λ (o : Option ℕ). Answers (recipeRows valueRecords l) (NormalTable valueRecords l) o) e x in
+    let z : Refused (recipeRows valueRecords l) k =
+    subst (λ (o : Option ℕ). Answers (recipeRows valueRecords l) (NormalTable valueRecords l) o) e x in
     refused-passed (recipeRows valueRecords l) k z (value-passed l y)
 
-pub value-right : (l : List ℕ) (r : RecipeCheck) → Answers (recipeRows valueRecords l) (NormalTable valueRecords l) (recipeRefusal r) → recipeRefusal r ≡ none → ValueTable l
+pub value-right : (l : List ℕ) (r : RecipeCheck) → Answers (recipeRows valueRecords l) (NormalTable valueRecords l) (recipeRefusal r)
+    → recipeRefusal r ≡ none → ValueTable l
 value-right l r x e =
     let y : Answers (recipeRows valueRecords l) (NormalTable valueRecords l) none =
     subst (λ (o : Option ℕ). Answers (recipeRows valueRecords l) (NormalTable valueRecords l) o) e x in

@@ -99,9 +99,11 @@ pub record Abstraction (l : List ℕ) (at : ℕ) (t : Term) : Type 0 where
 pub application : (l : List ℕ) (at : ℕ) (t : Term) → Part l at t → getD l at 0 ≡ 0 → Application l at t
 application l at (app f a) x k =
     let h : drop (at + 4) l ≡ encode f ++ (encode a ++ x .rest) =
-    behind l at (app f a) x ∙ ap (λ (y : List ℕ). (encode f ++ y) ++ x .rest) (append-nil (encode a)) ∙ append-assoc (encode f) (encode a) (x .rest) in
+    behind l at (app f a) x ∙ ap (λ (y : List ℕ). (encode f ++ y) ++ x .rest) (append-nil (encode a))
+    ∙ append-assoc (encode f) (encode a) (x .rest) in
     let g : drop (at + 4 + 4 * size f) l ≡ encode a ++ x .rest =
-    sym (drop-drop (4 * size f) (at + 4) l) ∙ ap (drop (4 * size f)) h ∙ drop-at (encode f) (encode a ++ x .rest) (4 * size f) (encode-length f) in
+    sym (drop-drop (4 * size f) (at + 4) l) ∙ ap (drop (4 * size f)) h
+    ∙ drop-at (encode f) (encode a ++ x .rest) (4 * size f) (encode-length f) in
     record { f = f; a = a; is = refl; head = part l (at + 4) f _ h; argument = part l (at + 4 + 4 * size f) a _ g }
 application l at (lam b) x k = absurd (omega (arith, kind-at l at (lam b) x))
 application l at (loc n) x k = absurd (omega (arith, kind-at l at (loc n) x))
@@ -193,7 +195,8 @@ divided l h x k e =
         let n : h ≡ 4 + 4 * size f = e .exact f (part l 4 f (encode a) d) in
         let m : length (encode f) ≡ h - 4 = omega (arith, encode-length f) in (
           ap (take (h - 4)) d ∙ take-at (encode f) (encode a) (h - 4) m,
-          ap (λ (i : ℕ). drop i l) n ∙ sym (drop-drop (4 * size f) 4 l) ∙ ap (drop (4 * size f)) d ∙ drop-at (encode f) (encode a) (4 * size f) (encode-length f),
+          ap (λ (i : ℕ). drop i l) n ∙ sym (drop-drop (4 * size f) 4 l) ∙ ap (drop (4 * size f)) d
+              ∙ drop-at (encode f) (encode a) (4 * size f) (encode-length f),
         )
 
 -- the tree of a table, by its first record
@@ -204,7 +207,9 @@ pub record ApplicationOf (l : List ℕ) (t : Term) : Type 0 where
   pub bytes : l ≡ encode (app f a)
 
 pub application-of : (l : List ℕ) (t : Term) → l ≡ encode t → getD l 0 0 ≡ 0 → ApplicationOf l t
-application-of l t e k = let v = application l 0 t (at-start l t e) k in record { f = v .f; a = v .a; is = v .is; bytes = e ∙ ap encode (v .is) }
+application-of l t e k =
+    let v = application l 0 t (at-start l t e) k in
+    record { f = v .f; a = v .a; is = v .is; bytes = e ∙ ap encode (v .is) }
 
 pub record AbstractionOf (l : List ℕ) (t : Term) : Type 0 where
   pub b : Term
@@ -233,3 +238,18 @@ pub body-lies : (l : List ℕ) → Tree l → getD l 0 0 ≡ 1 → Lies l (drop 
 body-lies l x k =
     let v = abstraction-of l (x .tree) (x .bytes) k in
     lies l (drop 4 l) (v .b) (ap (drop 4) (v .bytes)) (omega (arith, x .least, length-drop 4 l))
+
+-- a constant and a variable, by its record
+pub constant-at : (l : List ℕ) (at n : ℕ) (t : Term) → Part l at t → getD l at 0 ≡ 3 → n ≡ numberAt l at → t ≡ con n
+constant-at l at n (app f a) x k e = absurd (omega (arith, kind-at l at (app f a) x))
+constant-at l at n (lam b) x k e = absurd (omega (arith, kind-at l at (lam b) x))
+constant-at l at n (loc m) x k e = absurd (omega (arith, kind-at l at (loc m) x))
+constant-at l at n (con m) x k e = ap con (sym (e ∙ number-at l at (con m) x))
+constant-at l at n (var m) x k e = absurd (omega (arith, kind-at l at (var m) x))
+
+pub variable-at : (l : List ℕ) (at n : ℕ) (t : Term) → Part l at t → getD l at 0 ≡ 4 → n ≡ numberAt l at → t ≡ var n
+variable-at l at n (app f a) x k e = absurd (omega (arith, kind-at l at (app f a) x))
+variable-at l at n (lam b) x k e = absurd (omega (arith, kind-at l at (lam b) x))
+variable-at l at n (loc m) x k e = absurd (omega (arith, kind-at l at (loc m) x))
+variable-at l at n (con m) x k e = absurd (omega (arith, kind-at l at (con m) x))
+variable-at l at n (var m) x k e = ap var (sym (e ∙ number-at l at (var m) x))

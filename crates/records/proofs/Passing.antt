@@ -60,7 +60,8 @@ open-row l at m rest h x = go (x .terms) (x .count) (x .bytes)
         }
 
 -- the row that a record of kind k and number n makes of a row of its parts
-made : (k n m : ℕ) (ts : List Term) → k ≤ 4 → (k ≤ 1 → n ≡ 0) → length ts ≡ m + parts k → (us : List Term) × (length us ≡ suc m) × (bytes k n (tables ts) ≡ tables us)
+made : (k n m : ℕ) (ts : List Term) → k ≤ 4 → (k ≤ 1 → n ≡ 0) → length ts ≡ m + parts k
+    → (us : List Term) × (length us ≡ suc m) × (bytes k n (tables ts) ≡ tables us)
 made zero n m [] h z c = absurd (omega arith)
 made zero n m (f ∷ []) h z c = absurd (omega arith)
 made zero n m (f ∷ a ∷ ts) h z c =
@@ -72,7 +73,8 @@ made (suc (suc (suc zero))) n m ts h z c = (con n ∷ ts, omega arith, refl)
 made (suc (suc (suc (suc zero)))) n m ts h z c = (var n ∷ ts, omega arith, refl)
 made (suc (suc (suc (suc (suc k))))) n m ts h z c = absurd (omega arith)
 
-close-row : (v : ℕ) (l : List ℕ) (at m : ℕ) (rest : List ℕ) → 0 < m → at + 4 ≤ length l → getD l (at + 2 + 1) 0 < 256 → goodRecords v (drop at l) ≡ true → Row l (at + 4) (m - 1 + parts (getD l at 0)) rest → Row l at m rest
+close-row : (v : ℕ) (l : List ℕ) (at m : ℕ) (rest : List ℕ) → 0 < m → at + 4 ≤ length l → getD l (at + 2 + 1) 0 < 256
+    → goodRecords v (drop at l) ≡ true → Row l (at + 4) (m - 1 + parts (getD l at 0)) rest → Row l at m rest
 close-row v l at m rest h w b g x =
     let a = allowed-is v l at w b (good-split l at v w g .0) in
     let u = made (getD l at 0) (numberAt l at) (m - 1) (x .terms) (a .known) (a .none) (x .count) in
@@ -82,7 +84,8 @@ close-row v l at m rest h w b g x =
       bytes = a .is ∙ ap (bytes (getD l at 0) (numberAt l at)) (x .bytes) ∙ ap (_++ rest) (u .2);
     }
 
-pub passing-step : (l : List ℕ) (from at m : ℕ) → Passing l from at m → 0 < m → at + 4 ≤ length l → getD l (at + 2 + 1) 0 < 256 → (n : ℕ) → n ≡ parts (getD l at 0) → n ≤ 2 → Passing l from (at + 4) (m - 1 + n)
+pub passing-step : (l : List ℕ) (from at m : ℕ) → Passing l from at m → 0 < m → at + 4 ≤ length l → getD l (at + 2 + 1) 0 < 256 → (n : ℕ)
+    → n ≡ parts (getD l at 0) → n ≤ 2 → Passing l from (at + 4) (m - 1 + n)
 passing-step l from at m x h w b n e u = rw e (record {
   within = w;
   few = omega (arith, x .few);
@@ -118,7 +121,17 @@ passing-found l from at h x = (
     within = x .within;
     exact = λ t y.
         let e : drop at l ≡ y .rest = none l at (y .rest) (x .to (y .rest) (one l from t y)) in
-        omega (arith, x .within, x .more, ap length e, ap length (y .bytes), length-append (encode t) (y .rest), encode-length t, length-drop at l, length-drop from l);
+        omega (
+          arith,
+          x .within,
+          x .more,
+          ap length e,
+          ap length (y .bytes),
+          length-append (encode t) (y .rest),
+          encode-length t,
+          length-drop at l,
+          length-drop from l,
+        );
   },
   λ v g. only l from (drop at l) (x .back v g (drop at l) (record { terms = []; count = refl; bytes = refl })),
 )
@@ -139,7 +152,9 @@ reached-short l from at (suc m) x h s = λ t y. go (x .to (y .rest) (one l from 
       where
         end : (ts : List Term) → length ts ≡ suc m → drop at l ≡ tables ts ++ rest → ⊥
         end [] c e = omega arith
-        end (t ∷ ts) c e = let p = part l at t (tables ts ++ rest) (e ∙ append-assoc (encode t) (tables ts) rest) in omega (arith, p .some, p .within)
+        end (t ∷ ts) c e =
+            let p = part l at t (tables ts ++ rest) (e ∙ append-assoc (encode t) (tables ts) rest) in
+            omega (arith, p .some, p .within)
 
 -- what a pass says to those who asked for it
 pub reached-ends : (l : List ℕ) (at m r : ℕ) → Whole l at → Reached l at m r → Ends l at r

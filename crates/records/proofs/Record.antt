@@ -32,10 +32,12 @@ module _ (l : List ℕ) (at : ℕ) where
   byte i j e = getD-drop at l i 0 ∙ ap (λ (k : ℕ). getD l k 0) e
 
   -- the four bytes at `at`
-  pub record-drop : at + 4 ≤ length l → drop at l ≡ getD l at 0 ∷ getD l (at + 1) 0 ∷ getD l (at + 2) 0 ∷ getD l (at + 2 + 1) 0 ∷ drop (at + 4) l
+  pub record-drop : at + 4 ≤ length l
+      → drop at l ≡ getD l at 0 ∷ getD l (at + 1) 0 ∷ getD l (at + 2) 0 ∷ getD l (at + 2 + 1) 0 ∷ drop (at + 4) l
   record-drop h =
       four (drop at l) (omega (arith, length-drop at l))
-      ∙ (λ i. byte 0 at (omega arith) i ∷ byte 1 (at + 1) (omega arith) i ∷ byte 2 (at + 2) (omega arith) i ∷ byte 3 (at + 2 + 1) (omega arith) i
+      ∙ (λ i. byte 0 at (omega arith) i ∷ byte 1 (at + 1) (omega arith) i ∷ byte 2 (at + 2) (omega arith) i
+      ∷ byte 3 (at + 2 + 1) (omega arith) i
       ∷ drop-drop 4 at l i)
 
   -- what is read where a record stands
@@ -59,7 +61,8 @@ pub and-split : (a b : Bool) → a && b ≡ true → (a ≡ true) × (b ≡ true
 and-split true b e = (refl, e)
 and-split false b e = absurd (subst T (sym e) tt)
 
-pub good-split : (l : List ℕ) (at v : ℕ) → at + 4 ≤ length l → goodRecords v (drop at l) ≡ true → (allowed v (recordAt l at) ≡ true) × (goodRecords v (drop (at + 4) l) ≡ true)
+pub good-split : (l : List ℕ) (at v : ℕ) → at + 4 ≤ length l → goodRecords v (drop at l) ≡ true
+    → (allowed v (recordAt l at) ≡ true) × (goodRecords v (drop (at + 4) l) ≡ true)
 good-split l at v h g = and-split (allowed v (recordAt l at)) (goodRecords v (drop (at + 4) l)) (sym (good-step l at v h) ∙ g)
 
 -- what an allowed record is
@@ -85,7 +88,8 @@ allowed-some v k z n h = go (eqb z 0) refl h
         )
     go false e h = absurd (subst T (sym h) tt)
 
-pub allowed-is : (v : ℕ) (l : List ℕ) (at : ℕ) → at + 4 ≤ length l → getD l (at + 2 + 1) 0 < 256 → allowed v (recordAt l at) ≡ true → Allowed v l at
+pub allowed-is : (v : ℕ) (l : List ℕ) (at : ℕ) → at + 4 ≤ length l → getD l (at + 2 + 1) 0 < 256
+    → allowed v (recordAt l at) ≡ true → Allowed v l at
 allowed-is v l at h b a =
     let p : getD l (at + 2) 0 ≡ numberAt l at / 256 = omega arith in
     let q : getD l (at + 2 + 1) 0 ≡ numberAt l at % 256 = omega arith in
@@ -154,7 +158,8 @@ module _ (v : ℕ) (l : List ℕ) (at : ℕ) where
   pub kind-unknown : getD l (at + 1) 0 ≡ 0 → 4 < getD l at 0 → false ≡ allowed v (recordAt l at)
   kind-unknown h g = sym (ap (allowed v) (record-some h) ∙ simp (lt-leb (getD l at 0) 4 g))
 
-  pub kind-known : (r : Bool) (k n : ℕ) → getD l (at + 1) 0 ≡ 0 → k ≡ getD l at 0 → n ≡ numberAt l at → r ≡ allowed v (some (k, n)) → r ≡ allowed v (recordAt l at)
+  pub kind-known : (r : Bool) (k n : ℕ) → getD l (at + 1) 0 ≡ 0 → k ≡ getD l at 0 → n ≡ numberAt l at → r ≡ allowed v (some (k, n))
+      → r ≡ allowed v (recordAt l at)
   kind-known r k n h p q e = e ∙ ap₂ (λ (i j : ℕ). allowed v (some (i, j))) p q ∙ sym (ap (allowed v) (record-some h))
 
 -- good records, one after another
@@ -168,7 +173,8 @@ good-short v l at h g = go (drop at l) (omega (arith, length-drop at l)) (omega 
     go (a ∷ b ∷ c ∷ []) h g = refl
     go (a ∷ b ∷ c ∷ d ∷ l) h g = absurd (omega arith)
 
-pub good-first : (v : ℕ) (l : List ℕ) (at : ℕ) (r : Bool) → at + 4 ≤ length l → r ≡ allowed v (recordAt l at) → (r && goodRecords v (drop (at + 4) l)) ≡ goodRecords v (drop at l)
+pub good-first : (v : ℕ) (l : List ℕ) (at : ℕ) (r : Bool) → at + 4 ≤ length l → r ≡ allowed v (recordAt l at)
+    → (r && goodRecords v (drop (at + 4) l)) ≡ goodRecords v (drop at l)
 good-first v l at r h e = ap (_&& goodRecords v (drop (at + 4) l)) e ∙ sym (good-step l at v h)
 
 pub good-end : (v : ℕ) (l : List ℕ) (at : ℕ) → length l ≤ at → true ≡ goodRecords v (drop at l)

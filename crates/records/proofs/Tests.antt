@@ -20,7 +20,8 @@ use Rattle.records.specs.declared.Walk.the-variants.{Upto, No}
 use Rattle.records.specs.Record.{numberAt, innermostAt}
 use Rattle.records.specs.Parts.{Part, Whole, Ends}
 use Rattle.records.specs.Tests.{Says, EqualsAt, Head, asked, Asks, Walked}
-use Rattle.records.proofs.Parts.{at-start, size-some, application, abstraction, argument-part, kind-at, number-at, ends-app, ends-lam, ends-leaf}
+use Rattle.records.proofs.Parts.{at-start, size-some, application, abstraction, argument-part, kind-at, number-at, ends-app}
+use Rattle.records.proofs.Parts.{ends-lam, ends-leaf}
 
 pub says : (A : Type 0) (b r : Bool) → Says b A → b ≡ r → Says r A
 says A b r x e = subst (λ (c : Bool). Says c A) e x
@@ -39,7 +40,8 @@ module _ (l : List ℕ) (at : ℕ) (G : Term → Type 0) where
   part-local k g (con n) x = absurd (omega (arith, kind-at l at (con n) x))
   part-local k g (var n) x = absurd (omega (arith, kind-at l at (var n) x))
 
-  pub part-other : ¬ (getD l at 0 ≡ 0) → ¬ (getD l at 0 ≡ 1) → ¬ (getD l at 0 ≡ 2) → ((n : ℕ) → G (con n)) → ((n : ℕ) → G (var n)) → (t : Term) → Part l at t → G t
+  pub part-other : ¬ (getD l at 0 ≡ 0) → ¬ (getD l at 0 ≡ 1) → ¬ (getD l at 0 ≡ 2) → ((n : ℕ) → G (con n)) → ((n : ℕ) → G (var n))
+      → (t : Term) → Part l at t → G t
   part-other p q r c v (app f a) x = absurd (p (kind-at l at (app f a) x))
   part-other p q r c v (lam b) x = absurd (q (kind-at l at (lam b) x))
   part-other p q r c v (loc n) x = absurd (r (kind-at l at (loc n) x))
@@ -52,7 +54,8 @@ module _ (l : List ℕ) (at : ℕ) (P : Term → Type 0) where
   unfolding Walked
   walked-ends h w e x = let y : Walked l at P (Upto h) = subst (Walked l at P) e x in y .0
 
-  pub walked-app : (Q R : Term → Type 0) (h : ℕ) (w r : Walk) → getD l at 0 ≡ 0 → ((f a : Term) → P (app f a) ↔ (Q f × R a)) → w ≡ Upto h → Walked l (at + 4) Q w → Walked l h R r → Walked l at P r
+  pub walked-app : (Q R : Term → Type 0) (h : ℕ) (w r : Walk) → getD l at 0 ≡ 0 → ((f a : Term) → P (app f a) ↔ (Q f × R a)) → w ≡ Upto h
+      → Walked l (at + 4) Q w → Walked l h R r → Walked l at P r
   unfolding Walked
   walked-app Q R h w r k i e x y = go r y
     where
@@ -70,13 +73,15 @@ module _ (l : List ℕ) (at : ℕ) (P : Term → Type 0) where
           let v = application l at t x k in
           y (v .a) (argument-part l at h t (z .0) v) (i (v .f) (v .a) .0 (subst P (v .is) q) .1)
 
-  pub walked-stop : (Q R : Term → Type 0) (w : Walk) → getD l at 0 ≡ 0 → ((f a : Term) → P (app f a) ↔ (Q f × R a)) → w ≡ No → Walked l (at + 4) Q w → Walked l at P No
+  pub walked-stop : (Q R : Term → Type 0) (w : Walk) → getD l at 0 ≡ 0 → ((f a : Term) → P (app f a) ↔ (Q f × R a)) → w ≡ No
+      → Walked l (at + 4) Q w → Walked l at P No
   unfolding Walked
   walked-stop Q R w k i e x =
       let z : Walked l (at + 4) Q No = subst (Walked l (at + 4) Q) e x in
       λ t x q. let v = application l at t x k in z (v .f) (v .head) (i (v .f) (v .a) .0 (subst P (v .is) q) .0)
 
-  pub walked-lam : (Q : Term → Type 0) (r : Walk) → getD l at 0 ≡ 1 → ((b : Term) → P (lam b) ↔ Q b) → Walked l (at + 4) Q r → Walked l at P r
+  pub walked-lam : (Q : Term → Type 0) (r : Walk) → getD l at 0 ≡ 1 → ((b : Term) → P (lam b) ↔ Q b)
+      → Walked l (at + 4) Q r → Walked l at P r
   unfolding Walked
   walked-lam Q (Upto h) k i y =
       (ends-lam l at h k (y .0), λ t x. let v = abstraction l at t x k in subst P (sym (v .is)) (i (v .b) .1 (y .1 (v .b) (v .body))))
@@ -90,7 +95,8 @@ module _ (l : List ℕ) (at : ℕ) (P : Term → Type 0) where
       go (Upto h) y = (y .0, λ t x. i t x .1 (y .1 t x))
       go No y = λ t x q. y t x (i t x .0 q)
 
-  pub walked-leaf : Whole l at → ¬ (getD l at 0 ≡ 0) → ¬ (getD l at 0 ≡ 1) → ((t : Term) → Part l at t → P t) → Walked l at P (Upto (at + 4))
+  pub walked-leaf : Whole l at → ¬ (getD l at 0 ≡ 0) → ¬ (getD l at 0 ≡ 1) → ((t : Term) → Part l at t → P t)
+      → Walked l at P (Upto (at + 4))
   unfolding Walked
   walked-leaf w n m g = (ends-leaf l at n m w, g)
 
@@ -142,12 +148,15 @@ asks-var Below n i = tt
 asks-var Other n i = refl
 
 -- a term that ends behind a record is the innermost local if it begins there and the record is that local
-leaf-last : (l : List ℕ) (at last : ℕ) (a : Term) → Part l at a → at ≡ last → isInnermost a ≡ (eqb (kind a) 2 && eqb (number a) 0) → isInnermost a ≡ (eqb at last && innermostAt l last)
+leaf-last : (l : List ℕ) (at last : ℕ) (a : Term) → Part l at a → at ≡ last → isInnermost a ≡ (eqb (kind a) 2 && eqb (number a) 0)
+    → isInnermost a ≡ (eqb at last && innermostAt l last)
 leaf-last l at last a x e i =
     subst (λ (k : ℕ). isInnermost a ≡ (eqb at k && innermostAt l k)) e
-    (i ∙ ap₂ (λ (k n : ℕ). eqb k 2 && eqb n 0) (sym (kind-at l at a x)) (sym (number-at l at a x)) ∙ ap (_&& innermostAt l at) (sym (eq-eqb at at refl)))
+    (i ∙ ap₂ (λ (k n : ℕ). eqb k 2 && eqb n 0) (sym (kind-at l at a x)) (sym (number-at l at a x))
+    ∙ ap (_&& innermostAt l at) (sym (eq-eqb at at refl)))
 
-innermost-last : (l : List ℕ) (at last : ℕ) (a : Term) → Part l at a → last + 4 ≡ at + 4 * size a → isInnermost a ≡ (eqb at last && innermostAt l last)
+innermost-last : (l : List ℕ) (at last : ℕ) (a : Term) → Part l at a → last + 4 ≡ at + 4 * size a
+    → isInnermost a ≡ (eqb at last && innermostAt l last)
 innermost-last l at last (app f a) x e = ap (_&& innermostAt l last) (sym (ne-eqb at last (λ p. omega (arith, size-some f))))
 innermost-last l at last (lam b) x e = ap (_&& innermostAt l last) (sym (ne-eqb at last (λ p. omega (arith, size-some b))))
 innermost-last l at last (loc n) x e = leaf-last l at last (loc n) x (omega arith) refl
@@ -167,7 +176,9 @@ module _ (l : List ℕ) (at end : ℕ) where
   eta-no-application n t x e = eta-other (getD l at 0) n t (kind-at l at t x)
 
   module _ (k : getD l at 0 ≡ 0) where
-    by-last : (G : Bool → Type 0) → ((f : Term) → Part l (at + 4) f → G ((eqb (at + 4 + 4 * size f) (end - 4) && innermostAt l (end - 4)) && not (uses 0 f))) → (t : Term) → Part l at t → end ≡ at + 4 * size t → G (isEta t)
+    by-last : (G : Bool → Type 0)
+        → ((f : Term) → Part l (at + 4) f → G ((eqb (at + 4 + 4 * size f) (end - 4) && innermostAt l (end - 4)) && not (uses 0 f)))
+        → (t : Term) → Part l at t → end ≡ at + 4 * size t → G (isEta t)
     by-last G g t x e =
         let v = application l at t x k in
         let p = innermost-last l (at + 4 + 4 * size (v .f)) (end - 4) (v .a) (v .argument) (omega (arith, ap size (v .is))) in
@@ -176,7 +187,8 @@ module _ (l : List ℕ) (at end : ℕ) where
     pub eta-other-last : innermostAt l (end - 4) ≡ false → EqualsAt l at end isEta false
     eta-other-last p =
         by-last (λ (b : Bool). false ≡ b) λ f x.
-        go (eqb (at + 4 + 4 * size f) (end - 4)) (not (uses 0 f)) ∙ ap (λ (b : Bool). (eqb (at + 4 + 4 * size f) (end - 4) && b) && not (uses 0 f)) (sym p)
+        go (eqb (at + 4 + 4 * size f) (end - 4)) (not (uses 0 f))
+        ∙ ap (λ (b : Bool). (eqb (at + 4 + 4 * size f) (end - 4) && b) && not (uses 0 f)) (sym p)
       where
         go : (x y : Bool) → false ≡ ((x && false) && y)
         go true y = refl
@@ -187,7 +199,8 @@ module _ (l : List ℕ) (at end : ℕ) where
       unfolding Walked
       eta-used e =
           let z : Walked l (at + 4) (Asks Other 0) No = subst (Walked l (at + 4) (Asks Other 0)) e y in
-          by-last (λ (b : Bool). false ≡ b) λ f x. go (eqb (at + 4 + 4 * size f) (end - 4) && innermostAt l (end - 4)) (uses 0 f) (not-false-true (uses 0 f) (z f x))
+          by-last (λ (b : Bool). false ≡ b)
+          λ f x. go (eqb (at + 4 + 4 * size f) (end - 4) && innermostAt l (end - 4)) (uses 0 f) (not-false-true (uses 0 f) (z f x))
         where
           go : (x y : Bool) → true ≡ y → false ≡ (x && not y)
           go true y e = ap not e
@@ -198,7 +211,9 @@ module _ (l : List ℕ) (at end : ℕ) where
       eta-ends h p e =
           let z : Walked l (at + 4) (Asks Other 0) (Upto h) = subst (Walked l (at + 4) (Asks Other 0)) e y in
           by-last (λ (b : Bool). eqb h (end - 4) ≡ b) λ f x.
-          ap (λ (i : ℕ). eqb i (end - 4)) (z .0 .exact f x) ∙ sym (and-true (eqb (at + 4 + 4 * size f) (end - 4) && true) ∙ and-true (eqb (at + 4 + 4 * size f) (end - 4))) ∙ ap₂ (λ (b c : Bool). (eqb (at + 4 + 4 * size f) (end - 4) && b) && not c) (sym p) (sym (z .1 f x))
+          ap (λ (i : ℕ). eqb i (end - 4)) (z .0 .exact f x)
+          ∙ sym (and-true (eqb (at + 4 + 4 * size f) (end - 4) && true) ∙ and-true (eqb (at + 4 + 4 * size f) (end - 4)))
+          ∙ ap₂ (λ (b c : Bool). (eqb (at + 4 + 4 * size f) (end - 4) && b) && not c) (sym p) (sym (z .1 f x))
 
 -- what may be a head: no abstraction, an application whose head may be one and whose argument is normal, a record with no parts
 head-leaf : (k : ℕ) → ¬ (k ≡ 0) → ¬ (k ≡ 1) → (t : Term) → k ≡ kind t → Head t
@@ -220,13 +235,15 @@ head-two f a = (λ x. ((x .1 .0, x .1 .1), x .1 .2), λ x. (tt, (x .0 .0, x .0 .
 
 module _ (l : List ℕ) (at : ℕ) where
   pub head-abstraction : getD l at 0 ≡ 1 → Walked l at Head No
-  head-abstraction k = walked-no l at Head λ t x q. let v = abstraction l at t x k in let p : Head (lam (v .b)) = subst Head (v .is) q in p .0
+  head-abstraction k =
+      walked-no l at Head λ t x q. let v = abstraction l at t x k in let p : Head (lam (v .b)) = subst Head (v .is) q in p .0
 
   pub head-none : Whole l at → ¬ (getD l at 0 ≡ 0) → ¬ (getD l at 0 ≡ 1) → Walked l at Head (Upto (at + 4))
   head-none w n m = walked-leaf l at Head w n m λ t x. head-leaf (getD l at 0) n m t (kind-at l at t x)
 
   pub normal-head : (r : Walk) → ¬ (getD l at 0 ≡ 1) → Walked l at Head r → Walked l at Normal r
-  normal-head r m x = walked-same l at Normal Head r r (λ t y. (λ p. (no-abstraction (getD l at 0) m t (kind-at l at t y), p), λ p. p .1)) refl x
+  normal-head r m x =
+      walked-same l at Normal Head r r (λ t y. (λ p. (no-abstraction (getD l at 0) m t (kind-at l at t y), p), λ p. p .1)) refl x
 
 -- an abstraction is normal as its body is, unless it is itself a redex
 module _ (l : List ℕ) (at : ℕ) (w : Walk) (k : getD l at 0 ≡ 1) (x : Walked l (at + 4) Normal w) where
@@ -250,4 +267,5 @@ module _ (l : List ℕ) (at : ℕ) (w : Walk) (k : getD l at 0 ≡ 1) (x : Walke
     pub normal-body : r ≡ false → Walked l at Normal (Upto end)
     normal-body p =
         walked-lam l at Normal (λ b. T (not (isEta b)) × Normal b) (Upto end) k (λ b. (λ n. n, λ n. n))
-        (walked-same l (at + 4) (λ b. T (not (isEta b)) × Normal b) Normal w (Upto end) (λ b y. (λ n. n .1, λ n. (subst (λ (c : Bool). T (not c)) (sym p ∙ eta-is b y) tt, n))) e x)
+        (walked-same l (at + 4) (λ b. T (not (isEta b)) × Normal b) Normal w (Upto end)
+        (λ b y. (λ n. n .1, λ n. (subst (λ (c : Bool). T (not c)) (sym p ∙ eta-is b y) tt, n))) e x)

@@ -21,7 +21,8 @@ ghost use Rattle.terms.specs.Layout.{wordAt};
 ghost use Rattle.records.specs.Record.{kindOf, parts as partsOf, numberAt, recordAt, innermostAt};
 ghost use Rattle.records.specs.Parts.{Whole, Ends, Reached, Ended, Tree, Divided, Lies};
 ghost use Rattle.records.specs.Tests.{Says, Tells, Equals, Within, EqualsAt, Head, asked, Asks, Walked};
-ghost use Rattle.records.specs.Checks.{patternRefusal, recipeRefusal, Answers, Pattern, NormalTable, Recipe, ValueTable, OneTerm, Good, Checked};
+ghost use Rattle.records.specs.Checks.{patternRefusal, recipeRefusal, Answers, Pattern, NormalTable, Recipe, ValueTable, OneTerm};
+ghost use Rattle.records.specs.Checks.{Good, Checked};
 
 // The bytes of one record.
 pub const RECORD: usize = 4;
@@ -357,8 +358,8 @@ pub fn is_eta(s: &[u8]) -> bool
     is_eta_at(s, 0, s.len())
 }
 
-// Walks over the part at byte `at` if it is normal. The abstraction that is itself a redex is ruled out here, by its body, whose end is then
-// known; the application is ruled out by `head_at`. An argument and a body may be any normal term.
+// Walks over the part at byte `at` if it is normal. The abstraction that is itself a redex is ruled out here, by its body, whose end is
+// then known; the application is ruled out by `head_at`. An argument and a body may be any normal term.
 fn normal_at(s: &[u8], at: usize) -> Walk
     requires { ⌜ Whole (now s) at × (length (now s) ≤ at + tableBytes) ⌝ }
     ensures { λ r. ⌜ Walked (now (s .entry)) at Normal r ⌝ }
@@ -409,7 +410,7 @@ pub fn is_normal(s: &[u8]) -> bool
     }
 }
 
-// Document 01's figures. A contract below cites each by its name in `terms`, and holds only if the two agree.
+// Document 01's figures. A contract, here or in a crate above, cites each by its name in `terms`, and holds only if the two agree.
 pub const VARIABLES: usize = 8;
 
 pub const PATTERN_RECORDS: usize = 32;
@@ -417,6 +418,9 @@ pub const PATTERN_RECORDS: usize = 32;
 pub const RECIPE_RECORDS: usize = 96;
 
 pub const VALUE_RECORDS: usize = 160;
+
+// The most bytes of a line, value or output table, and the bytes of a work area.
+pub const TABLE_BYTES: usize = 65536;
 
 // What a check of a pattern or a right side finds.
 pub enum PatternCheck {

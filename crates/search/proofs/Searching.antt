@@ -18,28 +18,34 @@ use Rattle.matching.proofs.Goals.{Goal, All}
 use Rattle.records.specs.Parts.{Ends}
 use Rattle.assignments.specs.declared.Entry.{Entry}
 use Rattle.listing.specs.declared.Tally.{Tally}
-use Rattle.listing.specs.Outcome.{Holds, outcome, Finds, Found}
+use Rattle.assignments.specs.Held.{Holds}
+use Rattle.listing.specs.Outcome.{lineRecords, outcome, Finds, Found}
 use Rattle.listing.proofs.Stores.{found-tally}
 use Rattle.agenda.specs.declared.Agenda.{Agenda}
 use Rattle.agenda.specs.declared.Ways.{Ways}
 use Rattle.agenda.specs.State.{Easy, Hard, Chain, State, Sat, Bounds, Ready, relinking}
 use Rattle.agenda.specs.Moves.{Question, Move, Failed}
-use Rattle.agenda.specs.Branches.{Way, HasWays, Choices, Copies, Chosen, Forwarded}
-use Rattle.agenda.specs.Applications.{Matches, Counted}
-use Rattle.agenda.specs.Builds.{Builds}
+use Rattle.alternatives.specs.Ways.{Way, HasWays}
+use Rattle.builds.specs.Choices.{Choices, Copies, Chosen}
+use Rattle.ordering.specs.Forwarding.{Forwarded}
+use Rattle.alternatives.specs.Applications.{Matches, Counted}
+use Rattle.builds.specs.Builds.{Builds}
 use Rattle.agenda.proofs.Frame.{Kept, state-kept}
 use Rattle.search.specs.Collected.{Tallied}
 use Rattle.search.specs.Searched.{Begins, Searched}
 use Rattle.search.specs.Choosing.{Choosing}
 use Rattle.search.proofs.Tallies.{tallied-same, tallied-none, tallied-one, tallied-or, tallied-stop}
-use Rattle.search.proofs.Questions.{ways-all, ways-apart, Over, listing-over, under-over, choices-all, choices-last, choices-next, choices-apart, choices-listing}
+use Rattle.search.proofs.Questions.{ways-all, ways-apart, Over, listing-over, under-over, choices-all, choices-last, choices-next}
+use Rattle.search.proofs.Questions.{choices-apart, choices-listing}
 
-kept-below : (W X Y : List ℕ) (top higher : ℕ) → top ≤ higher → take higher Y ≡ take higher X → take top X ≡ take top W → take top Y ≡ take top W
+kept-below : (W X Y : List ℕ) (top higher : ℕ) → top ≤ higher → take higher Y ≡ take higher X → take top X ≡ take top W
+    → take top Y ≡ take top W
 kept-below W X Y top higher h p q = sym (take-take top higher Y h) ∙ ap (take top) p ∙ take-take top higher X h ∙ q
 
 module _ (k : ℕ) (P W : List ℕ) (s : Agenda) (a : List Entry) (Q : Question) (limit : ℕ) (L X : List ℕ) (done : Tally) where
   -- a step, and the search from there
-  pub begins-move : (W₁ : List ℕ) (s₁ : Agenda) (a₁ : List Entry) → Move k P W s a Q W₁ s₁ a₁ → Begins k P W s a limit L X done → Begins 0 P W₁ s₁ a₁ limit L X done
+  pub begins-move : (W₁ : List ℕ) (s₁ : Agenda) (a₁ : List Entry) → Move k P W s a Q W₁ s₁ a₁ → Begins k P W s a limit L X done
+      → Begins 0 P W₁ s₁ a₁ limit L X done
   begins-move W₁ s₁ a₁ m b =
       let r = b .ready in
       let d = m .go (r .gs) (r .hs) (r .line) (r .state) in
@@ -54,10 +60,12 @@ module _ (k : ℕ) (P W : List ℕ) (s : Agenda) (a : List Entry) (Q : Question)
     records = y .records;
     answer = λ gs hs l x.
         let d = m .go gs hs l x in
-        tallied-same P limit (Q gs hs l) (Sat (d .gs) (d .hs) (d .line)) (outcome L X done) (outcome L₂ X₂ r) (d .same) (y .answer (d .gs) (d .hs) (d .line) (d .state));
+        tallied-same P limit (Q gs hs l) (Sat (d .gs) (d .hs) (d .line)) (outcome L X done) (outcome L₂ X₂ r) (d .same)
+        (y .answer (d .gs) (d .hs) (d .line) (d .state));
   }
 
-  pub searched-failed : (W₁ : List ℕ) → Failed k P W s a Q W₁ → Begins k P W s a limit L X done → Searched k Q P W s a limit L X done W₁ L X done
+  pub searched-failed : (W₁ : List ℕ) → Failed k P W s a Q W₁ → Begins k P W s a limit L X done
+      → Searched k Q P W s a limit L X done W₁ L X done
   searched-failed W₁ d b = record {
     kept = d .kept;
     upto = omega (arith, b .counts .upto);
@@ -70,7 +78,8 @@ module _ (k : ℕ) (P W : List ℕ) (s : Agenda) (a : List Entry) (limit : ℕ) 
   pub begins-open : Begins k P W s a limit L X done → Begins k P W₁ s a limit L X done
   begins-open b = subst (λ (Y : List ℕ). Begins k P Y s a limit L X done) (sym e) b
 
-  pub searched-open : (Q : Question) (W₂ L₂ X₂ : List ℕ) (r : Tally) → Searched k Q P W₁ s a limit L X done W₂ L₂ X₂ r → Searched k Q P W s a limit L X done W₂ L₂ X₂ r
+  pub searched-open : (Q : Question) (W₂ L₂ X₂ : List ℕ) (r : Tally) → Searched k Q P W₁ s a limit L X done W₂ L₂ X₂ r
+      → Searched k Q P W s a limit L X done W₂ L₂ X₂ r
   searched-open Q W₂ L₂ X₂ r y = subst (λ (Y : List ℕ). Searched k Q P Y s a limit L X done W₂ L₂ X₂ r) e y
 
 -- no goal is left
@@ -97,7 +106,8 @@ module _ (P W : List ℕ) (s : Agenda) (a : List Entry) (limit : ℕ) (L X : Lis
     records-few = b .counts .records;
   }
 
-  pub searched-found : (L₁ X₁ : List ℕ) (r : Tally) → s .easy ≡ 0 → s .hard ≡ 0 → Found W a L X done L₁ X₁ r → Searched 0 Sat P W s a limit L X done W L₁ X₁ r
+  pub searched-found : (L₁ X₁ : List ℕ) (r : Tally) → s .easy ≡ 0 → s .hard ≡ 0 → Found W a L X done L₁ X₁ r
+      → Searched 0 Sat P W s a limit L X done W L₁ X₁ r
   searched-found L₁ X₁ r e h f = record {
     kept = refl;
     upto = omega (arith, tally .0, b .counts .upto);
@@ -109,13 +119,15 @@ module _ (P W : List ℕ) (s : Agenda) (a : List Entry) (limit : ℕ) (L X : Lis
         (λ φ v. (λ q. q .2, λ q. (subst (λ js. All js φ) (sym g) tt, subst (λ js. All js φ) (sym k) tt, q)));
   }
     where
-      tally : (r .lines ≡ done .lines + 1) × (r .records ≤ 1280 * r .lines)
-      tally = found-tally W a L X done L₁ X₁ r finds (holds-length W (s .top) a (b .ready .line) (b .ready .state .entries) ∙ b .ready .state .line) f
+      tally : (r .lines ≡ done .lines + 1) × (r .records ≤ lineRecords * r .lines)
+      tally = found-tally W a L X done L₁ X₁ r finds
+          (holds-length W (s .top) a (b .ready .line) (b .ready .state .entries) ∙ b .ready .state .line) f
 
 -- a search may begin where what stands below `top` was kept
 pub begins-kept :
     (k : ℕ) (P W : List ℕ) (s : Agenda) (a : List Entry) (limit : ℕ) (L X : List ℕ) (done : Tally) (W₁ L₁ X₁ : List ℕ) (r : Tally)
-    → take (s .top) W₁ ≡ take (s .top) W → length W₁ ≡ length W → length L₁ ≡ length L → length X₁ ≡ length X → r .lines ≤ limit → r .records ≤ 1280 * r .lines
+    → take (s .top) W₁ ≡ take (s .top) W → length W₁ ≡ length W → length L₁ ≡ length L → length X₁ ≡ length X → r .lines ≤ limit
+    → r .records ≤ lineRecords * r .lines
     → Begins k P W s a limit L X done → Begins k P W₁ s a limit L₁ X₁ r
 begins-kept k P W s a limit L X done W₁ L₁ X₁ r e n m o u w b =
     let y = b .ready .bounds in
@@ -124,7 +136,8 @@ begins-kept k P W s a limit L X done W₁ L₁ X₁ r e n m o u w b =
         gs = b .ready .gs;
         hs = b .ready .hs;
         line = b .ready .line;
-        state = state-kept k P W W₁ s a (b .ready .gs) (b .ready .hs) (b .ready .line) (record { same = e; from = omega (arith, y .whole, y .top); to = omega (arith, y .whole, y .top, n) }) (b .ready .state);
+        state = state-kept k P W W₁ s a (b .ready .gs) (b .ready .hs) (b .ready .line)
+            (record { same = e; from = omega (arith, y .whole, y .top); to = omega (arith, y .whole, y .top, n) }) (b .ready .state);
         bounds = record {
           whole = n ∙ y .whole;
           short = y .short;
@@ -137,25 +150,35 @@ begins-kept k P W s a limit L X done W₁ L₁ X₁ r e n m o u w b =
           hard-even = y .hard-even;
         };
       };
-      counts = record { lines = omega (arith, b .counts .lines); values = omega (arith, b .counts .values); limited = b .counts .limited; upto = u; records = w };
+      counts = record {
+        lines = omega (arith, b .counts .lines);
+        values = omega (arith, b .counts .values);
+        limited = b .counts .limited;
+        upto = u;
+        records = w;
+      };
     }
 
 -- which goal is the first is kept too
 byte-kept : (W : List ℕ) (s : Agenda) (W₁ : List ℕ) (i : ℕ) → i < s .top → take (s .top) W₁ ≡ take (s .top) W → getD W₁ i 0 ≡ getD W i 0
 byte-kept W s W₁ i h e = sym (getD-take (s .top) W₁ i 0 h) ∙ ap (λ (l : List ℕ). getD l i 0) e ∙ getD-take (s .top) W i 0 h
 
-kind-kept : (P W : List ℕ) (s : Agenda) (W₁ : List ℕ) → Bounds P W s → take (s .top) W₁ ≡ take (s .top) W → getD W₁ (s .hard + 1) 0 ≡ getD W (s .hard + 1) 0
+kind-kept : (P W : List ℕ) (s : Agenda) (W₁ : List ℕ) → Bounds P W s → take (s .top) W₁ ≡ take (s .top) W
+    → getD W₁ (s .hard + 1) 0 ≡ getD W (s .hard + 1) 0
 kind-kept P W s W₁ b e = byte-kept W s W₁ (s .hard + 1) (omega (arith, b .hard-room)) e
 
-pub matches-kept : (P W : List ℕ) (s : Agenda) (a : List Entry) (W₁ : List ℕ) → take (s .top) W₁ ≡ take (s .top) W → Ready relinking P W₁ s a → Matches P W s a → Matches P W₁ s a
+pub matches-kept : (P W : List ℕ) (s : Agenda) (a : List Entry) (W₁ : List ℕ) → take (s .top) W₁ ≡ take (s .top) W
+    → Ready relinking P W₁ s a → Matches P W s a → Matches P W₁ s a
 matches-kept P W s a W₁ e r x = record { ready = r; some-hard = x .some-hard; kind = kind-kept P W s W₁ (x .ready .bounds) e ∙ x .kind }
 
 pub counted-kept :
-    (P W : List ℕ) (s : Agenda) (a : List Entry) (W₁ : List ℕ) (w : Ways) → take (s .top) W₁ ≡ take (s .top) W → length W₁ ≡ length W → Bounds P W s
+    (P W : List ℕ) (s : Agenda) (a : List Entry) (W₁ : List ℕ) (w : Ways) → take (s .top) W₁ ≡ take (s .top) W
+    → length W₁ ≡ length W → Bounds P W s
     → Counted P W s a w → Counted P W₁ s a w
 counted-kept P W s a W₁ w e n b c = record {
   ways = λ gs hs l x. c .ways gs hs l (back gs hs l x);
-  argument = subst (λ (i : ℕ). Ends P (4 * i + 4) (w .argument)) (sym (byte-kept W s W₁ (s .hard) (omega (arith, b .hard-room)) e)) (c .argument);
+  argument =
+      subst (λ (i : ℕ). Ends P (4 * i + 4) (w .argument)) (sym (byte-kept W s W₁ (s .hard) (omega (arith, b .hard-room)) e)) (c .argument);
   rigid-argument = c .rigid-argument;
   depths-are = λ gs hs l x. c .depths-are gs hs l (back gs hs l x);
   skeleton-table = c .skeleton-table;
@@ -164,26 +187,36 @@ counted-kept P W s a W₁ w e n b c = record {
 }
   where
     back : (gs hs : List Goal) (l : Line) → State relinking P W₁ s a gs hs l → State relinking P W s a gs hs l
-    back gs hs l = state-kept relinking P W₁ W s a gs hs l (record { same = sym e; from = omega (arith, b .whole, b .top, n); to = omega (arith, b .whole, b .top) })
+    back gs hs l = state-kept relinking P W₁ W s a gs hs l
+        (record { same = sym e; from = omega (arith, b .whole, b .top, n); to = omega (arith, b .whole, b .top) })
 
 pub builds-kept : (P W : List ℕ) (s : Agenda) (W₁ : List ℕ) → Bounds P W s → take (s .top) W₁ ≡ take (s .top) W → Builds W s → Builds W₁ s
-builds-kept P W s W₁ b e x = record { none-easy = x .none-easy; some-hard = x .some-hard; kind = λ q. x .kind (sym (kind-kept P W s W₁ b e) ∙ q) }
+builds-kept P W s W₁ b e x = record {
+  none-easy = x .none-easy;
+  some-hard = x .some-hard;
+  kind = λ q. x .kind (sym (kind-kept P W s W₁ b e) ∙ q);
+}
 
 -- one way after another
 pub record Going
-    (P W : List ℕ) (s : Agenda) (a : List Entry) (limit : ℕ) (L X : List ℕ) (done : Tally) (n i : ℕ) (W₁ L₁ X₁ : List ℕ) (r : Tally) : Type 0 where
+    (P W : List ℕ) (s : Agenda) (a : List Entry) (limit : ℕ) (L X : List ℕ) (done : Tally) (n i : ℕ) (W₁ L₁ X₁ : List ℕ)
+    (r : Tally) : Type 0 where
   pub within : i ≤ n
   pub area : length W₁ ≡ length W
   pub lines : length L₁ ≡ length L
   pub values : length X₁ ≡ length X
   pub kept : take (s .top) W₁ ≡ take (s .top) W
   pub upto : r .lines ≤ suc limit
-  pub records : r .records ≤ 1280 * r .lines
-  pub answer : (gs hs : List Goal) (l : Line) → State relinking P W s a gs hs l → Tallied P (Under (λ j. Way j gs hs l) i) limit (outcome L X done) (outcome L₁ X₁ r)
+  pub records : r .records ≤ lineRecords * r .lines
+  pub answer : (gs hs : List Goal) (l : Line) → State relinking P W s a gs hs l
+      → Tallied P (Under (λ j. Way j gs hs l) i) limit (outcome L X done) (outcome L₁ X₁ r)
 
-module _ (P W : List ℕ) (s : Agenda) (a : List Entry) (limit : ℕ) (L X : List ℕ) (done : Tally) (n : ℕ) (b : Begins relinking P W s a limit L X done) where
+module _ (P W : List ℕ) (s : Agenda) (a : List Entry) (limit : ℕ) (L X : List ℕ) (done : Tally) (n : ℕ)
+    (b : Begins relinking P W s a limit L X done) where
   kept-of : (W₁ : List ℕ) → take (s .top) W₁ ≡ take (s .top) W → length W₁ ≡ length W → Kept W W₁ (s .top)
-  kept-of W₁ e h = let y = b .ready .bounds in record { same = e; from = omega (arith, y .whole, y .top); to = omega (arith, y .whole, y .top) }
+  kept-of W₁ e h =
+      let y = b .ready .bounds in
+      record { same = e; from = omega (arith, y .whole, y .top); to = omega (arith, y .whole, y .top) }
 
   pub going-start : Going P W s a limit L X done n 0 W L X done
   going-start = record {
@@ -194,7 +227,8 @@ module _ (P W : List ℕ) (s : Agenda) (a : List Entry) (limit : ℕ) (L X : Lis
     kept = refl;
     upto = omega (arith, b .counts .upto);
     records = b .counts .records;
-    answer = λ gs hs l x. tallied-none P limit (Under (λ j. Way j gs hs l) 0) (outcome L X done) (b .counts .upto) (λ φ v (i, h, q). omega arith);
+    answer = λ gs hs l x. tallied-none P limit (Under (λ j. Way j gs hs l) 0) (outcome L X done) (b .counts .upto)
+        (λ φ v (i, h, q). omega arith);
   }
 
   module _ (i : ℕ) (W₁ L₁ X₁ : List ℕ) (r : Tally) (g : Going P W s a limit L X done n i W₁ L₁ X₁ r) where
@@ -213,19 +247,22 @@ module _ (P W : List ℕ) (s : Agenda) (a : List Entry) (limit : ℕ) (L X : Lis
       upto = y .upto;
       records = y .records;
       answer = λ gs hs l x.
-          tallied-same P limit (Under (λ j. Way j gs hs l) (i + 1)) (λ φ. Under (λ j. Way j gs hs l) i φ ⊎ Way i gs hs l φ) (outcome L X done) (outcome L₂ X₂ r₂)
+          tallied-same P limit (Under (λ j. Way j gs hs l) (i + 1)) (λ φ. Under (λ j. Way j gs hs l) i φ ⊎ Way i gs hs l φ)
+          (outcome L X done) (outcome L₂ X₂ r₂)
           (λ φ v. (to gs hs l φ, from gs hs l φ))
           (tallied-or P limit (Under (λ j. Way j gs hs l) i) (Way i gs hs l) (outcome L X done) (outcome L₁ X₁ r) (outcome L₂ X₂ r₂)
           (λ φ v (j, u, w) z. omega (arith, ways-apart relinking P W s a gs hs l j i x φ w z)) h (g .answer gs hs l x)
           (y .answer gs hs l (state-kept relinking P W W₁ s a gs hs l (kept-of W₁ (g .kept) (g .area)) x)));
     }
       where
-        to : (gs hs : List Goal) (l : Line) (φ : ℕ → Term) → Under (λ j. Way j gs hs l) (i + 1) φ → Under (λ j. Way j gs hs l) i φ ⊎ Way i gs hs l φ
+        to : (gs hs : List Goal) (l : Line) (φ : ℕ → Term) → Under (λ j. Way j gs hs l) (i + 1) φ
+            → Under (λ j. Way j gs hs l) i φ ⊎ Way i gs hs l φ
         to gs hs l φ (j, u, w) =
             by-dec (λ _. Under (λ j. Way j gs hs l) i φ ⊎ Way i gs hs l φ) (decLt j i) (λ z. inl (j, z, w))
             (λ z. let e : j ≡ i = omega arith in inr (subst (λ z. Way z gs hs l φ) e w))
 
-        from : (gs hs : List Goal) (l : Line) (φ : ℕ → Term) → Under (λ j. Way j gs hs l) i φ ⊎ Way i gs hs l φ → Under (λ j. Way j gs hs l) (i + 1) φ
+        from : (gs hs : List Goal) (l : Line) (φ : ℕ → Term) → Under (λ j. Way j gs hs l) i φ ⊎ Way i gs hs l φ
+            → Under (λ j. Way j gs hs l) (i + 1) φ
         from gs hs l φ (inl (j, u, w)) = (j, omega arith, w)
         from gs hs l φ (inr w) = (i, omega arith, w)
 
@@ -239,7 +276,8 @@ module _ (P W : List ℕ) (s : Agenda) (a : List Entry) (limit : ℕ) (L X : Lis
         answer = λ gs hs l x.
             let e : i ≡ n = omega (arith, g .within) in
             tallied-same P limit (Sat gs hs l) (Under (λ j. Way j gs hs l) i) (outcome L X done) (outcome L₁ X₁ r)
-            (λ φ v. subst (λ z. Sat gs hs l φ ↔ Under (λ j. Way j gs hs l) z φ) (sym e) (ways-all relinking P W s a gs hs l n x (w gs hs l x) φ v)) (g .answer gs hs l x);
+            (λ φ v. subst (λ z. Sat gs hs l φ ↔ Under (λ j. Way j gs hs l) z φ) (sym e)
+            (ways-all relinking P W s a gs hs l n x (w gs hs l x) φ v)) (g .answer gs hs l x);
       }
 
       -- the limit is passed
@@ -249,19 +287,23 @@ module _ (P W : List ℕ) (s : Agenda) (a : List Entry) (limit : ℕ) (L X : Lis
         upto = g .upto;
         records = g .records;
         answer = λ gs hs l x.
-            tallied-same P limit (Sat gs hs l) (λ φ. Under (λ j. Way j gs hs l) i φ ⊎ Over relinking P W s a (λ j. Way j gs hs l) i n φ) (outcome L X done) (outcome L₁ X₁ r)
+            tallied-same P limit (Sat gs hs l) (λ φ. Under (λ j. Way j gs hs l) i φ ⊎ Over relinking P W s a (λ j. Way j gs hs l) i n φ)
+            (outcome L X done) (outcome L₁ X₁ r)
             (λ φ v.
             let p = ways-all relinking P W s a gs hs l n x (w gs hs l x) φ v in
             let q = under-over relinking P W s a gs hs l i n (g .within) φ in
             (λ u. q .0 (p .0 u), λ u. p .1 (q .1 u)))
-            (tallied-stop P limit (Under (λ j. Way j gs hs l) i) (Over relinking P W s a (λ j. Way j gs hs l) i n) (outcome L X done) (outcome L₁ X₁ r)
+            (tallied-stop P limit (Under (λ j. Way j gs hs l) i) (Over relinking P W s a (λ j. Way j gs hs l) i n)
+            (outcome L X done) (outcome L₁ X₁ r)
             (λ φ v (j, u, y) (m, c, d, z). omega (arith, ways-apart relinking P W s a gs hs l j m x φ y z)) h (g .answer gs hs l x)
             (listing-over relinking P W s a gs hs l i n x));
       }
 
 -- one choice after another
-module _ (P W : List ℕ) (s : Agenda) (a : List Entry) (limit : ℕ) (L X : List ℕ) (done : Tally) (c : List ℕ) (j n : ℕ) (z : Choosing P W s a c j n) where
-  pub searched-last : (W₁ L₁ X₁ : List ℕ) (r : Tally) → n ≤ j → Searched relinking (Chosen c) P W s a limit L X done W₁ L₁ X₁ r → Searched relinking (Choices c j) P W s a limit L X done W₁ L₁ X₁ r
+module _ (P W : List ℕ) (s : Agenda) (a : List Entry) (limit : ℕ) (L X : List ℕ) (done : Tally) (c : List ℕ) (j n : ℕ)
+    (z : Choosing P W s a c j n) where
+  pub searched-last : (W₁ L₁ X₁ : List ℕ) (r : Tally) → n ≤ j → Searched relinking (Chosen c) P W s a limit L X done W₁ L₁ X₁ r
+      → Searched relinking (Choices c j) P W s a limit L X done W₁ L₁ X₁ r
   searched-last W₁ L₁ X₁ r h y = record {
     kept = y .kept;
     upto = y .upto;
@@ -282,16 +324,20 @@ module _ (P W : List ℕ) (s : Agenda) (a : List Entry) (limit : ℕ) (L X : Lis
         upto = y .upto;
         records = y .records;
         answer = λ gs hs l x.
-            tallied-same P limit (Choices c j gs hs l) (λ φ. Choices (set c j 1) (j + 1) gs hs l φ ⊎ Choices (set c j 0) (j + 1) gs hs l φ) (outcome L X done) (outcome L₁ X₁ r)
+            tallied-same P limit (Choices c j gs hs l) (λ φ. Choices (set c j 1) (j + 1) gs hs l φ ⊎ Choices (set c j 0) (j + 1) gs hs l φ)
+            (outcome L X done) (outcome L₁ X₁ r)
             (λ φ v. choices-next relinking P W s a c j inside gs hs l n (z .are gs hs l x) φ)
-            (tallied-stop P limit (Choices (set c j 1) (j + 1) gs hs l) (Choices (set c j 0) (j + 1) gs hs l) (outcome L X done) (outcome L₁ X₁ r)
+            (tallied-stop P limit (Choices (set c j 1) (j + 1) gs hs l) (Choices (set c j 0) (j + 1) gs hs l)
+            (outcome L X done) (outcome L₁ X₁ r)
             (λ φ v. choices-apart relinking P W s a c j inside gs hs l n (z .are gs hs l x) h φ) g (y .answer gs hs l x)
             (choices-listing relinking P W s a gs hs l (j + 1) (set c j 0) x));
       }
 
       module _ (b : Begins relinking P W s a limit L X done) (e : length W₁ ≡ length W) (g : r .lines ≤ limit) where
         back : Kept W W₁ (s .top)
-        back = let y₁ = b .ready .bounds in record { same = y .kept; from = omega (arith, y₁ .whole, y₁ .top); to = omega (arith, y₁ .whole, y₁ .top) }
+        back =
+            let y₁ = b .ready .bounds in
+            record { same = y .kept; from = omega (arith, y₁ .whole, y₁ .top); to = omega (arith, y₁ .whole, y₁ .top) }
 
         pub choosing-next : Choosing P W₁ s a (set c j 0) (j + 1) n
         choosing-next = record {
@@ -300,7 +346,8 @@ module _ (P W : List ℕ) (s : Agenda) (a : List Entry) (limit : ℕ) (L X : Lis
           sized = length-set c j 0 ∙ z .sized;
           are = λ gs hs l x.
               let y₁ = b .ready .bounds in
-              z .are gs hs l (state-kept relinking P W₁ W s a gs hs l (record { same = sym (y .kept); from = omega (arith, y₁ .whole, y₁ .top); to = omega (arith, y₁ .whole, y₁ .top) }) x);
+              z .are gs hs l (state-kept relinking P W₁ W s a gs hs l
+              (record { same = sym (y .kept); from = omega (arith, y₁ .whole, y₁ .top); to = omega (arith, y₁ .whole, y₁ .top) }) x);
         }
 
         pub searched-both :
@@ -311,16 +358,19 @@ module _ (P W : List ℕ) (s : Agenda) (a : List Entry) (limit : ℕ) (L X : Lis
           upto = u .upto;
           records = u .records;
           answer = λ gs hs l x.
-              tallied-same P limit (Choices c j gs hs l) (λ φ. Choices (set c j 1) (j + 1) gs hs l φ ⊎ Choices (set c j 0) (j + 1) gs hs l φ) (outcome L X done) (outcome L₂ X₂ r₂)
+              tallied-same P limit (Choices c j gs hs l)
+              (λ φ. Choices (set c j 1) (j + 1) gs hs l φ ⊎ Choices (set c j 0) (j + 1) gs hs l φ) (outcome L X done) (outcome L₂ X₂ r₂)
               (λ φ v. choices-next relinking P W s a c j inside gs hs l n (z .are gs hs l x) φ)
-              (tallied-or P limit (Choices (set c j 1) (j + 1) gs hs l) (Choices (set c j 0) (j + 1) gs hs l) (outcome L X done) (outcome L₁ X₁ r) (outcome L₂ X₂ r₂)
+              (tallied-or P limit (Choices (set c j 1) (j + 1) gs hs l) (Choices (set c j 0) (j + 1) gs hs l) (outcome L X done)
+              (outcome L₁ X₁ r) (outcome L₂ X₂ r₂)
               (λ φ v. choices-apart relinking P W s a c j inside gs hs l n (z .are gs hs l x) h φ) g (y .answer gs hs l x)
               (u .answer gs hs l (state-kept relinking P W W₁ s a gs hs l back x)));
         }
 
 -- all bodies
 searched-bodies :
-    (P W : List ℕ) (s : Agenda) (a : List Entry) (limit : ℕ) (L X : List ℕ) (done : Tally) (c : List ℕ) (n : ℕ) (W₁ L₁ X₁ : List ℕ) (r : Tally)
+    (P W : List ℕ) (s : Agenda) (a : List Entry) (limit : ℕ) (L X : List ℕ) (done : Tally) (c : List ℕ) (n : ℕ)
+    (W₁ L₁ X₁ : List ℕ) (r : Tally)
     → ((gs hs : List Goal) (l : Line) → State relinking P W s a gs hs l → Copies n hs)
     → Searched relinking (Choices c 0) P W s a limit L X done W₁ L₁ X₁ r → Searched relinking Sat P W s a limit L X done W₁ L₁ X₁ r
 searched-bodies P W s a limit L X done c n W₁ L₁ X₁ r w y = record {
@@ -334,21 +384,26 @@ searched-bodies P W s a limit L X done c n W₁ L₁ X₁ r w y = record {
 
 -- a plan that leaves the work area as it was
 pub planned-begins :
-    (P W : List ℕ) (s : Agenda) (a : List Entry) (limit : ℕ) (L X : List ℕ) (done : Tally) (n : ℕ) (W₁ c : List ℕ) → W₁ ≡ W → Begins relinking P W s a limit L X done → Builds W s
-    → n ≤ figures.valueRecords → length c ≡ figures.valueRecords → ((gs hs : List Goal) (l : Line) → State relinking P W s a gs hs l → Copies n hs)
+    (P W : List ℕ) (s : Agenda) (a : List Entry) (limit : ℕ) (L X : List ℕ) (done : Tally) (n : ℕ) (W₁ c : List ℕ) → W₁ ≡ W
+    → Begins relinking P W s a limit L X done → Builds W s
+    → n ≤ figures.valueRecords → length c ≡ figures.valueRecords
+    → ((gs hs : List Goal) (l : Line) → State relinking P W s a gs hs l → Copies n hs)
     → Begins relinking P W₁ s a limit L X done × Builds W₁ s × Choosing P W₁ s a c 0 n
 planned-begins P W s a limit L X done n W₁ c e b x m q w =
-    subst (λ (Y : List ℕ). Begins relinking P Y s a limit L X done × Builds Y s × Choosing P Y s a c 0 n) (sym e) (b, x, record { upto = omega arith; most = m; sized = q; are = w })
+    subst (λ (Y : List ℕ). Begins relinking P Y s a limit L X done × Builds Y s × Choosing P Y s a c 0 n) (sym e)
+    (b, x, record { upto = omega arith; most = m; sized = q; are = w })
 
 pub planned-searched :
-    (P W : List ℕ) (s : Agenda) (a : List Entry) (limit : ℕ) (L X : List ℕ) (done : Tally) (c : List ℕ) (n : ℕ) (W₁ W₂ L₂ X₂ : List ℕ) (r : Tally) → W₁ ≡ W
+    (P W : List ℕ) (s : Agenda) (a : List Entry) (limit : ℕ) (L X : List ℕ) (done : Tally) (c : List ℕ) (n : ℕ) (W₁ W₂ L₂ X₂ : List ℕ)
+    (r : Tally) → W₁ ≡ W
     → ((gs hs : List Goal) (l : Line) → State relinking P W s a gs hs l → Copies n hs)
     → Searched relinking (Choices c 0) P W₁ s a limit L X done W₂ L₂ X₂ r → Searched relinking Sat P W s a limit L X done W₂ L₂ X₂ r
 planned-searched P W s a limit L X done c n W₁ W₂ L₂ X₂ r e w y =
     searched-bodies P W s a limit L X done c n W₂ L₂ X₂ r w (searched-open relinking P W s a limit L X done W₁ e (Choices c 0) W₂ L₂ X₂ r y)
 
 -- another goal first
-module _ (P W : List ℕ) (s : Agenda) (a : List Entry) (limit : ℕ) (L X : List ℕ) (done : Tally) (W₁ : List ℕ) (s₁ : Agenda) (f : Forwarded P W s a W₁ s₁) where
+module _ (P W : List ℕ) (s : Agenda) (a : List Entry) (limit : ℕ) (L X : List ℕ) (done : Tally) (W₁ : List ℕ) (s₁ : Agenda)
+    (f : Forwarded P W s a W₁ s₁) where
   pub begins-forwarded : Begins 0 P W s a limit L X done → Begins relinking P W₁ s₁ a limit L X done
   begins-forwarded b =
       let r = b .ready in
@@ -356,12 +411,14 @@ module _ (P W : List ℕ) (s : Agenda) (a : List Entry) (limit : ℕ) (L X : Lis
       record { ready = record { gs = d .gs; hs = d .hs; line = d .line; state = d .state; bounds = f .bounds }; counts = b .counts }
 
   pub searched-forwarded :
-      (W₂ L₂ X₂ : List ℕ) (r : Tally) → Searched relinking Sat P W₁ s₁ a limit L X done W₂ L₂ X₂ r → Searched 0 Sat P W s a limit L X done W₂ L₂ X₂ r
+      (W₂ L₂ X₂ : List ℕ) (r : Tally) → Searched relinking Sat P W₁ s₁ a limit L X done W₂ L₂ X₂ r
+      → Searched 0 Sat P W s a limit L X done W₂ L₂ X₂ r
   searched-forwarded W₂ L₂ X₂ r y = record {
     kept = kept-below W W₁ W₂ (s .top) (s₁ .top) (f .higher) (y .kept) (f .kept);
     upto = y .upto;
     records = y .records;
     answer = λ gs hs l x.
         let d = f .go gs hs l x in
-        tallied-same P limit (Sat gs hs l) (Sat (d .gs) (d .hs) (d .line)) (outcome L X done) (outcome L₂ X₂ r) (d .same) (y .answer (d .gs) (d .hs) (d .line) (d .state));
+        tallied-same P limit (Sat gs hs l) (Sat (d .gs) (d .hs) (d .line)) (outcome L X done) (outcome L₂ X₂ r) (d .same)
+        (y .answer (d .gs) (d .hs) (d .line) (d .state));
   }

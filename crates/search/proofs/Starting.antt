@@ -19,7 +19,8 @@ use Rattle.records.specs.Parts.{Part}
 use Rattle.records.proofs.Parts.{part}
 use Rattle.assignments.specs.declared.Entry.the-variants.{Open}
 use Rattle.listing.specs.declared.Tally.{Tally}
-use Rattle.listing.specs.Outcome.{Holds, outcome}
+use Rattle.assignments.specs.Held.{Holds}
+use Rattle.listing.specs.Outcome.{outcome}
 use Rattle.agenda.specs.declared.Agenda.{Agenda}
 use Rattle.agenda.specs.declared.Item.{Item}
 use Rattle.agenda.specs.Items.{itemBytes}
@@ -42,7 +43,8 @@ start n = record { top = n + 8; easy = n; hard = 0 }
 abbrev pub first : Item
 first = record { part = 0; kind = 0; target = 0; next = 0; argument = 0 }
 
-module _ (p t : List ℕ) (limit : ℕ) (L X W : List ℕ) (c : Collects p t limit L X W) (W₁ W₂ : List ℕ) (e₁ : W₁ ≡ sets W 0 t) (e₂ : W₂ ≡ sets W₁ (length t) (itemBytes first)) where
+module _ (p t : List ℕ) (limit : ℕ) (L X W : List ℕ) (c : Collects p t limit L X W) (W₁ W₂ : List ℕ) (e₁ : W₁ ≡ sets W 0 t)
+    (e₂ : W₂ ≡ sets W₁ (length t) (itemBytes first)) where
   recipe-length : length t ≡ 4 * size (c .recipe .tree)
   recipe-length = ap length (c .recipe .table .0) ∙ encode-length (c .recipe .tree)
 
@@ -67,7 +69,9 @@ module _ (p t : List ℕ) (limit : ℕ) (L X W : List ℕ) (c : Collects p t lim
 
     stands : Part W₂ 0 y
     stands =
-        part-kept W₁ W₂ (length t) (kept-sets (itemBytes first) W₁ W₂ (length t) (length t) e₂ (omega arith) (omega (arith, area, y-length, short))) 0 y (omega (arith, y-length))
+        part-kept W₁ W₂ (length t)
+        (kept-sets (itemBytes first) W₁ W₂ (length t) (length t) e₂ (omega arith) (omega (arith, area, y-length, short))) 0 y
+        (omega (arith, y-length))
         (subst (λ (l : List ℕ). Part l 0 y) (sym (e₁ ∙ ap (sets W 0) t-is)) (part-stored y W 0 (omega (arith, c .area, short))))
 
     target : Target W₂ (length t + 8) (size x) 0 y
@@ -85,9 +89,12 @@ module _ (p t : List ℕ) (limit : ℕ) (L X W : List ℕ) (c : Collects p t lim
     state = record {
       easy =
           chain-match Easy p W₂ (length t + 8) (length t) first
-          (item-stored W₁ W₂ (length t) first e₂ (omega (arith, area, y-length, short)) refl refl refl refl) (omega (arith, y-length, stands .some)) (omega arith) (omega (arith, y-length)) (omega (arith, y-length, stands .some))
-          x y [] refl tt (part p 0 x [] (p-is ∙ sym (append-nil (encode x)))) target
-          ((subst (Below variables) x-is (c .pattern .below), λ i o. (x, (p-is, subst (Closed 0) x-is (c .pattern .table .1)), o)), subst Normal y-is (c .recipe .normal)) refl;
+          (item-stored W₁ W₂ (length t) first e₂ (omega (arith, area, y-length, short)) refl refl refl refl)
+          (omega (arith, y-length, stands .some)) (omega arith) (omega (arith, y-length)) (omega (arith, y-length, stands .some))
+          x y [] refl tt (part p 0 x [] (p-is ∙ sym (append-nil (encode x)))) target (
+            (subst (Below variables) x-is (c .pattern .below), λ i o. (x, (p-is, subst (Closed 0) x-is (c .pattern .table .1)), o)),
+            subst Normal y-is (c .recipe .normal),
+          ) refl;
       hard = refl;
       entries = holds-open W₂ (length t + 8) variables;
       line = length-blank variables;
@@ -124,5 +131,6 @@ module _ (p t : List ℕ) (limit : ℕ) (L X W : List ℕ) (c : Collects p t lim
     counts = record { lines = c .lines; values = c .values; limited = c .limited; upto = omega arith; records = omega arith };
   }
 
-  pub answers : (W₃ L₃ X₃ : List ℕ) (r : Tally) → Searched 0 Sat p W₂ (start (length t)) (replicate variables Open) limit L X nothing W₃ L₃ X₃ r → Collected p t limit L X L₃ X₃ r
+  pub answers : (W₃ L₃ X₃ : List ℕ) (r : Tally)
+      → Searched 0 Sat p W₂ (start (length t)) (replicate variables Open) limit L X nothing W₃ L₃ X₃ r → Collected p t limit L X L₃ X₃ r
   answers W₃ L₃ X₃ r z = record { answer = λ x y u v. collected x y u v W₃ L₃ X₃ r z }

@@ -15,8 +15,9 @@ use Rattle.agenda.specs.declared.Branch.{Branch}
 use Rattle.agenda.specs.declared.Decision.{Decision}
 use Rattle.agenda.specs.declared.Plan.{Plan}
 use Rattle.agenda.specs.State.{State, Sat, relinking}
-use Rattle.agenda.specs.Moves.{Question, Move, Failed, Stepped, Branched, Decided}
-use Rattle.agenda.specs.Branches.{Copies, Planned}
+use Rattle.agenda.specs.Moves.{Question, Move, Failed, Branched, Decided}
+use Rattle.steps.specs.Steps.{Stepped}
+use Rattle.builds.specs.Choices.{Copies, Planned}
 
 module _ (P W : List ℕ) (s : Agenda) (a : List Entry) (W₁ : List ℕ) where
   module _ (r : Step) (x : Stepped P W s a W₁ r) where
@@ -26,7 +27,8 @@ module _ (P W : List ℕ) (s : Agenda) (a : List Entry) (W₁ : List ℕ) where
     pub stepped-left : (s₁ : Agenda) → r ≡ Step.Left s₁ → Move 0 P W s a Sat W₁ s₁ a
     stepped-left s₁ e = unfold Stepped in subst (Stepped P W s a W₁) e x
 
-    pub stepped-assign : (b : Binding) → r ≡ Step.Assign b → (b .variable < variables) × Move 0 P W s a Sat W₁ (b .agenda) (set a (b .variable) (Assigned (b .span)))
+    pub stepped-assign : (b : Binding) → r ≡ Step.Assign b
+        → (b .variable < variables) × Move 0 P W s a Sat W₁ (b .agenda) (set a (b .variable) (Assigned (b .span)))
     stepped-assign b e = unfold Stepped in subst (Stepped P W s a W₁) e x
 
   module _ (Q : Question) (r : Branch) (x : Branched P W s a Q W₁ r) where
@@ -53,5 +55,6 @@ module _ (P W : List ℕ) (s : Agenda) (a : List Entry) (W₁ : List ℕ) where
     pub planned-next : (s₁ : Agenda) → r ≡ Plan.Next s₁ → Move relinking P W s a Sat W₁ s₁ a
     planned-next s₁ e = unfold Planned in subst (Planned P W s a W₁) e x
 
-    pub planned-bodies : (n : ℕ) → r ≡ Plan.Bodies n → (W₁ ≡ W) × (n ≤ valueRecords) × ((gs hs : List Goal) (l : Line) → State relinking P W s a gs hs l → Copies n hs)
+    pub planned-bodies : (n : ℕ) → r ≡ Plan.Bodies n
+        → (W₁ ≡ W) × (n ≤ valueRecords) × ((gs hs : List Goal) (l : Line) → State relinking P W s a gs hs l → Copies n hs)
     planned-bodies n e = unfold Planned in subst (Planned P W s a W₁) e x

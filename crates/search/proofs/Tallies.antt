@@ -19,8 +19,14 @@ use Rattle.listing.proofs.Stores.{stores-append, store-count, stores-count}
 use Rattle.search.specs.Collected.{Tallied}
 
 module _ (P : List ℕ) (limit : ℕ) where
-  pub tallied-same : (Q R : Predicate) (x y : Outcome) → ((φ : ℕ → Term) → Values φ → Q φ ↔ R φ) → Tallied P R limit x y → Tallied P Q limit x y
-  tallied-same Q R x y e t = record { lines = t .lines; lists = lists-same variables (OccursIn P) Q R (t .lines) e (t .lists); exact = t .exact; over = t .over }
+  pub tallied-same : (Q R : Predicate) (x y : Outcome) → ((φ : ℕ → Term) → Values φ → Q φ ↔ R φ) → Tallied P R limit x y
+      → Tallied P Q limit x y
+  tallied-same Q R x y e t = record {
+    lines = t .lines;
+    lists = lists-same variables (OccursIn P) Q R (t .lines) e (t .lists);
+    exact = t .exact;
+    over = t .over;
+  }
 
   -- no assignment: nothing changes
   pub tallied-none : (Q : Predicate) (x : Outcome) → x .count ≤ limit → ((φ : ℕ → Term) → Values φ → ¬ Q φ) → Tallied P Q limit x x
@@ -45,7 +51,8 @@ module _ (P : List ℕ) (limit : ℕ) where
     lines = t .lines ++ u .lines;
     lists = lists-or variables (OccursIn P) Q R (t .lines) (u .lines) apart (t .lists) (u .lists);
     exact = λ g. u .exact g ∙ ap (λ (o : Outcome). stores o (u .lines)) (t .exact h) ∙ sym (stores-append x (t .lines) (u .lines));
-    over = λ g. omega (arith, u .over g, ap (λ (o : Outcome). o .count) (t .exact h), stores-count x (t .lines), length-append (t .lines) (u .lines));
+    over = λ g. omega
+        (arith, u .over g, ap (λ (o : Outcome). o .count) (t .exact h), stores-count x (t .lines), length-append (t .lines) (u .lines));
   }
 
   -- a search that stopped

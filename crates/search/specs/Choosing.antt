@@ -10,7 +10,7 @@ use Rattle.matching.proofs.Goals.{Goal}
 use Rattle.assignments.specs.declared.Entry.{Entry}
 use Rattle.agenda.specs.declared.Agenda.{Agenda}
 use Rattle.agenda.specs.State.{State, relinking}
-use Rattle.agenda.specs.Branches.{Copies}
+use Rattle.builds.specs.Choices.{Copies}
 
 pub record Choosing (P W : List ℕ) (s : Agenda) (a : List Entry) (c : List ℕ) (k n : ℕ) : Type 0 where
   pub upto : k ≤ n

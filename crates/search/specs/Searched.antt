@@ -11,7 +11,7 @@ use Rattle.terms.specs.Listing.{Line}
 use Rattle.matching.proofs.Goals.{Goal}
 use Rattle.assignments.specs.declared.Entry.{Entry}
 use Rattle.listing.specs.declared.Tally.{Tally}
-use Rattle.listing.specs.Outcome.{outcome}
+use Rattle.listing.specs.Outcome.{lineRecords, outcome}
 use Rattle.agenda.specs.declared.Agenda.{Agenda}
 use Rattle.agenda.specs.State.{State, Ready}
 use Rattle.agenda.specs.Moves.{Question}
@@ -23,15 +23,16 @@ pub record Counts (limit : ℕ) (L X : List ℕ) (t : Tally) : Type 0 where
   pub values : length X ≤ tableBytes
   pub limited : limit < tableBytes
   pub upto : t .lines ≤ limit
-  pub records : t .records ≤ 1280 * t .lines
+  pub records : t .records ≤ lineRecords * t .lines
 
 pub record Begins (k : ℕ) (P W : List ℕ) (s : Agenda) (a : List Entry) (limit : ℕ) (L X : List ℕ) (done : Tally) : Type 0 where
   pub ready : Ready k P W s a
   pub counts : Counts limit L X done
 
 -- what stands below the first free byte stays, so that the next search can begin there
-pub record Searched (k : ℕ) (Q : Question) (P W : List ℕ) (s : Agenda) (a : List Entry) (limit : ℕ) (L X : List ℕ) (done : Tally) (W′ L′ X′ : List ℕ) (r : Tally) : Type 0 where
+pub record Searched (k : ℕ) (Q : Question) (P W : List ℕ) (s : Agenda) (a : List Entry) (limit : ℕ) (L X : List ℕ) (done : Tally)
+    (W′ L′ X′ : List ℕ) (r : Tally) : Type 0 where
   pub kept : take (s .top) W′ ≡ take (s .top) W
   pub upto : r .lines ≤ suc limit
-  pub records : r .records ≤ 1280 * r .lines
+  pub records : r .records ≤ lineRecords * r .lines
   pub answer : (gs hs : List Goal) (l : Line) → State k P W s a gs hs l → Tallied P (Q gs hs l) limit (outcome L X done) (outcome L′ X′ r)

@@ -1,12 +1,12 @@
 // The search: every match of a pattern and a recipe, line by line.
 //
-// Easy goals are taken first. When none is left, two goals put off that give the value of their variable become one easy goal. When there are
-// no such two, the cheapest of those put off is taken: what is known of its part decides it, or an application is taken in each of its
-// ways in turn, a goal to build with each choice among the copies of its argument. The functions call each other in one cycle; each call finds
-// less room above the agenda, or an earlier goal at its head, so that the search ends. The crate promises that the lines it has found are
-// exactly the lines of some list that is sound, covers every assignment and names each once, for these goals and these entries, stored one
-// after the other; or that such a list has more lines than the limit. It rests on `agenda` for single steps and on `listing` for what becomes
-// of a found line.
+// Easy goals are taken first. When none is left, two goals put off that give the value of their variable become one easy goal. When there
+// are no such two, the cheapest of those put off is taken: what is known of its part decides it, or an application is taken in each of its
+// ways in turn, a goal to build with each choice among the copies of its argument. The functions call each other in one cycle; each call
+// finds less room above the agenda, or an earlier goal at its head, so that the search ends. The crate promises that the lines it has found
+// are exactly the lines of some list that is sound, covers every assignment and names each once, for these goals and these entries, stored
+// one after the other; or that such a list has more lines than the limit. It rests on `agenda` for single steps and on `listing` for what
+// becomes of a found line.
 
 use agenda::Agenda;
 use agenda::Branch;
@@ -19,12 +19,14 @@ use agenda::Ways;
 use assignments::Entry;
 use listing::Tally;
 use records::VALUE_RECORDS;
+use records::VARIABLES;
 ghost use mathlib.Core.Path.{_≡_};
 ghost use Prim.Native.Nat.{_<_};
 ghost use Rattle.agenda.specs.State.{Sat, relinking};
-ghost use Rattle.agenda.specs.Branches.{Way, Choices, Chosen};
-ghost use Rattle.agenda.specs.Applications.{Matches, Counted};
-ghost use Rattle.agenda.specs.Builds.{Builds};
+ghost use Rattle.alternatives.specs.Ways.{Way};
+ghost use Rattle.builds.specs.Choices.{Choices, Chosen};
+ghost use Rattle.alternatives.specs.Applications.{Matches, Counted};
+ghost use Rattle.builds.specs.Builds.{Builds};
 ghost use Rattle.search.specs.Collected.{Collects, Collected};
 ghost use Rattle.search.specs.Searched.{Begins, Searched};
 ghost use Rattle.search.specs.Choosing.{Choosing};
@@ -34,16 +36,17 @@ fn advance(
     p: &[u8],
     work: &mut [u8],
     s: Agenda,
-    a: [Entry; 8],
+    a: [Entry; VARIABLES],
     limit: usize,
     lines: &mut [u8],
     values: &mut [u8],
     done: Tally,
 ) -> Tally
     requires { ⌜ Begins 0 (now p) (now work) s a limit (now lines) (now values) done × (0 < s .easy) ⌝ }
-    ensures { λ r. ⌜ Searched 0 Sat (now (p .entry)) (now (work .entry)) s a limit (now (lines .entry)) (now (values .entry)) done (now (work .exit)) (now (lines .exit)) (now (values .exit)) r ⌝ }
+    ensures { λ r. ⌜ Searched 0 Sat (now (p .entry)) (now (work .entry)) s a limit (now (lines .entry)) (now (values .entry)) done
+        (now (work .exit)) (now (lines .exit)) (now (values .exit)) r ⌝ }
 {
-    let taken = agenda::steps::step(p, work, s, a);
+    let taken = steps::step(p, work, s, a);
     match taken {
         Step::Failed => {
             return done;
@@ -67,7 +70,7 @@ fn attempt(
     p: &[u8],
     work: &mut [u8],
     s: Agenda,
-    a: [Entry; 8],
+    a: [Entry; VARIABLES],
     i: usize,
     w: Ways,
     limit: usize,
@@ -75,10 +78,12 @@ fn attempt(
     values: &mut [u8],
     done: Tally,
 ) -> Tally
-    requires { ⌜ Begins relinking (now p) (now work) s a limit (now lines) (now values) done × Matches (now p) (now work) s a × Counted (now p) (now work) s a w × (i < w .count) ⌝ }
-    ensures { λ r. ⌜ Searched relinking (Way i) (now (p .entry)) (now (work .entry)) s a limit (now (lines .entry)) (now (values .entry)) done (now (work .exit)) (now (lines .exit)) (now (values .exit)) r ⌝ }
+    requires { ⌜ Begins relinking (now p) (now work) s a limit (now lines) (now values) done × Matches (now p) (now work) s a
+        × Counted (now p) (now work) s a w × (i < w .count) ⌝ }
+    ensures { λ r. ⌜ Searched relinking (Way i) (now (p .entry)) (now (work .entry)) s a limit (now (lines .entry)) (now (values .entry))
+        done (now (work .exit)) (now (lines .exit)) (now (values .exit)) r ⌝ }
 {
-    let taken = agenda::alternatives::way(p, work, s, a, i, w);
+    let taken = alternatives::way(p, work, s, a, i, w);
     let Branch::Next(next) = taken else {
         return done;
     };
@@ -90,16 +95,17 @@ fn flexible(
     p: &[u8],
     work: &mut [u8],
     s: Agenda,
-    a: [Entry; 8],
+    a: [Entry; VARIABLES],
     limit: usize,
     lines: &mut [u8],
     values: &mut [u8],
     done: Tally,
 ) -> Tally
     requires { ⌜ Begins relinking (now p) (now work) s a limit (now lines) (now values) done × Matches (now p) (now work) s a ⌝ }
-    ensures { λ r. ⌜ Searched relinking Sat (now (p .entry)) (now (work .entry)) s a limit (now (lines .entry)) (now (values .entry)) done (now (work .exit)) (now (lines .exit)) (now (values .exit)) r ⌝ }
+    ensures { λ r. ⌜ Searched relinking Sat (now (p .entry)) (now (work .entry)) s a limit (now (lines .entry)) (now (values .entry)) done
+        (now (work .exit)) (now (lines .exit)) (now (values .exit)) r ⌝ }
 {
-    let w = agenda::alternatives::ways(p, work, s, a);
+    let w = alternatives::ways(p, work, s, a);
     let mut found = done;
     let mut i = 0;
     while i < w.count {
@@ -117,7 +123,7 @@ fn attempt_body(
     p: &[u8],
     work: &mut [u8],
     s: Agenda,
-    a: [Entry; 8],
+    a: [Entry; VARIABLES],
     chosen: [u8; VALUE_RECORDS],
     limit: usize,
     lines: &mut [u8],
@@ -125,9 +131,10 @@ fn attempt_body(
     done: Tally,
 ) -> Tally
     requires { ⌜ Begins relinking (now p) (now work) s a limit (now lines) (now values) done × Builds (now work) s ⌝ }
-    ensures { λ r. ⌜ Searched relinking (Chosen chosen) (now (p .entry)) (now (work .entry)) s a limit (now (lines .entry)) (now (values .entry)) done (now (work .exit)) (now (lines .exit)) (now (values .exit)) r ⌝ }
+    ensures { λ r. ⌜ Searched relinking (Chosen chosen) (now (p .entry)) (now (work .entry)) s a limit (now (lines .entry))
+        (now (values .entry)) done (now (work .exit)) (now (lines .exit)) (now (values .exit)) r ⌝ }
 {
-    let taken = agenda::builds::body(p, work, s, a, chosen);
+    let taken = builds::body(p, work, s, a, chosen);
     let Branch::Next(next) = taken else {
         return done;
     };
@@ -139,7 +146,7 @@ fn bodies(
     p: &[u8],
     work: &mut [u8],
     s: Agenda,
-    a: [Entry; 8],
+    a: [Entry; VARIABLES],
     chosen: [u8; VALUE_RECORDS],
     k: usize,
     n: usize,
@@ -148,8 +155,10 @@ fn bodies(
     values: &mut [u8],
     done: Tally,
 ) -> Tally
-    requires { ⌜ Begins relinking (now p) (now work) s a limit (now lines) (now values) done × Builds (now work) s × Choosing (now p) (now work) s a chosen k n ⌝ }
-    ensures { λ r. ⌜ Searched relinking (Choices chosen k) (now (p .entry)) (now (work .entry)) s a limit (now (lines .entry)) (now (values .entry)) done (now (work .exit)) (now (lines .exit)) (now (values .exit)) r ⌝ }
+    requires { ⌜ Begins relinking (now p) (now work) s a limit (now lines) (now values) done × Builds (now work) s
+        × Choosing (now p) (now work) s a chosen k n ⌝ }
+    ensures { λ r. ⌜ Searched relinking (Choices chosen k) (now (p .entry)) (now (work .entry)) s a limit (now (lines .entry))
+        (now (values .entry)) done (now (work .exit)) (now (lines .exit)) (now (values .exit)) r ⌝ }
 {
     if n <= k {
         return attempt_body(p, work, s, a, chosen, limit, lines, values, done);
@@ -182,16 +191,17 @@ fn build(
     p: &[u8],
     work: &mut [u8],
     s: Agenda,
-    a: [Entry; 8],
+    a: [Entry; VARIABLES],
     limit: usize,
     lines: &mut [u8],
     values: &mut [u8],
     done: Tally,
 ) -> Tally
     requires { ⌜ Begins relinking (now p) (now work) s a limit (now lines) (now values) done × Builds (now work) s ⌝ }
-    ensures { λ r. ⌜ Searched relinking Sat (now (p .entry)) (now (work .entry)) s a limit (now (lines .entry)) (now (values .entry)) done (now (work .exit)) (now (lines .exit)) (now (values .exit)) r ⌝ }
+    ensures { λ r. ⌜ Searched relinking Sat (now (p .entry)) (now (work .entry)) s a limit (now (lines .entry)) (now (values .entry)) done
+        (now (work .exit)) (now (lines .exit)) (now (values .exit)) r ⌝ }
 {
-    let planned = agenda::builds::plan(p, work, s, a);
+    let planned = builds::plan(p, work, s, a);
     match planned {
         Plan::Failed => {
             return done;
@@ -211,14 +221,15 @@ fn branch(
     p: &[u8],
     work: &mut [u8],
     s: Agenda,
-    a: [Entry; 8],
+    a: [Entry; VARIABLES],
     limit: usize,
     lines: &mut [u8],
     values: &mut [u8],
     done: Tally,
 ) -> Tally
     requires { ⌜ Begins relinking (now p) (now work) s a limit (now lines) (now values) done × (s .easy ≡ 0) × (0 < s .hard) ⌝ }
-    ensures { λ r. ⌜ Searched relinking Sat (now (p .entry)) (now (work .entry)) s a limit (now (lines .entry)) (now (values .entry)) done (now (work .exit)) (now (lines .exit)) (now (values .exit)) r ⌝ }
+    ensures { λ r. ⌜ Searched relinking Sat (now (p .entry)) (now (work .entry)) s a limit (now (lines .entry)) (now (values .entry)) done
+        (now (work .exit)) (now (lines .exit)) (now (values .exit)) r ⌝ }
 {
     let first = s.hard;
     if work[first + 1] == Item::MATCH {
@@ -232,17 +243,18 @@ fn cheapest(
     p: &[u8],
     work: &mut [u8],
     s: Agenda,
-    a: [Entry; 8],
+    a: [Entry; VARIABLES],
     limit: usize,
     lines: &mut [u8],
     values: &mut [u8],
     done: Tally,
 ) -> Tally
     requires { ⌜ Begins 0 (now p) (now work) s a limit (now lines) (now values) done × (s .easy ≡ 0) × (0 < s .hard) ⌝ }
-    ensures { λ r. ⌜ Searched 0 Sat (now (p .entry)) (now (work .entry)) s a limit (now (lines .entry)) (now (values .entry)) done (now (work .exit)) (now (lines .exit)) (now (values .exit)) r ⌝ }
+    ensures { λ r. ⌜ Searched 0 Sat (now (p .entry)) (now (work .entry)) s a limit (now (lines .entry)) (now (values .entry)) done
+        (now (work .exit)) (now (lines .exit)) (now (values .exit)) r ⌝ }
 {
-    let t = agenda::order::bring_forward(p, work, s, a);
-    let decided = agenda::ground::decide(p, work, t, a);
+    let t = ordering::order::bring_forward(p, work, s, a);
+    let decided = builds::ground::decide(p, work, t, a);
     match decided {
         Decision::Failed => {
             return done;
@@ -261,16 +273,17 @@ fn postponed(
     p: &[u8],
     work: &mut [u8],
     s: Agenda,
-    a: [Entry; 8],
+    a: [Entry; VARIABLES],
     limit: usize,
     lines: &mut [u8],
     values: &mut [u8],
     done: Tally,
 ) -> Tally
     requires { ⌜ Begins 0 (now p) (now work) s a limit (now lines) (now values) done × (s .easy ≡ 0) × (0 < s .hard) ⌝ }
-    ensures { λ r. ⌜ Searched 0 Sat (now (p .entry)) (now (work .entry)) s a limit (now (lines .entry)) (now (values .entry)) done (now (work .exit)) (now (lines .exit)) (now (values .exit)) r ⌝ }
+    ensures { λ r. ⌜ Searched 0 Sat (now (p .entry)) (now (work .entry)) s a limit (now (lines .entry)) (now (values .entry)) done
+        (now (work .exit)) (now (lines .exit)) (now (values .exit)) r ⌝ }
 {
-    let forced = agenda::repeated::force(p, work, s, a);
+    let forced = ordering::repeated::force(p, work, s, a);
     match forced {
         Decision::Failed => {
             return done;
@@ -289,14 +302,15 @@ pub fn search(
     p: &[u8],
     work: &mut [u8],
     s: Agenda,
-    a: [Entry; 8],
+    a: [Entry; VARIABLES],
     limit: usize,
     lines: &mut [u8],
     values: &mut [u8],
     done: Tally,
 ) -> Tally
     requires { ⌜ Begins 0 (now p) (now work) s a limit (now lines) (now values) done ⌝ }
-    ensures { λ r. ⌜ Searched 0 Sat (now (p .entry)) (now (work .entry)) s a limit (now (lines .entry)) (now (values .entry)) done (now (work .exit)) (now (lines .exit)) (now (values .exit)) r ⌝ }
+    ensures { λ r. ⌜ Searched 0 Sat (now (p .entry)) (now (work .entry)) s a limit (now (lines .entry)) (now (values .entry)) done
+        (now (work .exit)) (now (lines .exit)) (now (values .exit)) r ⌝ }
 {
     if s.easy != 0 {
         return advance(p, work, s, a, limit, lines, values, done);
@@ -317,9 +331,10 @@ pub fn collect(
     work: &mut [u8],
 ) -> Tally
     requires { ⌜ Collects (now p) (now t) limit (now lines) (now values) (now work) ⌝ }
-    ensures { λ r. ⌜ Collected (now (p .entry)) (now (t .entry)) limit (now (lines .entry)) (now (values .entry)) (now (lines .exit)) (now (values .exit)) r ⌝ }
+    ensures { λ r. ⌜ Collected (now (p .entry)) (now (t .entry)) limit (now (lines .entry)) (now (values .entry)) (now (lines .exit))
+        (now (values .exit)) r ⌝ }
 {
-    sweeping::copy_into(t, work, 0);
+    copying::copy_into(t, work, 0);
     let first = t.len();
     let item = Item {
         part: 0,
@@ -334,7 +349,7 @@ pub fn collect(
         easy: first,
         hard: 0,
     };
-    let open = [Entry::Open; 8];
+    let open = [Entry::Open; VARIABLES];
     let none = Tally {
         lines: 0,
         records: 0,

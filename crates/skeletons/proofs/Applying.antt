@@ -1,5 +1,5 @@
--- A skeleton applied to a term: an abstraction that fits the skeleton comes, with the term put in, to what fits the applied skeleton. By the
--- law of fitting for applications, as every term fits itself. Assumes nothing.
+-- A skeleton applied to a term: an abstraction that fits the skeleton comes, with the term put in, to what fits the applied skeleton. By
+-- the law of fitting for applications, as every term fits itself. Assumes nothing.
 use mathlib.Core.Path.{_≡_, sym, ap, subst}
 use mathlib.Core.Bool.{Bool, true, false}
 use mathlib.Core.List.{List}
@@ -14,7 +14,7 @@ use Rattle.matching.proofs.Skeletons.{Fits, fits-refl, closed-apply}
 use Rattle.records.specs.Parts.{Part, Whole, Ends}
 use Rattle.records.proofs.Parts.{size-some, part-one, part-bytes, whole, at-start}
 use Rattle.sweeping.specs.Swept.{sweptBytes, Applied}
-use Rattle.sweeping.proofs.Stores.{stored}
+use Rattle.copying.proofs.Stores.{stored}
 use Rattle.sweeping.proofs.Contraction.{table-length}
 use Rattle.skeletons.specs.Outlined.{Comparable, MayBe, Applicable, MayBuild}
 use Rattle.skeletons.specs.Contracted.{Application, Writes, Applies}
@@ -54,7 +54,8 @@ module _ (c s : List ℕ) (e t : ℕ) (x : Applicable c s e t) where
 
       built-bytes : take (n * 4 - 0) (drop 0 after) ≡ encode (built .skeleton)
       built-bytes =
-          stored out after (encode (built .skeleton)) (n * 4) (built .bytes) (omega (arith, built .sized, encode-length (built .skeleton))) (omega (arith, h, w .few))
+          stored out after (encode (built .skeleton)) (n * 4) (built .bytes) (omega (arith, built .sized, encode-length (built .skeleton)))
+          (omega (arith, h, w .few))
 
       pub built-within : n * 4 ≤ length after
       built-within = omega (arith, h, w .few, ap length (built .bytes), length-sets out 0 (encode (built .skeleton)))
@@ -77,5 +78,6 @@ module _ (c s : List ℕ) (e t : ℕ) (x : Applicable c s e t) where
       built-answer false q = λ y u z b i j k f g.
           let p : x .skeleton ≡ y = part-one c 0 (x .skeleton) y (at-start c (x .skeleton) (x .bytes)) i in
           let o : x .argument ≡ u = part-one s e (x .argument) u (x .part) j in
-          let v = built .holds .fits (lam b) u (subst (λ (d : Term). Fits d (lam b)) (sym p) f) (subst (Fits (x .argument)) o (fits-refl (x .argument))) in
+          let v = built .holds .fits (lam b) u (subst (λ (d : Term). Fits d (lam b)) (sym p) f)
+          (subst (Fits (x .argument)) o (fits-refl (x .argument))) in
           q (built .skeleton) z built-part k (subst (Fits (built .skeleton)) g v)

@@ -18,7 +18,8 @@ use Rattle.records.specs.Tests.{Asks, Walked}
 use Rattle.records.specs.declared.Ask.the-variants.{Below}
 use Rattle.records.specs.declared.Walk.{Walk}
 use Rattle.records.specs.declared.Walk.the-variants as walk
-use Rattle.records.proofs.Parts.{size-some, whole, kind-at, number-at, application, abstraction, argument-part, ends-app, ends-lam, ends-leaf, leaf-size}
+use Rattle.records.proofs.Parts.{size-some, whole, kind-at, number-at, application, abstraction, argument-part, ends-app, ends-lam}
+use Rattle.records.proofs.Parts.{ends-leaf, leaf-size}
 use Rattle.abstractions.specs.declared.Places.{Places}
 use Rattle.abstractions.specs.declared.Pairing.{Pairing}
 use Rattle.abstractions.specs.declared.Pairing.the-variants.{Upto, No}
@@ -86,11 +87,13 @@ module _ (c : List ℕ) (b : ℕ) (s : List ℕ) (t : ℕ) where
     filled : (x y : Term) → Part c b x → Fills (numberAt c b) y → Fits x y
     filled x y p f = same-fits (var (numberAt c b)) y x y (sym (variable-at c b x p k)) refl f
 
-    passed : Whole c b → (r : ℕ) → Ends s t r → ((y : Term) → Part s t y → Fills (numberAt c b) y) → Compared c b s t (Upto (record { first = b + 4; second = r }))
+    passed : Whole c b → (r : ℕ) → Ends s t r → ((y : Term) → Part s t y → Fills (numberAt c b) y)
+        → Compared c b s t (Upto (record { first = b + 4; second = r }))
     unfolding Compared
     passed w r e f = (ends-leaf c b (λ q. omega arith) (λ q. omega arith) w, e, λ x y p q. filled x y p (f y q))
 
-    pub compared-any : (m r : ℕ) → m ≡ numberAt c b → m ≡ 0 → Whole c b → Ends s t r → Compared c b s t (Upto (record { first = b + 4; second = r }))
+    pub compared-any : (m r : ℕ) → m ≡ numberAt c b → m ≡ 0 → Whole c b → Ends s t r
+        → Compared c b s t (Upto (record { first = b + 4; second = r }))
     compared-any m r i z w e = passed w r e (λ y q. subst (λ (n : ℕ). Fills n y) (sym z ∙ i) tt)
 
     module _ (a : Walk) (v : Walked s t (Asks Below 0) a) where
@@ -150,14 +153,17 @@ module _ (c : List ℕ) (b : ℕ) (s : List ℕ) (t : ℕ) where
               let v = application s t y g (sym e ∙ w) in
               same-fits (app (u .f) (u .a)) (app (v .f) (v .a)) x y (sym (u .is)) (sym (v .is)) (
                 come .fits (u .f) (v .f) (u .head) (v .head),
-                m .2 (u .a) (v .a) (argument-part c b (p .first) x (come .skeleton-ends) u) (argument-part s t (p .second) y (come .term-ends) v),
+                m .2 (u .a) (v .a) (argument-part c b (p .first) x (come .skeleton-ends) u)
+                    (argument-part s t (p .second) y (come .term-ends) v),
               ),
         )
         compared-app No m = λ x y f g h.
             let u = application c b x f w in
             let v = application s t y g (sym e ∙ w) in
-            let k : Fits (app (u .f) (u .a)) (app (v .f) (v .a)) = same-fits x y (app (u .f) (u .a)) (app (v .f) (v .a)) (u .is) (v .is) h in
-            m (u .a) (v .a) (argument-part c b (p .first) x (come .skeleton-ends) u) (argument-part s t (p .second) y (come .term-ends) v) (k .1)
+            let k : Fits (app (u .f) (u .a)) (app (v .f) (v .a)) =
+            same-fits x y (app (u .f) (u .a)) (app (v .f) (v .a)) (u .is) (v .is) h in
+            m (u .a) (v .a) (argument-part c b (p .first) x (come .skeleton-ends) u)
+            (argument-part s t (p .second) y (come .term-ends) v) (k .1)
 
     module _ (w : getD c b 0 ≡ 1) where
       pub compares-body : Compares c b s t → Compares c (b + 4) s (t + 4)
@@ -182,7 +188,8 @@ module _ (c : List ℕ) (b : ℕ) (s : List ℕ) (t : ℕ) where
           m (u .b) (v .b) (u .body) (v .body) (same-fits x y (lam (u .b)) (lam (v .b)) (u .is) (v .is) h)
 
     module _ (n m : ℕ) (i : n ≡ numberAt c b) (j : m ≡ numberAt s t) where
-      pub compared-same : ¬ (getD c b 0 ≡ 0) → ¬ (getD c b 0 ≡ 1) → Whole c b → Whole s t → n ≡ m → Compared c b s t (Upto (record { first = b + 4; second = t + 4 }))
+      pub compared-same : ¬ (getD c b 0 ≡ 0) → ¬ (getD c b 0 ≡ 1) → Whole c b → Whole s t → n ≡ m
+          → Compared c b s t (Upto (record { first = b + 4; second = t + 4 }))
       unfolding Compared
       compared-same o l w v h = (
         ends-leaf c b o l w,

@@ -1,5 +1,5 @@
--- The skeleton of an application or an abstraction, from those of its parts: the contracted form, where it is sure and not too long, and else
--- a hole. By the laws of fitting for single contractions; a hole is right for everything. Assumes nothing.
+-- The skeleton of an application or an abstraction, from those of its parts: the contracted form, where it is sure and not too long, and
+-- else a hole. By the laws of fitting for single contractions; a hole is right for everything. Assumes nothing.
 use mathlib.Core.Path.{_≡_, refl, sym, ap, _∙_, subst}
 use mathlib.Core.Bool.{Bool, false}
 use mathlib.Core.List.{List}
@@ -44,7 +44,8 @@ record Answer (t : Term) (out : List ℕ) (n : ℕ) (after : List ℕ) : Type 0 
   few : n ≤ sweptRecords
   bytes : after ≡ sets out 0 (encode t)
 
-answer : (t : Term) (out : List ℕ) (r : Length) (n : ℕ) (after : List ℕ) → swept.Written t out r after → r ≡ Records n → Answer t out n after
+answer : (t : Term) (out : List ℕ) (r : Length) (n : ℕ) (after : List ℕ) → swept.Written t out r after → r ≡ Records n
+    → Answer t out n after
 unfolding swept.Written
 answer t out r n after w e =
     let x : swept.Written t out (Records n) after = subst (λ (q : Length). swept.Written t out q after) e w in
@@ -58,13 +59,18 @@ untouched t out r after w e = let x : swept.Written t out TooLong after = subst 
 module _ (f a out : List ℕ) (r : Length) (mid : List ℕ) (w : swept.Applies f a out r mid) where
   pub applies-hole : r ≡ TooLong → (n : ℕ) (after : List ℕ) → Hole mid n after → Applies f a out n after
   applies-hole q n after h = record {
-    written = λ x y e g. hole-writes (Application x y) out mid after n (any-application x y) (untouched (contract (app x y)) out r mid (w x y e g) q) h;
+    written = λ x y e g. hole-writes (Application x y) out mid after n (any-application x y)
+        (untouched (contract (app x y)) out r mid (w x y e g) q) h;
     some = omega (arith, h .0);
     few = omega (arith, h .0);
   }
 
   pub applies-contracted : swept.Applied f a → ¬ (getD f 0 0 ≡ 4) → (n : ℕ) → r ≡ Records n → Applies f a out n mid
-  applies-contracted p z n q = record { written = each; some = omega (arith, one .sized, size-some (contract (app (p .head) (p .argument)))); few = one .few }
+  applies-contracted p z n q = record {
+    written = each;
+    some = omega (arith, one .sized, size-some (contract (app (p .head) (p .argument))));
+    few = one .few;
+  }
     where
       answered : (x y : Term) → f ≡ encode x → a ≡ encode y → Answer (contract (app x y)) out n mid
       answered x y e g = answer (contract (app x y)) out r n mid (w x y e g) q
@@ -79,7 +85,10 @@ module _ (f a out : List ℕ) (r : Length) (mid : List ℕ) (w : swept.Applies f
             skeleton = contract (app x y);
             bytes = m .bytes;
             sized = m .sized;
-            holds = record { closed = λ d c o. closed-apply d x y c o; fits = λ u v i j. fits-apply x u y v (no-variable f 0 x (at-start f x e) z) i j };
+            holds = record {
+              closed = λ d c o. closed-apply d x y c o;
+              fits = λ u v i j. fits-apply x u y v (no-variable f 0 x (at-start f x e) z) i j;
+            };
           }
 
 -- an abstraction
@@ -101,8 +110,13 @@ module _ (b out : List ℕ) (r : Length) (mid : List ℕ) (w : swept.Abstracts b
     few = omega (arith, h .0);
   }
 
-  pub abstracts-contracted : swept.Abstracted b → (t : Bool) → Equals b isUnsure t → t ≡ false → (n : ℕ) → r ≡ Records n → Abstracts b out n mid
-  abstracts-contracted p t test o n q = record { written = each; some = omega (arith, one .sized, size-some (contract (lam (p .body)))); few = one .few }
+  pub abstracts-contracted : swept.Abstracted b → (t : Bool) → Equals b isUnsure t → t ≡ false → (n : ℕ) → r ≡ Records n
+      → Abstracts b out n mid
+  abstracts-contracted p t test o n q = record {
+    written = each;
+    some = omega (arith, one .sized, size-some (contract (lam (p .body))));
+    few = one .few;
+  }
     where
       answered : (x : Term) → b ≡ encode x → Answer (contract (lam x)) out n mid
       answered x e = answer (contract (lam x)) out r n mid (w x e) q

@@ -25,7 +25,7 @@ use Rattle.assignments.specs.declared.Span.{Span}
 use Rattle.assignments.specs.declared.Entry.{Entry}
 use Rattle.assignments.specs.declared.Entry.the-variants.{Open, Assigned}
 use Rattle.sweeping.specs.Swept.{sweptBytes, Applied, Abstracted}
-use Rattle.sweeping.proofs.Stores.{stored}
+use Rattle.copying.proofs.Stores.{stored}
 use Rattle.sweeping.proofs.Contraction.{table-length}
 use Rattle.sweeping.proofs.Values.{Held, held}
 use Rattle.skeletons.specs.Outlined.{GivenValues, Outlinable, Outline, Written, Outlined}
@@ -44,7 +44,13 @@ module _ (s : List ℕ) (a : List Entry) (out : List ℕ) (n : ℕ) (after : Lis
 
   module _ (h : ClosedHole out n after) where
     closed-written : (t : Term) → Closed 0 t → Written s a t out n after
-    closed-written t c = record { skeleton = var 1; bytes = h .1; sized = h .0; closed = λ d c. tt; outline = λ φ v g. closed-sweep φ v 0 t c }
+    closed-written t c = record {
+      skeleton = var 1;
+      bytes = h .1;
+      sized = h .0;
+      closed = λ d c. tt;
+      outline = λ φ v g. closed-sweep φ v 0 t c;
+    }
 
     pub outlined-closed : (l : List ℕ) (b : Bool) → Tells l (Closed 0) b → b ≡ true → Outlined l s a out n after
     outlined-closed l b tells e = record {
@@ -64,7 +70,8 @@ module _ (s : List ℕ) (a : List Entry) (i : ℕ) (x : Span) (e : getD a i Open
   pub value-held : Held s x value
   value-held = held s a i value (k .given x e .1) x e
 
-  pub entered-value : (out b after : List ℕ) → b ≡ take (4 * x .count) (drop (4 * x .first) s) → after ≡ sets out 0 b → Entered s a i out (x .count) after
+  pub entered-value : (out b after : List ℕ) → b ≡ take (4 * x .count) (drop (4 * x .first) s) → after ≡ sets out 0 b
+      → Entered s a i out (x .count) after
   entered-value out b after p q =
       let h = value-held in
       record {
@@ -90,7 +97,8 @@ module _ (s : List ℕ) (a : List Entry) (i : ℕ) (x : Span) (e : getD a i Open
 
 -- the parts of what has a skeleton
 module _ (l m s : List ℕ) (a : List Entry) (x : Outlinable l s a) where
-  outlinable : (t : Term) (d : ℕ) → m ≡ encode t → size t ≤ size (x .tree) → d + size t + sweptRecords ≤ numbers → Closed d t → Below variables t → GivenValues s a (x .φ) t → Outlinable m s a
+  outlinable : (t : Term) (d : ℕ) → m ≡ encode t → size t ≤ size (x .tree) → d + size t + sweptRecords ≤ numbers → Closed d t
+      → Below variables t → GivenValues s a (x .φ) t → Outlinable m s a
   outlinable t d e o h c b g = record {
     tree = t;
     bytes = e;
@@ -111,7 +119,8 @@ module _ (l m s : List ℕ) (a : List Entry) (x : Outlinable l s a) where
         let c : Closed (x .depth) (app (v .f) (v .a)) = subst (Closed (x .depth)) (v .is) (x .closed) in
         let b : Below variables (app (v .f) (v .a)) = subst (Below variables) (v .is) (x .below) in
         let g : GivenValues s a (x .φ) (app (v .f) (v .a)) = subst (GivenValues s a (x .φ)) (v .is) (x .gives) in
-        outlinable (v .f) (x .depth) (h (v .f) (v .a) (v .bytes)) (omega (arith, ap size (v .is))) (omega (arith, ap size (v .is), x .shallow)) (c .0) (b .0) (λ i y o. g i y (inl o))
+        outlinable (v .f) (x .depth) (h (v .f) (v .a) (v .bytes)) (omega (arith, ap size (v .is)))
+        (omega (arith, ap size (v .is), x .shallow)) (c .0) (b .0) (λ i y o. g i y (inl o))
 
     pub outlinable-argument : ((f b : Term) → l ≡ encode (app f b) → m ≡ encode b) → Outlinable m s a
     outlinable-argument h =
@@ -119,7 +128,8 @@ module _ (l m s : List ℕ) (a : List Entry) (x : Outlinable l s a) where
         let c : Closed (x .depth) (app (v .f) (v .a)) = subst (Closed (x .depth)) (v .is) (x .closed) in
         let b : Below variables (app (v .f) (v .a)) = subst (Below variables) (v .is) (x .below) in
         let g : GivenValues s a (x .φ) (app (v .f) (v .a)) = subst (GivenValues s a (x .φ)) (v .is) (x .gives) in
-        outlinable (v .a) (x .depth) (h (v .f) (v .a) (v .bytes)) (omega (arith, ap size (v .is))) (omega (arith, ap size (v .is), x .shallow)) (c .1) (b .1) (λ i y o. g i y (inr o))
+        outlinable (v .a) (x .depth) (h (v .f) (v .a) (v .bytes)) (omega (arith, ap size (v .is)))
+        (omega (arith, ap size (v .is), x .shallow)) (c .1) (b .1) (λ i y o. g i y (inr o))
 
   pub outlinable-body : getD l 0 0 ≡ 1 → ((b : Term) → l ≡ encode (lam b) → m ≡ encode b) → Outlinable m s a
   outlinable-body z h =
@@ -127,7 +137,8 @@ module _ (l m s : List ℕ) (a : List Entry) (x : Outlinable l s a) where
       let c : Closed (x .depth) (lam (v .b)) = subst (Closed (x .depth)) (v .is) (x .closed) in
       let b : Below variables (lam (v .b)) = subst (Below variables) (v .is) (x .below) in
       let g : GivenValues s a (x .φ) (lam (v .b)) = subst (GivenValues s a (x .φ)) (v .is) (x .gives) in
-      outlinable (v .b) (suc (x .depth)) (h (v .b) (v .bytes)) (omega (arith, ap size (v .is))) (omega (arith, ap size (v .is), x .shallow)) c b g
+      outlinable (v .b) (suc (x .depth)) (h (v .b) (v .bytes)) (omega (arith, ap size (v .is)))
+      (omega (arith, ap size (v .is), x .shallow)) c b g
 
 pub outlinable-tree : (l s : List ℕ) (a : List Entry) → Outlinable l s a → Tree l
 outlinable-tree l s a x = record { tree = x .tree; bytes = x .bytes; least = x .least }
@@ -141,7 +152,8 @@ record Result (s : List ℕ) (a : List Entry) (t : Term) (p : List ℕ) (n : ℕ
   closed : (d : ℕ) → Closed d t → Closed d skeleton
   outline : Outline s a t skeleton
 
-result : (s : List ℕ) (a : List Entry) (t : Term) (u p : List ℕ) (n : ℕ) → Written s a t u n p → n ≤ sweptRecords → length u ≡ sweptBytes → Result s a t p n
+result : (s : List ℕ) (a : List Entry) (t : Term) (u p : List ℕ) (n : ℕ) → Written s a t u n p → n ≤ sweptRecords
+    → length u ≡ sweptBytes → Result s a t p n
 result s a t u p n w m h =
     let x = w .skeleton in
     let i : 0 + length (encode x) ≤ length u = omega (arith, w .sized, encode-length x) in
@@ -156,13 +168,15 @@ result s a t u p n w m h =
       outline = w .outline;
     }
 
-pub result-within : (m s : List ℕ) (a : List Entry) (u p : List ℕ) (n : ℕ) → Outlined m s a u n p → length u ≡ sweptBytes → Outlinable m s a → n * 4 ≤ length p
+pub result-within : (m s : List ℕ) (a : List Entry) (u p : List ℕ) (n : ℕ) → Outlined m s a u n p → length u ≡ sweptBytes
+    → Outlinable m s a → n * 4 ≤ length p
 result-within m s a u p n w h x =
     let y = w .written (x .tree) (x .bytes) in
     omega (arith, w .few, ap length (y .bytes), length-sets u 0 (encode (y .skeleton)))
 
 -- an application
-module _ (l s : List ℕ) (a : List Entry) (z : getD l 0 0 ≡ 0) (m : List ℕ) (head : (f b : Term) → l ≡ encode (app f b) → m ≡ encode f) (u p : List ℕ) (n : ℕ) (w : Outlined m s a u n p) (h : length u ≡ sweptBytes) where
+module _ (l s : List ℕ) (a : List Entry) (z : getD l 0 0 ≡ 0) (m : List ℕ) (head : (f b : Term) → l ≡ encode (app f b) → m ≡ encode f)
+    (u p : List ℕ) (n : ℕ) (w : Outlined m s a u n p) (h : length u ≡ sweptBytes) where
   first-part : (t : Term) (q : l ≡ encode t) → Result s a (application-of l t q z .f) p n
   first-part t q =
       let v = application-of l t q z in
@@ -171,7 +185,8 @@ module _ (l s : List ℕ) (a : List Entry) (z : getD l 0 0 ≡ 0) (m : List ℕ)
   pub head-no-hole : Outlinable l s a → ¬ (getD p 0 0 ≡ 4) → ¬ (getD (take (n * 4 - 0) (drop 0 p)) 0 0 ≡ 4)
   head-no-hole x o q = o (sym (first-part (x .tree) (x .bytes) .first) ∙ q)
 
-  module _ (j : List ℕ) (argument : (f b : Term) → l ≡ encode (app f b) → j ≡ encode b) (c b : List ℕ) (k : ℕ) (y : Outlined j s a c k b) (i : length c ≡ sweptBytes) where
+  module _ (j : List ℕ) (argument : (f b : Term) → l ≡ encode (app f b) → j ≡ encode b) (c b : List ℕ) (k : ℕ) (y : Outlined j s a c k b)
+      (i : length c ≡ sweptBytes) where
     second-part : (t : Term) (q : l ≡ encode t) → Result s a (application-of l t q z .a) b k
     second-part t q =
         let v = application-of l t q z in
@@ -197,7 +212,8 @@ module _ (l s : List ℕ) (a : List Entry) (z : getD l 0 0 ≡ 0) (m : List ℕ)
           closed = closed-apply (x .depth) (f .skeleton) (g .skeleton) (f .closed (x .depth) (o .0)) (g .closed (x .depth) (o .1));
         }
 
-    pub outlined-application : (out : List ℕ) (r : ℕ) (after : List ℕ) → Applies (take (n * 4 - 0) (drop 0 p)) (take (k * 4 - 0) (drop 0 b)) out r after → Outlined l s a out r after
+    pub outlined-application : (out : List ℕ) (r : ℕ) (after : List ℕ)
+        → Applies (take (n * 4 - 0) (drop 0 p)) (take (k * 4 - 0) (drop 0 b)) out r after → Outlined l s a out r after
     outlined-application out r after x = record { written = each; some = x .some; few = x .few }
       where
         each : (t : Term) → l ≡ encode t → Written s a t out r after
@@ -212,11 +228,13 @@ module _ (l s : List ℕ) (a : List Entry) (z : getD l 0 0 ≡ 0) (m : List ℕ)
               sized = o .sized;
               closed = λ d e. o .holds .closed d (f .closed d (e .0)) (g .closed d (e .1));
               outline = λ φ j e.
-                  o .holds .fits (sweep (fill φ (v .f))) (sweep (fill φ (v .a))) (f .outline φ j (λ i y o. e i y (inl o))) (g .outline φ j (λ i y o. e i y (inr o)));
+                  o .holds .fits (sweep (fill φ (v .f))) (sweep (fill φ (v .a))) (f .outline φ j (λ i y o. e i y (inl o)))
+                  (g .outline φ j (λ i y o. e i y (inr o)));
             })
 
 -- an abstraction
-module _ (l s : List ℕ) (a : List Entry) (z : getD l 0 0 ≡ 1) (m : List ℕ) (body : (b : Term) → l ≡ encode (lam b) → m ≡ encode b) (u p : List ℕ) (n : ℕ) (w : Outlined m s a u n p) (h : length u ≡ sweptBytes) where
+module _ (l s : List ℕ) (a : List Entry) (z : getD l 0 0 ≡ 1) (m : List ℕ) (body : (b : Term) → l ≡ encode (lam b) → m ≡ encode b)
+    (u p : List ℕ) (n : ℕ) (w : Outlined m s a u n p) (h : length u ≡ sweptBytes) where
   one-part : (t : Term) (q : l ≡ encode t) → Result s a (abstraction-of l t q z .b) p n
   one-part t q =
       let v = abstraction-of l t q z in
@@ -237,7 +255,8 @@ module _ (l s : List ℕ) (a : List Entry) (z : getD l 0 0 ≡ 1) (m : List ℕ)
         closed = closed-abstract (x .depth) (f .skeleton) (f .closed (suc (x .depth)) o);
       }
 
-  pub outlined-abstraction : (out : List ℕ) (r : ℕ) (after : List ℕ) → Abstracts (take (n * 4 - 0) (drop 0 p)) out r after → Outlined l s a out r after
+  pub outlined-abstraction : (out : List ℕ) (r : ℕ) (after : List ℕ) → Abstracts (take (n * 4 - 0) (drop 0 p)) out r after
+      → Outlined l s a out r after
   outlined-abstraction out r after x = record { written = each; some = x .some; few = x .few }
     where
       each : (t : Term) → l ≡ encode t → Written s a t out r after

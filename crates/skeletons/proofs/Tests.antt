@@ -99,9 +99,11 @@ module _ (b : List ℕ) where
       pub unsure-argument : getD b next 0 ≡ 4 → (m : ℕ) → m ≡ numberAt b next → Equals b isUnsure (eqb m 0)
       unsure-argument k m i t e =
           let v = application b 0 t (at-start b t e) z in
-          rw (v .is, variable-at b next (v .a) (argument-part b 0 next t u v) k) (ap (λ (n : ℕ). eqb n 0) i ∙ or-none (eqb (numberAt b next) 0))
+          rw (v .is, variable-at b next (v .a) (argument-part b 0 next t u v) k)
+          (ap (λ (n : ℕ). eqb n 0) i ∙ or-none (eqb (numberAt b next) 0))
 
-      other-argument : (a : Term) (h : Bool) → Part b next a → ¬ (getD b next 0 ≡ 4) → ¬ (getD b next 0 ≡ 2) → false ≡ (isAny a || (isInnermost a && h))
+      other-argument : (a : Term) (h : Bool) → Part b next a → ¬ (getD b next 0 ≡ 4) → ¬ (getD b next 0 ≡ 2)
+          → false ≡ (isAny a || (isInnermost a && h))
       other-argument (app f c) h x n m = refl
       other-argument (lam c) h x n m = refl
       other-argument (loc i) h x n m = absurd (m (kind-at b next (loc i) x))
@@ -123,7 +125,12 @@ module _ (b : List ℕ) where
           pub sure-exact : (j : ℕ) → w ≡ Upto j → Equals b isUnsure false
           sure-exact j q t e =
               let v = application b 0 t (at-start b t e) z in
-              rw (v .is, local-at b next m (v .a) (argument-part b 0 next t u v) k i, eq-eqb m 0 h, walked-yes b 4 Exact w x (v .f) (v .head) j q)
+              rw (
+                v .is,
+                local-at b next m (v .a) (argument-part b 0 next t u v) k i,
+                eq-eqb m 0 h,
+                walked-yes b 4 Exact w x (v .f) (v .head) j q,
+              )
 
           pub unsure-inexact : w ≡ No → Equals b isUnsure true
           unsure-inexact q t e =

@@ -6,7 +6,8 @@
 --   Comparable c s t       a skeleton, as a table, and a term that stands in s from byte t on
 --   MayBe c s t r          unless r, the term that stands in s from byte t on doesn't fit the skeleton with the table c
 --   Applicable c s e t     a skeleton, as a table, and two terms that stand in s from bytes e and t on
---   MayBuild c s e t r     unless r, no abstraction that fits the skeleton with the table c comes to the term at byte t with the one at byte e put in
+--   MayBuild c s e t r     unless r, no abstraction that fits the skeleton with the table c comes to the term at byte t with the one
+--                          at byte e put in
 use mathlib.Core.Path.{_≡_}
 use mathlib.Core.Bool.{Bool, true, false}
 use mathlib.Core.List.{List}

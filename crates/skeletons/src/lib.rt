@@ -1,11 +1,11 @@
 // The skeleton of a part of a pattern: what is known of its swept form while some variables are open.
 //
 // The part is swept as if each open variable were a hole: what a hole is applied to is lost in it, and an abstraction over a body that may
-// or may not contract is a hole too, as is a form above 256 records. Whatever the open variables are assigned, the swept part is the skeleton
-// with some term in place of each hole, a closed one where the part that the hole stands for is closed; so a target that doesn't fit the
-// skeleton is never met, and a skeleton without a hole is the swept part itself. The crate writes skeletons, a hole as a variable's record,
-// looks for holes in them, applies them, and compares them with terms. It promises that the swept part fits what it writes. It rests on
-// `sweeping` for single contractions, on `assignments` for values, and on `abstractions` for the answer of a walk over two parts.
+// or may not contract is a hole too, as is a form above 256 records. Whatever the open variables are assigned, the swept part is the
+// skeleton with some term in place of each hole, a closed one where the part that the hole stands for is closed; so a target that doesn't
+// fit the skeleton is never met, and a skeleton without a hole is the swept part itself. The crate writes skeletons, a hole as a variable's
+// record, looks for holes in them, applies them, and compares them with terms. It promises that the swept part fits what it writes. It
+// rests on `sweeping` for single contractions, on `assignments` for values, and on `abstractions` for the answer of a walk over two parts.
 
 use abstractions::Pairing;
 use abstractions::Places;
@@ -13,6 +13,7 @@ use assignments::Entry;
 use records::Ask;
 use records::Kind;
 use records::RECORD;
+use records::VARIABLES;
 use records::Walk;
 use sweeping::Length;
 use sweeping::SWEPT_BYTES;
@@ -149,8 +150,14 @@ fn abstract_over(b: &[u8], out: &mut [u8; SWEPT_BYTES]) -> usize
     n
 }
 
-// Writes the skeleton of variable i: its value, which is normal and so its own swept form, or a hole for a closed term, as every value is one.
-fn skeleton_variable(i: usize, values: &[u8], a: [Entry; 8], out: &mut [u8; SWEPT_BYTES]) -> usize
+// Writes the skeleton of variable i: its value, which is normal and so its own swept form, or a hole for a closed term,
+// as every value is one.
+fn skeleton_variable(
+    i: usize,
+    values: &[u8],
+    a: [Entry; VARIABLES],
+    out: &mut [u8; SWEPT_BYTES],
+) -> usize
     requires { ⌜ Known (now values) a i ⌝ }
     ensures { λ r. ⌜ Entered (now (values .entry)) a i (now (out .entry)) r (now (out .exit)) ⌝ }
 {
@@ -158,7 +165,7 @@ fn skeleton_variable(i: usize, values: &[u8], a: [Entry; 8], out: &mut [u8; SWEP
     match e {
         Entry::Open => hole(CLOSED, out),
         Entry::Assigned(span) => {
-            sweeping::copy_into(assignments::value_of(values, span), out, 0);
+            copying::copy_into(assignments::value_of(values, span), out, 0);
             span.count
         }
     }
@@ -168,7 +175,7 @@ fn skeleton_variable(i: usize, values: &[u8], a: [Entry; 8], out: &mut [u8; SWEP
 fn skeleton_application(
     s: &[u8],
     values: &[u8],
-    a: [Entry; 8],
+    a: [Entry; VARIABLES],
     out: &mut [u8; SWEPT_BYTES],
 ) -> usize
     requires { ⌜ Outlinable (now s) (now values) a × (getD (now s) 0 0 ≡ 0) ⌝ }
@@ -190,7 +197,7 @@ fn skeleton_application(
 fn skeleton_abstraction(
     s: &[u8],
     values: &[u8],
-    a: [Entry; 8],
+    a: [Entry; VARIABLES],
     out: &mut [u8; SWEPT_BYTES],
 ) -> usize
     requires { ⌜ Outlinable (now s) (now values) a × (getD (now s) 0 0 ≡ 1) ⌝ }
@@ -204,7 +211,12 @@ fn skeleton_abstraction(
 
 // Writes the skeleton of the part s, with the values that a has in the value table, into out from byte 0 on. Gives its number of records.
 // Constants and locals are their own skeletons.
-pub fn skeleton(s: &[u8], values: &[u8], a: [Entry; 8], out: &mut [u8; SWEPT_BYTES]) -> usize
+pub fn skeleton(
+    s: &[u8],
+    values: &[u8],
+    a: [Entry; VARIABLES],
+    out: &mut [u8; SWEPT_BYTES],
+) -> usize
     requires { ⌜ Outlinable (now s) (now values) a ⌝ }
     ensures { λ r. ⌜ Outlined (now (s .entry)) (now (values .entry)) a (now (out .entry)) r (now (out .exit)) ⌝ }
 {
@@ -218,7 +230,7 @@ pub fn skeleton(s: &[u8], values: &[u8], a: [Entry; 8], out: &mut [u8; SWEPT_BYT
     if kind == Kind::VARIABLE.code {
         return skeleton_variable(records::number_at(s, 0), values, a, out);
     }
-    sweeping::copy_into(s, out, 0);
+    copying::copy_into(s, out, 0);
     1
 }
 
@@ -288,8 +300,8 @@ pub fn may_be(c: &[u8], s: &[u8], t: usize) -> bool
     }
 }
 
-// Whether a part with the skeleton c, which is no hole, may be an abstraction that comes to the term of s at byte t with the one at byte e put
-// in: the term fits the skeleton applied to that one.
+// Whether a part with the skeleton c, which is no hole, may be an abstraction that comes to the term of s at byte t with the one at byte e
+// put in: the term fits the skeleton applied to that one.
 pub fn may_build(c: &[u8], s: &[u8], e: usize, t: usize) -> bool
     requires { ⌜ Applicable (now c) (now s) e t × ¬ (getD (now c) 0 0 ≡ 4) ⌝ }
     ensures { λ r. ⌜ MayBuild (now (c .entry)) (now (s .entry)) e t r ⌝ }

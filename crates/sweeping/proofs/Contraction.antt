@@ -25,12 +25,13 @@ use Rattle.records.proofs.Parts.{size-some, whole, kind-at, at-start, applicati
 use Rattle.sweeping.specs.declared.Length.the-variants.{Records, TooLong}
 use Rattle.sweeping.specs.Writers.{replace, count, Fits, Wrote, Substitution, Used}
 use Rattle.sweeping.specs.Swept.{sweptBytes, Written, Applied, Applies, Abstracted, Abstracts}
-use Rattle.sweeping.proofs.Stores.{written-then}
+use Rattle.copying.proofs.Stores.{written-then}
 use Rattle.sweeping.proofs.Writers.{source, local-at}
 use Rattle.sweeping.proofs.Counts.{count-none, count-some, size-replaced}
 
 -- the two answers
-pub written : (t : Term) (out after : List ℕ) (n : ℕ) → 4 * n ≡ 4 * size t → n ≤ sweptRecords → after ≡ sets out 0 (encode t) → Written t out (Records n) after
+pub written : (t : Term) (out after : List ℕ) (n : ℕ) → 4 * n ≡ 4 * size t → n ≤ sweptRecords → after ≡ sets out 0 (encode t)
+    → Written t out (Records n) after
 unfolding Written
 written t out after n e h b = (omega arith, h, b)
 
@@ -50,7 +51,8 @@ pub table-length : (l : List ℕ) (t : Term) → l ≡ encode t → length l ≡
 table-length l t e = ap length e ∙ encode-length t
 
 -- an application's record, its head and its argument, written one behind another
-pub application-bytes : (f a out p q r : List ℕ) → p ≡ sets out 0 (bytes 0 0 []) → q ≡ sets p 4 f → r ≡ sets q (4 + length f) a → (x y : Term) → f ≡ encode x → a ≡ encode y → r ≡ sets out 0 (encode (app x y))
+pub application-bytes : (f a out p q r : List ℕ) → p ≡ sets out 0 (bytes 0 0 []) → q ≡ sets p 4 f → r ≡ sets q (4 + length f) a
+    → (x y : Term) → f ≡ encode x → a ≡ encode y → r ≡ sets out 0 (encode (app x y))
 application-bytes f a out p q r u v w x y e g =
     written-then (bytes 0 0 f) a out q r 0 (4 + length f) (written-then (bytes 0 0 []) f out p q 0 4 u v refl) w (omega arith)
     ∙ ap₂ (λ (i j : List ℕ). sets out 0 (bytes 0 0 (i ++ j))) e g
@@ -68,7 +70,8 @@ module _ (f a out : List ℕ) (n : ¬ (getD f 0 0 ≡ 1)) where
   applied-too-long h x y e g =
       rw (contract-app x y (not-abstraction f x e n)) (too-long (app x y) out (omega (arith, table-length f x e, table-length a y g)))
 
-  pub applied-written : (p q r : List ℕ) → 4 + length f + length a ≤ sweptBytes → p ≡ sets out 0 (bytes 0 0 []) → q ≡ sets p 4 f → r ≡ sets q (4 + length f) a → Applies f a out (Records ((4 + length f + length a) / 4)) r
+  pub applied-written : (p q r : List ℕ) → 4 + length f + length a ≤ sweptBytes → p ≡ sets out 0 (bytes 0 0 []) → q ≡ sets p 4 f
+      → r ≡ sets q (4 + length f) a → Applies f a out (Records ((4 + length f + length a) / 4)) r
   applied-written p q r h u v w x y e g =
       rw (contract-app x y (not-abstraction f x e n))
       (written (app x y) out r ((4 + length f + length a) / 4) (omega (arith, table-length f x e, table-length a y g)) (omega arith)
@@ -92,7 +95,8 @@ module _ (f a : List ℕ) (z : getD f 0 0 ≡ 1) (next n : ℕ) (u : Used f 4 0 
           let v = abstraction f 0 x (at-start f x e) z in
           let c : n ≡ count 0 (v .b) = u .exact (v .b) (v .body) in
           let k : size (contract (app x y)) ≡ size (v .b) + n * m =
-          ap (λ (t : Term). size (contract (app t y))) (v .is) ∙ size-replaced m 0 y (v .b) s ∙ ap (λ (i : ℕ). size (v .b) + i * m) (sym c) in
+          ap (λ (t : Term). size (contract (app t y))) (v .is) ∙ size-replaced m 0 y (v .b) s
+          ∙ ap (λ (i : ℕ). size (v .b) + i * m) (sym c) in
           let l : length a - 4 ≡ 4 * m = omega (arith, table-length a y g) in
           let j : n * (length a - 4) ≡ 4 * (n * m) = ap (λ (i : ℕ). n * i) l ∙ mul-left-comm n 4 m in
           omega (arith, table-length f x e, ap size (v .is))
@@ -100,13 +104,15 @@ module _ (f a : List ℕ) (z : getD f 0 0 ≡ 1) (next n : ℕ) (u : Used f 4 0 
   pub redex-too-long : (out : List ℕ) → sweptBytes < length f - 4 + n * (length a - 4) → Applies f a out TooLong out
   redex-too-long out h x y e g = too-long (contract (app x y)) out (omega (arith, redex-size x y e g))
 
-  pub redex-substitution : (out : List ℕ) → Applied f a → length f - 4 + n * (length a - 4) ≤ length out → length f - 4 + n * (length a - 4) ≤ sweptBytes → Substitution f 4 0 a out 0
+  pub redex-substitution : (out : List ℕ) → Applied f a → length f - 4 + n * (length a - 4) ≤ length out
+      → length f - 4 + n * (length a - 4) ≤ sweptBytes → Substitution f 4 0 a out 0
   redex-substitution out x h m =
       let e = x .head-bytes in
       let g = x .argument-bytes in
       let v = abstraction f 0 (x .head) (at-start f (x .head) e) z in
       let s = redex-size (x .head) (x .argument) e g in
-      let q : contract (app (x .head) (x .argument)) ≡ substitute 0 (x .argument) (v .b) = ap (λ (t : Term). contract (app t (x .argument))) (v .is) in
+      let q : contract (app (x .head) (x .argument)) ≡ substitute 0 (x .argument) (v .b) =
+      ap (λ (t : Term). contract (app t (x .argument))) (v .is) in
       let i : size (contract (app (x .head) (x .argument))) ≤ sweptRecords = omega arith in
       record {
         argument = x .argument;
@@ -117,15 +123,19 @@ module _ (f a : List ℕ) (z : getD f 0 0 ≡ 1) (next n : ℕ) (u : Used f 4 0 
             (omega (arith, table-length f (x .head) e, ap size (v .is), x .head-most)) (omega (arith, ap size q));
       }
 
-  pub redex-bytes : (out after : List ℕ) (to end : ℕ) → ((t : Term) → a ≡ encode t → Wrote (replace t) f 4 0 out 0 after to end) → (x y : Term) → f ≡ encode x → a ≡ encode y → after ≡ sets out 0 (encode (contract (app x y)))
+  pub redex-bytes : (out after : List ℕ) (to end : ℕ) → ((t : Term) → a ≡ encode t → Wrote (replace t) f 4 0 out 0 after to end)
+      → (x y : Term) → f ≡ encode x → a ≡ encode y → after ≡ sets out 0 (encode (contract (app x y)))
   redex-bytes out after to end w x y e g =
       let v = abstraction f 0 x (at-start f x e) z in
       w y g .bytes (v .b) (v .body) ∙ ap (λ (t : Term). sets out 0 (encode (contract (app t y)))) (sym (v .is))
 
-  pub redex-written : (out after : List ℕ) (to end : ℕ) → length f - 4 + n * (length a - 4) ≤ sweptBytes → ((t : Term) → a ≡ encode t → Wrote (replace t) f 4 0 out 0 after to end) → Applies f a out (Records ((length f - 4 + n * (length a - 4)) / 4)) after
+  pub redex-written : (out after : List ℕ) (to end : ℕ) → length f - 4 + n * (length a - 4) ≤ sweptBytes
+      → ((t : Term) → a ≡ encode t → Wrote (replace t) f 4 0 out 0 after to end)
+      → Applies f a out (Records ((length f - 4 + n * (length a - 4)) / 4)) after
   redex-written out after to end m w x y e g =
       let s = redex-size x y e g in
-      written (contract (app x y)) out after ((length f - 4 + n * (length a - 4)) / 4) (omega arith) (omega arith) (redex-bytes out after to end w x y e g)
+      written (contract (app x y)) out after ((length f - 4 + n * (length a - 4)) / 4) (omega arith) (omega arith)
+      (redex-bytes out after to end w x y e g)
 
 -- the test for an abstraction's contraction, step by step
 and-false : (x : Bool) → false ≡ (x && false)
@@ -208,7 +218,12 @@ proper t o = go (abstracted t)
     go : Contracting t → Proper t
     go (moves m e u l w) =
         let q : (x : Term) → contract (lam t) ≡ substitute 0 x m = λ x. w ∙ sym (substitute-unused 0 x m u) in
-        record { m = m; is = e; moved = q; smaller = omega (arith, ap size w, ap size e, ap size (shift-unshift 0 m u), size-shift 1 0 (unshift 1 0 m)) }
+        record {
+          m = m;
+          is = e;
+          moved = q;
+          smaller = omega (arith, ap size w, ap size e, ap size (shift-unshift 0 m u), size-shift 1 0 (unshift 1 0 m));
+        }
     go (stays p w) = not-both (sym o ∙ p)
 
 module _ (b : List ℕ) (r : Bool) (test : (t : Term) → b ≡ encode t → r ≡ isProper t) where
@@ -220,7 +235,8 @@ module _ (b : List ℕ) (r : Bool) (test : (t : Term) → b ≡ encode t → r �
     part : (t : Term) (e : b ≡ encode t) → Part b 4 (at-term t e .m)
     part t e =
         let x = at-term t e in
-        let v = application b 0 (app (x .m) (loc 0)) (at-start b (app (x .m) (loc 0)) (e ∙ ap encode (x .is))) (ap (λ (l : List ℕ). getD l 0 0) (e ∙ ap encode (x .is))) in
+        let v = application b 0 (app (x .m) (loc 0)) (at-start b (app (x .m) (loc 0)) (e ∙ ap encode (x .is)))
+        (ap (λ (l : List ℕ). getD l 0 0) (e ∙ ap encode (x .is))) in
         subst (Part b 4) (ap headOf (sym (v .is))) (v .head)
 
     pub eta-substitution : (out : List ℕ) → Abstracted b → length out ≡ sweptBytes → Substitution b 4 0 b out 0
@@ -233,11 +249,13 @@ module _ (b : List ℕ) (r : Bool) (test : (t : Term) → b ≡ encode t → r �
           table = x .bytes;
           few = omega (arith, x .most);
           source = source (replace (x .body)) b 4 0 (length out) 0 (y .m) (part (x .body) (x .bytes))
-              (subst Fits q (closed-fits (x .depth) (contract (lam (x .body))) (x .closed) (omega (arith, x .most, x .shallow, y .smaller))))
+              (subst Fits q
+              (closed-fits (x .depth) (contract (lam (x .body))) (x .closed) (omega (arith, x .most, x .shallow, y .smaller))))
               (omega (arith, x .most, ap size (y .is))) (omega (arith, x .most, y .smaller, ap size q));
         }
 
-    pub eta-written : (out after : List ℕ) (to end : ℕ) → length b ≤ sweptBytes → ((t : Term) → b ≡ encode t → Wrote (replace t) b 4 0 out 0 after to end) → Abstracts b out (Records (end / 4)) after
+    pub eta-written : (out after : List ℕ) (to end : ℕ) → length b ≤ sweptBytes
+        → ((t : Term) → b ≡ encode t → Wrote (replace t) b 4 0 out 0 after to end) → Abstracts b out (Records (end / 4)) after
     eta-written out after to end h w t e =
         let y = at-term t e in
         let q = y .moved t in
@@ -252,7 +270,8 @@ module _ (b : List ℕ) (r : Bool) (test : (t : Term) → b ≡ encode t → r �
     pub abstracted-too-long : (out : List ℕ) → sweptBytes < 4 + length b → Abstracts b out TooLong out
     abstracted-too-long out h t e = rw (kept t e) (too-long (lam t) out (omega (arith, table-length b t e)))
 
-    pub abstracted-written : (out p q : List ℕ) → 4 + length b ≤ sweptBytes → p ≡ sets out 0 (bytes 1 0 []) → q ≡ sets p 4 b → Abstracts b out (Records ((4 + length b) / 4)) q
+    pub abstracted-written : (out p q : List ℕ) → 4 + length b ≤ sweptBytes → p ≡ sets out 0 (bytes 1 0 []) → q ≡ sets p 4 b
+        → Abstracts b out (Records ((4 + length b) / 4)) q
     abstracted-written out p q h u v t e =
         rw (kept t e)
         (written (lam t) out q ((4 + length b) / 4) (omega (arith, table-length b t e)) (omega arith)

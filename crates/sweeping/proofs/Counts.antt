@@ -65,7 +65,8 @@ module _ (l : List ℕ) (at k : ℕ) where
 pub count-none : (k : ℕ) (t : Term) → count k t ≡ 0 → uses k t ≡ false
 count-none k (app f a) h = rw (count-none k f (omega arith), count-none k a (omega arith))
 count-none k (lam b) h = count-none (suc k) b h
-count-none k (loc n) h = by-eqb (λ s. cond {A = ℕ} s 1 0 ≡ 0 → s ≡ false) n k (λ p (e : _≡_ {A = ℕ} 1 0). absurd (omega arith)) (λ p e. refl) h
+count-none k (loc n) h =
+    by-eqb (λ s. cond {A = ℕ} s 1 0 ≡ 0 → s ≡ false) n k (λ p (e : _≡_ {A = ℕ} 1 0). absurd (omega arith)) (λ p e. refl) h
 count-none k (con n) h = refl
 count-none k (var n) h = refl
 

@@ -1,4 +1,3 @@
-pub mod Stores
 pub mod Writers
 pub mod Counts
 pub mod Contraction

@@ -25,8 +25,9 @@ use Rattle.assignments.specs.Entries.{Given, Gives}
 use Rattle.assignments.specs.declared.Entry.{Entry}
 use Rattle.sweeping.specs.declared.Length.{Length}
 use Rattle.sweeping.specs.declared.Length.the-variants.{Records, TooLong}
-use Rattle.sweeping.specs.Swept.{sweptBytes, Written, Swept, Applied, Applies, Abstracted, Abstracts, Assigned, Ready, Fillable, Sweeps}
-use Rattle.sweeping.proofs.Stores.{stored}
+use Rattle.sweeping.specs.Swept.{sweptBytes, Written, Swept, Applied, Applies, Abstracted, Abstracts, Assigned, Ready, Fillable}
+use Rattle.sweeping.specs.Swept.{Sweeps}
+use Rattle.copying.proofs.Stores.{stored}
 use Rattle.sweeping.proofs.Contraction.{written, table-length}
 use Rattle.sweeping.proofs.Values.{largest-normal}
 
@@ -55,9 +56,11 @@ is-occurs i (app f a) (inr o) = or-right (occurs i f) (occurs i a) (is-occurs i 
 is-occurs i (lam b) o = is-occurs i b o
 is-occurs i (var n) o = eq-eqb i n o
 
-pub closed-swept : (s : List ℕ) (a : List Entry) (φ : ℕ → Term) (d : ℕ) (t : Term) → Gives s a φ t → Closed d t → Closed d (sweep (fill φ t))
+pub closed-swept : (s : List ℕ) (a : List Entry) (φ : ℕ → Term) (d : ℕ) (t : Term) → Gives s a φ t → Closed d t
+    → Closed d (sweep (fill φ t))
 closed-swept s a φ d t g c =
-    subst (λ (u : Term). Closed d (sweep u)) (fill-same ψ φ t (λ i o. rw (is-occurs i t o))) (closed-sweep ψ (λ i. value i (occurs i t) refl) d t c)
+    subst (λ (u : Term). Closed d (sweep u)) (fill-same ψ φ t (λ i o. rw (is-occurs i t o)))
+    (closed-sweep ψ (λ i. value i (occurs i t) refl) d t c)
   where
     ψ : ℕ → Term
     ψ i = cond (occurs i t) (φ i) (con 0)
@@ -67,7 +70,8 @@ closed-swept s a φ d t g c =
     value i false e = (tt, tt, omega arith)
 
 -- the values for the parts of an application
-gives-parts : (l s : List ℕ) (a : List Entry) (z : getD l 0 0 ≡ 0) (t : Term) (φ : ℕ → Term) (q : l ≡ encode t) → Gives s a φ t → Gives s a φ (application-of l t q z .f) × Gives s a φ (application-of l t q z .a)
+gives-parts : (l s : List ℕ) (a : List Entry) (z : getD l 0 0 ≡ 0) (t : Term) (φ : ℕ → Term) (q : l ≡ encode t) → Gives s a φ t
+    → Gives s a φ (application-of l t q z .f) × Gives s a φ (application-of l t q z .a)
 gives-parts l s a z t φ q g =
     let v = application-of l t q z in
     let h : Gives s a φ (app (v .f) (v .a)) = subst (Gives s a φ) (v .is) g in
@@ -155,31 +159,37 @@ unfolding Swept
 long t out h = (h, refl)
 
 -- a term that sweeps to u, from what was written for u
-whole-swept : (t u : Term) (out : List ℕ) (r : Length) (after : List ℕ) → sweep t ≡ u → (size u ≤ sweptRecords → largest t ≤ sweptRecords) → size u ≤ largest t → Written u out r after → Swept t out r after
+whole-swept : (t u : Term) (out : List ℕ) (r : Length) (after : List ℕ) → sweep t ≡ u → (size u ≤ sweptRecords → largest t ≤ sweptRecords)
+    → size u ≤ largest t → Written u out r after → Swept t out r after
 unfolding Swept Written
 whole-swept t u out (Records n) after e f g w = (f (omega (arith, w .0, w .1)), rw e w)
 whole-swept t u out TooLong after e f g w = (omega (arith, w .0), w .1)
 
 -- what the sweeps of the parts are, for every term that the part can be
 module _ (s : List ℕ) (a : List Entry) (out : List ℕ) where
-  pub results : (m p : List ℕ) (r : Length) (n : ℕ) → Sweeps m s a out r p → r ≡ Records n → length out ≡ sweptBytes → (t : Term) (φ : ℕ → Term) → m ≡ encode t → Gives s a φ t → Result (fill φ t) p n
+  pub results : (m p : List ℕ) (r : Length) (n : ℕ) → Sweeps m s a out r p → r ≡ Records n → length out ≡ sweptBytes
+      → (t : Term) (φ : ℕ → Term) → m ≡ encode t → Gives s a φ t → Result (fill φ t) p n
   results m p r n w e h t φ q g = result (fill φ t) out p r n (w t φ q g) e h
 
-  pub result-few : (m p : List ℕ) (r : Length) (n : ℕ) → Sweeps m s a out r p → r ≡ Records n → length out ≡ sweptBytes → Ready m s a → n ≤ sweptRecords
+  pub result-few : (m p : List ℕ) (r : Length) (n : ℕ) → Sweeps m s a out r p → r ≡ Records n → length out ≡ sweptBytes
+      → Ready m s a → n ≤ sweptRecords
   result-few m p r n w e h x = results m p r n w e h (x .tree) (x .φ) (x .bytes) (x .gives) .few
 
-  pub result-within : (m p : List ℕ) (r : Length) (n : ℕ) → Sweeps m s a out r p → r ≡ Records n → length out ≡ sweptBytes → Ready m s a → n * 4 ≤ length p
+  pub result-within : (m p : List ℕ) (r : Length) (n : ℕ) → Sweeps m s a out r p → r ≡ Records n → length out ≡ sweptBytes
+      → Ready m s a → n * 4 ≤ length p
   result-within m p r n w e h x = results m p r n w e h (x .tree) (x .φ) (x .bytes) (x .gives) .within
 
 -- an application
-module _ (l s : List ℕ) (a : List Entry) (z : getD l 0 0 ≡ 0) (m : List ℕ) (head : (f g : Term) → l ≡ encode (app f g) → m ≡ encode f) (u p : List ℕ) (r : Length) (w : Sweeps m s a u r p) where
+module _ (l s : List ℕ) (a : List Entry) (z : getD l 0 0 ≡ 0) (m : List ℕ) (head : (f g : Term) → l ≡ encode (app f g) → m ≡ encode f)
+    (u p : List ℕ) (r : Length) (w : Sweeps m s a u r p) where
   pub head-long : (out : List ℕ) → r ≡ TooLong → Sweeps l s a out TooLong out
   head-long out e t φ q g =
       let v = application-of l t q z in
       let h = swept-long (fill φ (v .f)) u p r (w (v .f) φ (head (v .f) (v .a) (v .bytes)) (gives-parts l s a z t φ q g .0)) e in
       rw (v .is) (long (fill φ (app (v .f) (v .a))) out (omega arith))
 
-  module _ (j : List ℕ) (argument : (f g : Term) → l ≡ encode (app f g) → j ≡ encode g) (c : List ℕ) (b : List ℕ) (o : Length) (y : Sweeps j s a c o b) where
+  module _ (j : List ℕ) (argument : (f g : Term) → l ≡ encode (app f g) → j ≡ encode g) (c : List ℕ) (b : List ℕ) (o : Length)
+      (y : Sweeps j s a c o b) where
     pub argument-long : (out : List ℕ) → o ≡ TooLong → Sweeps l s a out TooLong out
     argument-long out e t φ q g =
         let v = application-of l t q z in
@@ -187,11 +197,14 @@ module _ (l s : List ℕ) (a : List Entry) (z : getD l 0 0 ≡ 0) (m : List ℕ)
         rw (v .is) (long (fill φ (app (v .f) (v .a))) out (omega arith))
 
     module _ (n k : ℕ) (e : r ≡ Records n) (d : o ≡ Records k) (h : length u ≡ sweptBytes) (i : length c ≡ sweptBytes) where
-      both : (t : Term) (φ : ℕ → Term) (q : l ≡ encode t) → Gives s a φ t → Result (fill φ (application-of l t q z .f)) p n × Result (fill φ (application-of l t q z .a)) b k
+      both : (t : Term) (φ : ℕ → Term) (q : l ≡ encode t) → Gives s a φ t
+          → Result (fill φ (application-of l t q z .f)) p n × Result (fill φ (application-of l t q z .a)) b k
       both t φ q g =
           let v = application-of l t q z in
-          let f = gives-parts l s a z t φ q g in
-          (results s a u m p r n w e h (v .f) φ (head (v .f) (v .a) (v .bytes)) (f .0), results s a c j b o k y d i (v .a) φ (argument (v .f) (v .a) (v .bytes)) (f .1))
+          let f = gives-parts l s a z t φ q g in (
+            results s a u m p r n w e h (v .f) φ (head (v .f) (v .a) (v .bytes)) (f .0),
+            results s a c j b o k y d i (v .a) φ (argument (v .f) (v .a) (v .bytes)) (f .1),
+          )
 
       pub parts-applied : Ready l s a → Applied (take (n * 4 - 0) (drop 0 p)) (take (k * 4 - 0) (drop 0 b))
       parts-applied x =
@@ -209,10 +222,12 @@ module _ (l s : List ℕ) (a : List Entry) (z : getD l 0 0 ≡ 0) (m : List ℕ)
             argument-most = omega (arith, g .fills, g .few);
             depth = x .depth;
             shallow = omega (arith, x .shallow);
-            closed = subst (λ (t : Term). Closed (x .depth) (sweep (fill (x .φ) t))) (v .is) (closed-swept s a (x .φ) (x .depth) (x .tree) (x .gives) (x .closed));
+            closed = subst (λ (t : Term). Closed (x .depth) (sweep (fill (x .φ) t))) (v .is)
+                (closed-swept s a (x .φ) (x .depth) (x .tree) (x .gives) (x .closed));
           }
 
-      pub sweeps-application : (out : List ℕ) (q : Length) (after : List ℕ) → Applies (take (n * 4 - 0) (drop 0 p)) (take (k * 4 - 0) (drop 0 b)) out q after → Sweeps l s a out q after
+      pub sweeps-application : (out : List ℕ) (q : Length) (after : List ℕ)
+          → Applies (take (n * 4 - 0) (drop 0 p)) (take (k * 4 - 0) (drop 0 b)) out q after → Sweeps l s a out q after
       sweeps-application out q after x t φ g y =
           let v = application-of l t g z in
           let f = both t φ g y .0 in
@@ -222,7 +237,8 @@ module _ (l s : List ℕ) (a : List Entry) (z : getD l 0 0 ≡ 0) (m : List ℕ)
           (λ h. omega (arith, f .all, f₁ .all)) (omega arith) w₁)
 
 -- an abstraction
-module _ (l s : List ℕ) (a : List Entry) (z : getD l 0 0 ≡ 1) (m : List ℕ) (body : (b : Term) → l ≡ encode (lam b) → m ≡ encode b) (u p : List ℕ) (r : Length) (w : Sweeps m s a u r p) where
+module _ (l s : List ℕ) (a : List Entry) (z : getD l 0 0 ≡ 1) (m : List ℕ) (body : (b : Term) → l ≡ encode (lam b) → m ≡ encode b)
+    (u p : List ℕ) (r : Length) (w : Sweeps m s a u r p) where
   pub body-long : (out : List ℕ) → r ≡ TooLong → Sweeps l s a out TooLong out
   body-long out e t φ q g =
       let v = abstraction-of l t q z in
@@ -246,10 +262,12 @@ module _ (l s : List ℕ) (a : List Entry) (z : getD l 0 0 ≡ 1) (m : List ℕ)
           most = omega (arith, f .fills, f .few);
           depth = x .depth;
           shallow = omega (arith, x .shallow);
-          closed = subst (λ (t : Term). Closed (x .depth) (sweep (fill (x .φ) t))) (v .is) (closed-swept s a (x .φ) (x .depth) (x .tree) (x .gives) (x .closed));
+          closed = subst (λ (t : Term). Closed (x .depth) (sweep (fill (x .φ) t))) (v .is)
+              (closed-swept s a (x .φ) (x .depth) (x .tree) (x .gives) (x .closed));
         }
 
-    pub sweeps-abstraction : (out : List ℕ) (q : Length) (after : List ℕ) → Abstracts (take (n * 4 - 0) (drop 0 p)) out q after → Sweeps l s a out q after
+    pub sweeps-abstraction : (out : List ℕ) (q : Length) (after : List ℕ) → Abstracts (take (n * 4 - 0) (drop 0 p)) out q after
+        → Sweeps l s a out q after
     sweeps-abstraction out q after x t φ g y =
         let v = abstraction-of l t g z in
         let f = one t φ g y in
@@ -258,7 +276,8 @@ module _ (l s : List ℕ) (a : List Entry) (z : getD l 0 0 ≡ 1) (m : List ℕ)
 
 -- a normal term, which sweeps to itself
 swept-normal : (t : Term) (out : List ℕ) (r : Length) (after : List ℕ) → Normal t → Written t out r after → Swept t out r after
-swept-normal t out r after n w = whole-swept t t out r after (sweep-normal t n) (λ h. omega (arith, largest-normal t n)) (omega (arith, largest-normal t n)) w
+swept-normal t out r after n w =
+    whole-swept t t out r after (sweep-normal t n) (λ h. omega (arith, largest-normal t n)) (omega (arith, largest-normal t n)) w
 
 module _ (l s : List ℕ) (a : List Entry) where
   variable-at : (i : ℕ) (t : Term) → l ≡ encode t → getD l 0 0 ≡ 4 → i ≡ numberAt l 0 → t ≡ var i
@@ -274,7 +293,8 @@ module _ (l s : List ℕ) (a : List Entry) where
   pub ready-value : (i : ℕ) → Ready l s a → getD l 0 0 ≡ 4 → i ≡ numberAt l 0 → Assigned s a i
   ready-value i x k q = record { value = x .φ i; given = given i (x .tree) (x .φ) (variable-at i (x .tree) (x .bytes) k q) (x .gives) }
 
-  pub sweeps-variable : (i : ℕ) (out : List ℕ) (r : Length) (after : List ℕ) → getD l 0 0 ≡ 4 → i ≡ numberAt l 0 → ((v : Term) → Given s a i v → Written v out r after) → Sweeps l s a out r after
+  pub sweeps-variable : (i : ℕ) (out : List ℕ) (r : Length) (after : List ℕ) → getD l 0 0 ≡ 4 → i ≡ numberAt l 0
+      → ((v : Term) → Given s a i v → Written v out r after) → Sweeps l s a out r after
   sweeps-variable i out r after k q w t φ e g =
       let v = variable-at i t e k q in
       let h = given i t φ v g in

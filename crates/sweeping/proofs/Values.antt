@@ -33,7 +33,13 @@ held s a i v g x e =
     subst (λ (y : Span). Held s y v) q (record {
       most = omega (arith, g .most);
       within = g .within;
-      exact = omega (arith, g .within, table-length _ v (g .bytes), length-take (4 * g .span .count) (drop (4 * g .span .first) s), length-drop (4 * g .span .first) s);
+      exact = omega (
+        arith,
+        g .within,
+        table-length _ v (g .bytes),
+        length-take (4 * g .span .count) (drop (4 * g .span .first) s),
+        length-drop (4 * g .span .first) s,
+      );
       bytes = g .bytes;
     })
 
@@ -47,8 +53,10 @@ given-below s a i v g = go (decLt i (length a))
     go (yes h) = h
     go (no h) = open-not s a i v g (List·getD-eq-default a Open (omega arith))
 
-pub value-written : (s : List ℕ) (x : Span) (v : Term) (out b after : List ℕ) → Held s x v → b ≡ take (4 * x .count) (drop (4 * x .first) s) → after ≡ sets out 0 b → Written v out (Records (x .count)) after
-value-written s x v out b after h e q = written v out after (x .count) (omega (arith, h .exact)) (h .most) (q ∙ ap (sets out 0) (e ∙ h .bytes))
+pub value-written : (s : List ℕ) (x : Span) (v : Term) (out b after : List ℕ) → Held s x v → b ≡ take (4 * x .count) (drop (4 * x .first) s)
+    → after ≡ sets out 0 b → Written v out (Records (x .count)) after
+value-written s x v out b after h e q =
+    written v out after (x .count) (omega (arith, h .exact)) (h .most) (q ∙ ap (sets out 0) (e ∙ h .bytes))
 
 -- the parts of a normal term sweep to themselves, and it is the largest
 pub largest-normal : (t : Term) → Normal t → largest t ≡ size t

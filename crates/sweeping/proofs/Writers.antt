@@ -15,9 +15,10 @@ use Rattle.terms.proofs.Substitute.{substitute-here, substitute-low, substitute
 use Rattle.terms.proofs.Table.{kind, number, encode-length}
 use Rattle.records.specs.Record.{numberAt}
 use Rattle.records.specs.Parts.{Part, Whole}
-use Rattle.records.proofs.Parts.{size-some, whole, kind-at, number-at, at-start, application, abstraction, argument-part, ends-app, ends-lam, ends-leaf}
+use Rattle.records.proofs.Parts.{size-some, whole, kind-at, number-at, at-start, application, abstraction, argument-part, ends-app}
+use Rattle.records.proofs.Parts.{ends-lam, ends-leaf}
 use Rattle.sweeping.specs.Writers.{replace, Fits, Source, Wrote, Substitution}
-use Rattle.sweeping.proofs.Stores.{written-then}
+use Rattle.copying.proofs.Stores.{written-then}
 
 -- a change that follows the binders
 pub record Change (g : ℕ → Term → Term) : Type 0 where
@@ -32,7 +33,8 @@ shifts d = record { application = λ k f a. refl; abstraction = λ k b. refl; co
 pub replaces : (e : Term) → Change (replace e)
 replaces e = record { application = λ k f a. refl; abstraction = λ k b. refl; constant = λ k n. refl; variable = λ k n. refl }
 
-pub source : (g : ℕ → Term → Term) (l : List ℕ) (at k room o : ℕ) (t : Term) → Part l at t → Fits (g k t) → k + size t ≤ constants → o + 4 * size (g k t) ≤ room → Source g l at k room o
+pub source : (g : ℕ → Term → Term) (l : List ℕ) (at k room o : ℕ) (t : Term) → Part l at t → Fits (g k t) → k + size t ≤ constants
+    → o + 4 * size (g k t) ≤ room → Source g l at k room o
 source g l at k room o t x f s e = record {
   tree = t;
   part = x;
@@ -60,7 +62,8 @@ pub record Other (l : List ℕ) (at : ℕ) : Type 0 where
   pub no-abstraction : ¬ (getD l at 0 ≡ 1)
   pub no-local : ¬ (getD l at 0 ≡ 2)
 
-pub by-other : (P : Term → Type 0) (l : List ℕ) (at : ℕ) → Other l at → ((n : ℕ) → Part l at (con n) → P (con n)) → ((n : ℕ) → Part l at (var n) → P (var n)) → (t : Term) → Part l at t → P t
+pub by-other : (P : Term → Type 0) (l : List ℕ) (at : ℕ) → Other l at → ((n : ℕ) → Part l at (con n) → P (con n))
+    → ((n : ℕ) → Part l at (var n) → P (var n)) → (t : Term) → Part l at t → P t
 by-other P l at h c v (app f a) x = absurd (h .no-application (kind-at l at (app f a) x))
 by-other P l at h c v (lam b) x = absurd (h .no-abstraction (kind-at l at (lam b) x))
 by-other P l at h c v (loc n) x = absurd (h .no-local (kind-at l at (loc n) x))
@@ -78,7 +81,8 @@ module _ (g : ℕ → Term → Term) (change : Change g) (l : List ℕ) (at k : 
         let v = application l at (x .tree) (x .part) z in
         let e : g k (x .tree) ≡ app (g k (v .f)) (g k (v .a)) = ap (g k) (v .is) ∙ change .application k (v .f) (v .a) in
         let f : Fits (app (g k (v .f)) (g k (v .a))) = subst Fits e (x .fits) in
-        source g l (at + 4) k room (o + 4) (v .f) (v .head) (f .0) (omega (arith, ap size (v .is), x .shallow)) (omega (arith, ap size e, x .enough))
+        source g l (at + 4) k room (o + 4) (v .f) (v .head) (f .0) (omega (arith, ap size (v .is), x .shallow))
+        (omega (arith, ap size e, x .enough))
 
     pub source-argument : (out p : List ℕ) (h m : ℕ) → getD l at 0 ≡ 0 → Wrote g l (at + 4) k out (o + 4) p h m → Source g l h k room m
     source-argument out p h m z w =
@@ -91,8 +95,10 @@ module _ (g : ℕ → Term → Term) (change : Change g) (l : List ℕ) (at k : 
     pub source-body : getD l at 0 ≡ 1 → Source g l (at + 4) (k + 1) room (o + 4)
     source-body z =
         let v = abstraction l at (x .tree) (x .part) z in
-        let e : g k (x .tree) ≡ lam (g (k + 1) (v .b)) = ap (g k) (v .is) ∙ change .abstraction k (v .b) ∙ ap (λ (j : ℕ). lam (g j (v .b))) (sym (add-one k)) in
-        source g l (at + 4) (k + 1) room (o + 4) (v .b) (v .body) (subst Fits e (x .fits)) (omega (arith, ap size (v .is), x .shallow)) (omega (arith, ap size e, x .enough))
+        let e : g k (x .tree) ≡ lam (g (k + 1) (v .b)) =
+        ap (g k) (v .is) ∙ change .abstraction k (v .b) ∙ ap (λ (j : ℕ). lam (g j (v .b))) (sym (add-one k)) in
+        source g l (at + 4) (k + 1) room (o + 4) (v .b) (v .body) (subst Fits e (x .fits)) (omega (arith, ap size (v .is), x .shallow))
+        (omega (arith, ap size e, x .enough))
 
     pub source-local : (n : ℕ) → getD l at 0 ≡ 2 → n ≡ numberAt l at → Fits (g k (loc n))
     source-local n z e = subst (λ (t : Term). Fits (g k t)) (local-at l at n (x .tree) (x .part) z e) (x .fits)
@@ -102,7 +108,8 @@ module _ (g : ℕ → Term → Term) (change : Change g) (l : List ℕ) (at k : 
 
   -- what was written
   module _ (out : List ℕ) (o : ℕ) where
-    pub wrote-application : (p q r : List ℕ) (h m next end : ℕ) → getD l at 0 ≡ 0 → p ≡ sets out o (bytes 0 0 []) → Wrote g l (at + 4) k p (o + 4) q h m → Wrote g l h k q m r next end → Wrote g l at k out o r next end
+    pub wrote-application : (p q r : List ℕ) (h m next end : ℕ) → getD l at 0 ≡ 0 → p ≡ sets out o (bytes 0 0 [])
+        → Wrote g l (at + 4) k p (o + 4) q h m → Wrote g l h k q m r next end → Wrote g l at k out o r next end
     wrote-application p q r h m next end z e x y = record {
       ends = ends-app l at h next z (x .ends) (y .ends);
       exact = λ t w. go t w .0;
@@ -120,7 +127,8 @@ module _ (g : ℕ → Term → Term) (change : Change g) (l : List ℕ) (at k : 
             let b = written-then (bytes 0 0 []) (encode (g k (v .f))) out p q o (o + 4) e (x .bytes (v .f) (v .head)) refl in
             rw u (omega arith, written-then (bytes 0 0 (encode (g k (v .f)))) (encode (g k (v .a))) out q r o m b (y .bytes (v .a) a) n)
 
-    pub wrote-abstraction : (p q : List ℕ) (next end : ℕ) → getD l at 0 ≡ 1 → p ≡ sets out o (bytes 1 0 []) → Wrote g l (at + 4) (k + 1) p (o + 4) q next end → Wrote g l at k out o q next end
+    pub wrote-abstraction : (p q : List ℕ) (next end : ℕ) → getD l at 0 ≡ 1 → p ≡ sets out o (bytes 1 0 [])
+        → Wrote g l (at + 4) (k + 1) p (o + 4) q next end → Wrote g l at k out o q next end
     wrote-abstraction p q next end z e x = record {
       ends = ends-lam l at next z (x .ends);
       exact = λ t w. go t w .0;
@@ -130,11 +138,13 @@ module _ (g : ℕ → Term → Term) (change : Change g) (l : List ℕ) (at k : 
         go : (t : Term) → Part l at t → (end ≡ o + 4 * size (g k t)) × (q ≡ sets out o (encode (g k t)))
         go t w =
             let v = abstraction l at t w z in
-            let u : g k t ≡ lam (g (k + 1) (v .b)) = ap (g k) (v .is) ∙ change .abstraction k (v .b) ∙ ap (λ (j : ℕ). lam (g j (v .b))) (sym (add-one k)) in
+            let u : g k t ≡ lam (g (k + 1) (v .b)) =
+            ap (g k) (v .is) ∙ change .abstraction k (v .b) ∙ ap (λ (j : ℕ). lam (g j (v .b))) (sym (add-one k)) in
             let i = x .exact (v .b) (v .body) in
             rw u (omega arith, written-then (bytes 1 0 []) (encode (g (k + 1) (v .b))) out p q o (o + 4) e (x .bytes (v .b) (v .body)) refl)
 
-    pub wrote-local : (p : List ℕ) (n end : ℕ) (u : Term) → Whole l at → getD l at 0 ≡ 2 → n ≡ numberAt l at → u ≡ g k (loc n) → p ≡ sets out o (encode u) → end ≡ o + 4 * size u → Wrote g l at k out o p (at + 4) end
+    pub wrote-local : (p : List ℕ) (n end : ℕ) (u : Term) → Whole l at → getD l at 0 ≡ 2 → n ≡ numberAt l at → u ≡ g k (loc n)
+        → p ≡ sets out o (encode u) → end ≡ o + 4 * size u → Wrote g l at k out o p (at + 4) end
     wrote-local p n end u x z e f b s = record {
       ends = ends-leaf l at (λ q. omega arith) (λ q. omega arith) x;
       exact = λ t w. s ∙ ap (λ (y : Term). o + 4 * size y) (is t w);
@@ -144,7 +154,8 @@ module _ (g : ℕ → Term → Term) (change : Change g) (l : List ℕ) (at k : 
         is : (t : Term) → Part l at t → u ≡ g k t
         is t w = f ∙ ap (g k) (sym (local-at l at n t w z e))
 
-    pub wrote-other : (p : List ℕ) (n : ℕ) → Whole l at → Other l at → n ≡ numberAt l at → p ≡ sets out o (bytes (getD l at 0) n []) → Wrote g l at k out o p (at + 4) (o + 4)
+    pub wrote-other : (p : List ℕ) (n : ℕ) → Whole l at → Other l at → n ≡ numberAt l at → p ≡ sets out o (bytes (getD l at 0) n [])
+        → Wrote g l at k out o p (at + 4) (o + 4)
     wrote-other p n x z e b = record {
       ends = ends-leaf l at (z .no-application) (z .no-abstraction) x;
       exact = λ t w. is t w .0;
@@ -156,7 +167,8 @@ module _ (g : ℕ → Term → Term) (change : Change g) (l : List ℕ) (at k : 
 
         is : (t : Term) → Part l at t → (o + 4 ≡ o + 4 * size (g k t)) × (p ≡ sets out o (encode (g k t)))
         is = by-other (λ t. (o + 4 ≡ o + 4 * size (g k t)) × (p ≡ sets out o (encode (g k t)))) l at z
-            (λ m w. rw (change .constant k m) (omega arith, own (con m) w refl)) (λ m w. rw (change .variable k m) (omega arith, own (var m) w refl))
+            (λ m w. rw (change .constant k m) (omega arith, own (con m) w refl))
+            (λ m w. rw (change .variable k m) (omega arith, own (var m) w refl))
 
 -- a local that is shifted
 pub shift-fits : (n d c : ℕ) → Fits (shift d c (loc n)) → c ≤ n → n + d < constants
@@ -172,17 +184,26 @@ shift-high n d c f h = let e : shift d c (loc n) ≡ loc (n + d) = rw (le-ltb n 
 module _ (b : List ℕ) (at k : ℕ) (e out : List ℕ) (o : ℕ) (x : Substitution b at k e out o) where
   module _ (p : List ℕ) (n : length p ≡ length out) where
     from : (j i m : ℕ) → Source (replace (x .argument)) b j i (length out) m → Substitution b j i e p m
-    from j i m s = record { argument = x .argument; table = x .table; few = x .few; source = source-in (replace (x .argument)) b j i (length out) (length p) m n s }
+    from j i m s = record {
+      argument = x .argument;
+      table = x .table;
+      few = x .few;
+      source = source-in (replace (x .argument)) b j i (length out) (length p) m n s;
+    }
 
     pub substitution-head : getD b at 0 ≡ 0 → Substitution b (at + 4) k e p (o + 4)
-    substitution-head z = from (at + 4) k (o + 4) (source-head (replace (x .argument)) (replaces (x .argument)) b at k (length out) o (x .source) z)
+    substitution-head z =
+        from (at + 4) k (o + 4) (source-head (replace (x .argument)) (replaces (x .argument)) b at k (length out) o (x .source) z)
 
     pub substitution-body : getD b at 0 ≡ 1 → Substitution b (at + 4) (k + 1) e p (o + 4)
-    substitution-body z = from (at + 4) (k + 1) (o + 4) (source-body (replace (x .argument)) (replaces (x .argument)) b at k (length out) o (x .source) z)
+    substitution-body z =
+        from (at + 4) (k + 1) (o + 4) (source-body (replace (x .argument)) (replaces (x .argument)) b at k (length out) o (x .source) z)
 
-    pub substitution-argument : (q r : List ℕ) (h m : ℕ) → getD b at 0 ≡ 0 → ((t : Term) → e ≡ encode t → Wrote (replace t) b (at + 4) k q (o + 4) r h m) → Substitution b h k e p m
+    pub substitution-argument : (q r : List ℕ) (h m : ℕ) → getD b at 0 ≡ 0
+        → ((t : Term) → e ≡ encode t → Wrote (replace t) b (at + 4) k q (o + 4) r h m) → Substitution b h k e p m
     substitution-argument q r h m z w =
-        from h k m (source-argument (replace (x .argument)) (replaces (x .argument)) b at k (length out) o (x .source) q r h m z (w (x .argument) (x .table)))
+        from h k m (source-argument (replace (x .argument)) (replaces (x .argument)) b at k (length out) o (x .source) q r h m z
+        (w (x .argument) (x .table)))
 
   -- the term to be put for local k, shifted by the k binders crossed
   pub substitution-copy : (n : ℕ) → getD b at 0 ≡ 2 → n ≡ numberAt b at → n ≡ k → Source (shift k) e 0 0 (length out) o
@@ -192,15 +213,18 @@ module _ (b : List ℕ) (at k : ℕ) (e out : List ℕ) (o : ℕ) (x : Substitut
       source (shift k) e 0 0 (length out) o (x .argument) (at-start e (x .argument) (x .table))
       (subst Fits q (source-local g (replaces (x .argument)) b at k (length out) o (x .source) n z i))
       (omega (arith, x .few))
-      (subst (λ (t : Term). o + 4 * size t ≤ length out) q (source-enough g (replaces (x .argument)) b at k (length out) o (x .source) n z i))
+      (subst (λ (t : Term). o + 4 * size t ≤ length out) q
+      (source-enough g (replaces (x .argument)) b at k (length out) o (x .source) n z i))
 
   pub substitution-whole : Whole b at
   substitution-whole = source-whole (replace (x .argument)) (replaces (x .argument)) b at k (length out) o (x .source)
 
-  pub wrote-copy : (p : List ℕ) (n next end : ℕ) → getD b at 0 ≡ 2 → n ≡ numberAt b at → n ≡ k → Wrote (shift k) e 0 0 out o p next end → (t : Term) → e ≡ encode t → Wrote (replace t) b at k out o p (at + 4) end
+  pub wrote-copy : (p : List ℕ) (n next end : ℕ) → getD b at 0 ≡ 2 → n ≡ numberAt b at → n ≡ k → Wrote (shift k) e 0 0 out o p next end
+      → (t : Term) → e ≡ encode t → Wrote (replace t) b at k out o p (at + 4) end
   wrote-copy p n next end z i h w t f =
       let s = at-start e t f in
-      wrote-local (replace t) (replaces t) b at k out o p n end (shift k 0 t) substitution-whole z i (sym (substitute-here k t n h)) (w .bytes t s) (w .exact t s)
+      wrote-local (replace t) (replaces t) b at k out o p n end (shift k 0 t) substitution-whole z i (sym (substitute-here k t n h))
+      (w .bytes t s) (w .exact t s)
 
 pub lowered-low : (n k : ℕ) → n < k → (e : Term) → loc n ≡ replace e k (loc n)
 lowered-low n k h e = sym (substitute-low n k e h)

@@ -3,14 +3,14 @@
 --   replace e k t                         e put for local k of t
 --   count k t                             how often t uses local k
 --   Fits t                                each local of t has a number that a record holds
---   Source g l at k room o                a term t stands in l from byte `at` on, and g k t can be written from byte o on, before byte `room`
+--   Source g l at k room o                a term t stands in l from byte `at` on, and g k t can be written from byte o on,
+--                                         before byte `room`
 --   Single l at                           the part of l at byte `at` is one record: it is neither application nor abstraction
 --   Wrote g l at k out o after next end   g k t was written into out from byte o on, for the term t that stands in l from byte `at` on
 --   Substitution b at k e out o           what writing `replace e` needs, e given by its table
 --   Used l at k next n                    the term that stands in l from byte `at` on uses local k n times
---   Same a b r                            r says whether the lists a and b are equal
 use mathlib.Core.Path.{_≡_}
-use mathlib.Core.Bool.{Bool, true, false, cond}
+use mathlib.Core.Bool.{cond}
 use mathlib.Core.List.{List}
 use Prim.Native.Nat.{ℕ, suc, _+_, _*_, _≤_, _<_}
 use lib.Dec.{eqb}
@@ -67,7 +67,3 @@ pub record Used (l : List ℕ) (at k next n : ℕ) : Type 0 where
   pub ends : Ends l at next
   pub few : at + 4 * n ≤ next
   pub exact : (t : Term) → Part l at t → n ≡ count k t
-
-unfoldable pub Same : List ℕ → List ℕ → Bool → Type 0
-Same a b true = a ≡ b
-Same a b false = ¬ (a ≡ b)

@@ -1,25 +1,25 @@
 // The sweep of a filled pattern.
 //
-// It goes bottom-up through the parts of a table. The swept form of each part is written into an array of its own, and a redex is contracted
-// once, its size being known before anything is written. The crate promises that what it writes is the swept form of the pattern with the
-// assigned values filled in, and that it says "too long" exactly if the swept form of some part is above 256 records, also where that part
-// is then thrown away. It rests on `records` for single records and parts, and on `assignments` for the entries.
+// It goes bottom-up through the parts of a table. The swept form of each part is written into an array of its own, and a redex is
+// contracted once, its size being known before anything is written. The crate promises that what it writes is the swept form of the pattern
+// with the assigned values filled in, and that it says "too long" exactly if the swept form of some part is above 256 records, also where
+// that part is then thrown away. It rests on `records` for single records and parts, and on `assignments` for the entries.
 
 use assignments::Entry;
 use records::Kind;
 use records::RECORD;
+use records::VARIABLES;
 ghost use mathlib.Core.Path.{_≡_};
-ghost use mathlib.Core.Bool.{true, false, not, _&&_};
+ghost use mathlib.Core.Bool.{false, not, _&&_};
 ghost use Prim.Native.Nat.{_+_, _-_, _*_, _≤_, _<_};
 ghost use lib.ListN.{length, getD};
-ghost use lib.Seq.{sets};
 ghost use Rattle.terms.specs.Figures.{numbers};
 ghost use Rattle.terms.specs.Term.{Term, loc, shift, isEta, isAbstraction};
 ghost use Rattle.terms.specs.Table.{encode};
 ghost use Rattle.terms.specs.Sweep.{headOf};
 ghost use Rattle.records.specs.Parts.{Whole};
 ghost use Rattle.assignments.specs.Entries.{Given};
-ghost use Rattle.sweeping.specs.Writers.{replace, Fits, Source, Single, Wrote, Substitution, Used, Same};
+ghost use Rattle.sweeping.specs.Writers.{replace, Fits, Source, Single, Wrote, Substitution, Used};
 ghost use Rattle.sweeping.specs.Swept.{Written, Applied, Applies, Abstracted, Abstracts, Assigned, Ready, Fillable, Sweeps};
 
 // The bytes of a swept form of 256 records, the longest that is written.
@@ -41,35 +41,6 @@ pub struct Place {
 pub struct Uses {
     pub next: usize,
     pub count: usize,
-}
-
-// Whether two tables are equal.
-pub fn same_bytes(a: &[u8], b: &[u8]) -> bool
-    ensures { λ r. ⌜ Same (now (a .entry)) (now (b .entry)) r ⌝ }
-{
-    if a.len() != b.len() {
-        return false;
-    }
-    let mut i = 0;
-    while i < a.len() {
-        if a[i] != b[i] {
-            return false;
-        }
-        i += 1;
-    }
-    true
-}
-
-// Copies a table into out from byte o on.
-pub fn copy_into(src: &[u8], out: &mut [u8], o: usize)
-    requires { ⌜ o + length (now src) ≤ length (now out) ⌝ }
-    ensures { λ _. ⌜ now (out .exit) ≡ sets (now (out .entry)) o (now (src .entry)) ⌝ }
-{
-    let mut i = 0;
-    while i < src.len() {
-        out[o + i] = src[i];
-        i += 1;
-    }
 }
 
 // The number of local n, shifted by d from local c on.
@@ -137,7 +108,8 @@ fn lowered(n: usize, k: usize) -> usize
 // between it and the place that e was given for.
 pub fn substitute_into(b: &[u8], at: usize, k: usize, e: &[u8], out: &mut [u8], o: usize) -> Place
     requires { ⌜ Substitution (now b) at k (now e) (now out) o ⌝ }
-    ensures { λ r. ⌜ ((x : Term) → now (e .entry) ≡ encode x → Wrote (replace x) (now (b .entry)) at k (now (out .entry)) o (now (out .exit)) (r .next) (r .end)) ⌝ }
+    ensures { λ r. ⌜ ((x : Term) → now (e .entry) ≡ encode x
+        → Wrote (replace x) (now (b .entry)) at k (now (out .entry)) o (now (out .exit)) (r .next) (r .end)) ⌝ }
 {
     let kind = b[at];
     if kind == Kind::APPLICATION.code {
@@ -234,8 +206,8 @@ pub fn contract_application(f: &[u8], a: &[u8], out: &mut [u8; SWEPT_BYTES]) -> 
         return Length::TooLong;
     }
     records::put_record(out, 0, Kind::APPLICATION, 0);
-    copy_into(f, out, RECORD);
-    copy_into(a, out, RECORD + f.len());
+    copying::copy_into(f, out, RECORD);
+    copying::copy_into(a, out, RECORD + f.len());
     Length::Records(n / RECORD)
 }
 
@@ -276,12 +248,17 @@ pub fn contract_abstraction(b: &[u8], out: &mut [u8; SWEPT_BYTES]) -> Length
         return Length::TooLong;
     }
     records::put_record(out, 0, Kind::ABSTRACTION, 0);
-    copy_into(b, out, RECORD);
+    copying::copy_into(b, out, RECORD);
     Length::Records(n / RECORD)
 }
 
 // Writes the value of variable i, which is normal and so its own swept form.
-fn write_value(i: usize, values: &[u8], a: [Entry; 8], out: &mut [u8; SWEPT_BYTES]) -> Length
+fn write_value(
+    i: usize,
+    values: &[u8],
+    a: [Entry; VARIABLES],
+    out: &mut [u8; SWEPT_BYTES],
+) -> Length
     requires { ⌜ Assigned (now values) a i ⌝ }
     ensures { λ r. ⌜ ((v : Term) → Given (now (values .entry)) a i v → Written v (now (out .entry)) r (now (out .exit))) ⌝ }
 {
@@ -290,14 +267,19 @@ fn write_value(i: usize, values: &[u8], a: [Entry; 8], out: &mut [u8; SWEPT_BYTE
         // never so: a variable that occurs is assigned
         Entry::Open => Length::TooLong,
         Entry::Assigned(span) => {
-            copy_into(assignments::value_of(values, span), out, 0);
+            copying::copy_into(assignments::value_of(values, span), out, 0);
             Length::Records(span.count)
         }
     }
 }
 
 // Sweeps an application: its head, its argument, and then the two together.
-fn sweep_application(s: &[u8], values: &[u8], a: [Entry; 8], out: &mut [u8; SWEPT_BYTES]) -> Length
+fn sweep_application(
+    s: &[u8],
+    values: &[u8],
+    a: [Entry; VARIABLES],
+    out: &mut [u8; SWEPT_BYTES],
+) -> Length
     requires { ⌜ Ready (now s) (now values) a × (getD (now s) 0 0 ≡ 0) ⌝ }
     ensures { λ r. ⌜ Sweeps (now (s .entry)) (now (values .entry)) a (now (out .entry)) r (now (out .exit)) ⌝ }
 {
@@ -317,7 +299,12 @@ fn sweep_application(s: &[u8], values: &[u8], a: [Entry; 8], out: &mut [u8; SWEP
 }
 
 // Sweeps an abstraction: its body, and then the abstraction over it.
-fn sweep_abstraction(s: &[u8], values: &[u8], a: [Entry; 8], out: &mut [u8; SWEPT_BYTES]) -> Length
+fn sweep_abstraction(
+    s: &[u8],
+    values: &[u8],
+    a: [Entry; VARIABLES],
+    out: &mut [u8; SWEPT_BYTES],
+) -> Length
     requires { ⌜ Ready (now s) (now values) a × (getD (now s) 0 0 ≡ 1) ⌝ }
     ensures { λ r. ⌜ Sweeps (now (s .entry)) (now (values .entry)) a (now (out .entry)) r (now (out .exit)) ⌝ }
 {
@@ -331,7 +318,7 @@ fn sweep_abstraction(s: &[u8], values: &[u8], a: [Entry; 8], out: &mut [u8; SWEP
 }
 
 // Sweeps a part of the pattern by its kind. Constants and locals sweep to themselves.
-fn sweep_part(s: &[u8], values: &[u8], a: [Entry; 8], out: &mut [u8; SWEPT_BYTES]) -> Length
+fn sweep_part(s: &[u8], values: &[u8], a: [Entry; VARIABLES], out: &mut [u8; SWEPT_BYTES]) -> Length
     requires { ⌜ Ready (now s) (now values) a ⌝ }
     ensures { λ r. ⌜ Sweeps (now (s .entry)) (now (values .entry)) a (now (out .entry)) r (now (out .exit)) ⌝ }
 {
@@ -345,12 +332,12 @@ fn sweep_part(s: &[u8], values: &[u8], a: [Entry; 8], out: &mut [u8; SWEPT_BYTES
     if kind == Kind::VARIABLE.code {
         return write_value(records::number_at(s, 0), values, a, out);
     }
-    copy_into(s, out, 0);
+    copying::copy_into(s, out, 0);
     Length::Records(1)
 }
 
 // Writes the swept form of the pattern s, filled with the values that a has in the value table, into out from byte 0 on.
-pub fn sweep(s: &[u8], values: &[u8], a: [Entry; 8], out: &mut [u8; SWEPT_BYTES]) -> Length
+pub fn sweep(s: &[u8], values: &[u8], a: [Entry; VARIABLES], out: &mut [u8; SWEPT_BYTES]) -> Length
     requires { ⌜ Fillable (now s) (now values) a ⌝ }
     ensures { λ r. ⌜ Sweeps (now (s .entry)) (now (values .entry)) a (now (out .entry)) r (now (out .exit)) ⌝ }
 {

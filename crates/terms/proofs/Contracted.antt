@@ -38,7 +38,8 @@ contracted-shift d c (con n) = refl
 contracted-shift d c (var n) = refl
 
 isProper-substitute : (k : ℕ) (e t : Term) → T (not (isProper t)) → T (not (isProper (substitute (suc k) e t)))
-isProper-substitute k e (app f a) h = rw (isEta-substitute k e (app f a)) (and-not (isEta (app f a)) (isAbstraction f) (isAbstraction (substitute (suc k) e f)) (isAbstraction-substitute (suc k) e f) h)
+isProper-substitute k e (app f a) h = rw (isEta-substitute k e (app f a))
+    (and-not (isEta (app f a)) (isAbstraction f) (isAbstraction (substitute (suc k) e f)) (isAbstraction-substitute (suc k) e f) h)
 isProper-substitute k e (lam b) h = tt
 isProper-substitute k e (loc n) h = by-substitute (λ s. T (not (isProper s))) (suc k) e n (λ l. tt) (λ l. rw (isEta-below k e) tt) (λ l. tt)
 isProper-substitute k e (con n) h = tt

@@ -47,8 +47,10 @@ closed-unused d j (con n) h c = refl
 closed-unused d j (var n) h c = refl
 
 pub unused-closed : (d : ℕ) (t : Term) → ((j : ℕ) → d ≤ j → uses j t ≡ false) → Closed d t
-unused-closed d (app f a) h =
-    (unused-closed d f (λ j g. or-false (uses j f) (uses j a) (h j g) .0), unused-closed d a (λ j g. or-false (uses j f) (uses j a) (h j g) .1))
+unused-closed d (app f a) h = (
+  unused-closed d f (λ j g. or-false (uses j f) (uses j a) (h j g) .0),
+  unused-closed d a (λ j g. or-false (uses j f) (uses j a) (h j g) .1),
+)
 unused-closed d (lam b) h = unused-closed (suc d) b below
   where
     below : (j : ℕ) → suc d ≤ j → uses j b ≡ false

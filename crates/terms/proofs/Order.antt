@@ -116,7 +116,8 @@ abbrev pub sort : List Line → List Line
 sort [] = []
 sort (l ∷ ls) = insert l (sort ls)
 
-place-in : (x l m : Line) (ms rest : List Line) (o : Compared Less l m) → (In x rest → (x ≡ l) ⊎ In x ms) → In x (place l m ms rest o) → (x ≡ l) ⊎ In x (m ∷ ms)
+place-in : (x l m : Line) (ms rest : List Line) (o : Compared Less l m) → (In x rest → (x ≡ l) ⊎ In x ms) → In x (place l m ms rest o)
+    → (x ≡ l) ⊎ In x (m ∷ ms)
 place-in x l m ms rest (lt o) f p = p
 place-in x l m ms rest (eq o) f p = inr p
 place-in x l m ms rest (gt o) f (inl p) = inr (inl p)
@@ -126,7 +127,8 @@ insert-in : (x l : Line) (ms : List Line) → In x (insert l ms) → (x ≡ l) �
 insert-in x l [] p = p
 insert-in x l (m ∷ ms) p = place-in x l m ms (insert l ms) (order l m) (insert-in x l ms) p
 
-in-place : (x l m : Line) (ms rest : List Line) (o : Compared Less l m) → ((x ≡ l) ⊎ In x ms → In x rest) → (x ≡ l) ⊎ In x (m ∷ ms) → In x (place l m ms rest o)
+in-place : (x l m : Line) (ms rest : List Line) (o : Compared Less l m) → ((x ≡ l) ⊎ In x ms → In x rest) → (x ≡ l) ⊎ In x (m ∷ ms)
+    → In x (place l m ms rest o)
 in-place x l m ms rest (lt o) f p = p
 in-place x l m ms rest (eq o) f (inl p) = inl (p ∙ o)
 in-place x l m ms rest (eq o) f (inr p) = p
@@ -138,7 +140,8 @@ in-insert : (x l : Line) (ms : List Line) → (x ≡ l) ⊎ In x ms → In x (in
 in-insert x l [] p = p
 in-insert x l (m ∷ ms) p = in-place x l m ms (insert l ms) (order l m) (in-insert x l ms) p
 
-rising-place : (l m : Line) (ms rest : List Line) (o : Compared Less l m) → Rising (m ∷ ms) → Rising rest → ((x : Line) → In x rest → (x ≡ l) ⊎ In x ms) → Rising (place l m ms rest o)
+rising-place : (l m : Line) (ms rest : List Line) (o : Compared Less l m) → Rising (m ∷ ms) → Rising rest
+    → ((x : Line) → In x rest → (x ≡ l) ⊎ In x ms) → Rising (place l m ms rest o)
 rising-place l m ms rest (lt o) u v f =
     (λ x p. ⊎-elim (λ q. subst (λ y. Less l y) (sym q) o) (λ q. less-trans l m x o (u .0 x q)) p, u)
 rising-place l m ms rest (eq o) u v f = u
@@ -174,16 +177,19 @@ same-tail : (l m x : Line) (ls ms : List Line) → Rising (l ∷ ls) → l ≡ m
 same-tail l m x ls ms u e p (inl q) = absurd (less-irrefl l (subst (λ y. Less l y) (q ∙ sym e) (u .0 x p)))
 same-tail l m x ls ms u e p (inr q) = q
 
-pub rising-same : (ls ms : List Line) → Rising ls → Rising ms → ((x : Line) → In x ls → In x ms) → ((x : Line) → In x ms → In x ls) → ls ≡ ms
+pub rising-same : (ls ms : List Line) → Rising ls → Rising ms → ((x : Line) → In x ls → In x ms)
+    → ((x : Line) → In x ms → In x ls) → ls ≡ ms
 rising-same [] [] u v f g = refl
 rising-same [] (m ∷ ms) u v f g = absurd (g m (inl refl))
 rising-same (l ∷ ls) [] u v f g = absurd (f l (inl refl))
 rising-same (l ∷ ls) (m ∷ ms) u v f g =
     let e = same-head l m ls ms u v (f l (inl refl)) (g m (inl refl)) in
-    ap₂ _∷_ e (rising-same ls ms (u .1) (v .1) (λ x p. same-tail l m x ls ms u e p (f x (inr p))) (λ x p. same-tail m l x ms ls v (sym e) p (g x (inr p))))
+    ap₂ _∷_ e (rising-same ls ms (u .1) (v .1) (λ x p. same-tail l m x ls ms u e p (f x (inr p)))
+    (λ x p. same-tail m l x ms ls v (sym e) p (g x (inr p))))
 
 -- how many lines
-place-length : (l m : Line) (ms rest : List Line) (o : Compared Less l m) → ¬ In l (m ∷ ms) → length rest ≡ suc (length ms) → length (place l m ms rest o) ≡ suc (suc (length ms))
+place-length : (l m : Line) (ms rest : List Line) (o : Compared Less l m) → ¬ In l (m ∷ ms) → length rest ≡ suc (length ms)
+    → length (place l m ms rest o) ≡ suc (suc (length ms))
 place-length l m ms rest (lt o) h e = refl
 place-length l m ms rest (eq o) h e = absurd (h (inl (o)))
 place-length l m ms rest (gt o) h e = ap suc e
@@ -197,7 +203,8 @@ sort-length [] h = refl
 sort-length (l ∷ ls) h = insert-length l (sort ls) (λ p. h .0 (sort-in l ls p)) ∙ ap suc (sort-length ls (h .1))
 
 -- lines that are found, none twice, are no more than all
-without : (l : Line) (ms : List Line) → In l ms → (rs : List Line) × (length ms ≡ suc (length rs)) × ((x : Line) → In x ms → (x ≡ l) ⊎ In x rs)
+without : (l : Line) (ms : List Line) → In l ms
+    → (rs : List Line) × (length ms ≡ suc (length rs)) × ((x : Line) → In x ms → (x ≡ l) ⊎ In x rs)
 without l (m ∷ ms) (inl p) = (ms, refl, λ x q. ⊎-elim (λ e. inl (e ∙ sym p)) inr q)
 without l (m ∷ ms) (inr p) =
     let r = without l ms p in
@@ -207,5 +214,6 @@ pub found-length : (ls ms : List Line) → Distinct ls → ((x : Line) → In x 
 found-length [] ms h f = omega arith
 found-length (l ∷ ls) ms h f =
     let r = without l ms (f l (inl refl)) in
-    let g : (x : Line) → In x ls → In x (r .0) = λ x p. ⊎-elim (λ e. absurd (h .0 (subst (λ y. In y ls) e p))) (λ z. z) (r .2 x (f x (inr p))) in
+    let g : (x : Line) → In x ls → In x (r .0) =
+    λ x p. ⊎-elim (λ e. absurd (h .0 (subst (λ y. In y ls) e p))) (λ z. z) (r .2 x (f x (inr p))) in
     omega (arith, r .1, found-length ls (r .0) (h .1) g)

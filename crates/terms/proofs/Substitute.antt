@@ -6,12 +6,14 @@ use Prim.Native.Nat.{ℕ, suc, _+_, _-_, _≤_, _<_}
 use native.Mathlib.Omega.{arith}
 use lib.Dec.{T, T-not, not-T, ltb, eqb}
 use borrow.Author.Tests.{ne-eqb, lt-ltb, le-ltb, eqb-false, eqb-true, eq-eqb}
-use Rattle.terms.specs.Term.{Term, app, lam, loc, con, var, Normal, size, shift, unshift, substitute, uses, isEta, isAbstraction, isInnermost}
+use Rattle.terms.specs.Term.{Term, app, lam, loc, con, var, Normal, size, shift, unshift, substitute, uses, isEta, isAbstraction}
+use Rattle.terms.specs.Term.{isInnermost}
 use Rattle.terms.proofs.Tests.{by-ltb, by-eqb, eqb-same, or-false, or-true}
 use Rattle.terms.proofs.Shift.{unshift-shift, unused-shift, uses-below, uses-above, normal-shift, size-shift}
 
 -- the three cases of a local
-pub by-substitute : (P : Term → Type 0) (k : ℕ) (e : Term) (n : ℕ) → (n < k → P (loc n)) → (n ≡ k → P (shift k 0 e)) → (k < n → P (loc (n - 1))) → P (substitute k e (loc n))
+pub by-substitute : (P : Term → Type 0) (k : ℕ) (e : Term) (n : ℕ) → (n < k → P (loc n)) → (n ≡ k → P (shift k 0 e))
+    → (k < n → P (loc (n - 1))) → P (substitute k e (loc n))
 by-substitute P k e n lo at hi =
     by-ltb (λ s. P (cond s (loc n) (cond (eqb n k) (shift k 0 e) (loc (n - 1))))) n k lo
     (λ l. by-eqb (λ s. P (cond s (shift k 0 e) (loc (n - 1)))) n k at (λ q. hi (omega arith)))
@@ -29,7 +31,8 @@ uses-substitute j k e (var n) h = refl
 isInnermost-below : (d : ℕ) (t : Term) → isInnermost (shift (suc d) 0 t) ≡ false
 isInnermost-below d (app f a) = refl
 isInnermost-below d (lam b) = refl
-isInnermost-below d (loc n) = by-ltb (λ s. isInnermost (cond s (loc n) (loc (n + suc d))) ≡ false) n 0 (λ l. ne-eqb n 0 (omega arith)) (λ l. ne-eqb (n + suc d) 0 (omega arith))
+isInnermost-below d (loc n) = by-ltb (λ s. isInnermost (cond s (loc n) (loc (n + suc d))) ≡ false) n 0 (λ l. ne-eqb n 0 (omega arith))
+    (λ l. ne-eqb (n + suc d) 0 (omega arith))
 isInnermost-below d (con n) = refl
 isInnermost-below d (var n) = refl
 
@@ -64,7 +67,8 @@ substitute-unused k e (app f a) h =
 substitute-unused k e (lam b) h = ap lam (substitute-unused (suc k) e b h)
 substitute-unused k e (loc n) h =
     let ne = eqb-false n k h in
-    by-substitute (λ s. s ≡ cond (ltb n k) (loc n) (loc (n - 1))) k e n (λ l. rw (lt-ltb n k l)) (λ q. absurd (ne q)) (λ l. rw (le-ltb n k (omega arith)))
+    by-substitute (λ s. s ≡ cond (ltb n k) (loc n) (loc (n - 1))) k e n (λ l. rw (lt-ltb n k l)) (λ q. absurd (ne q))
+    (λ l. rw (le-ltb n k (omega arith)))
 substitute-unused k e (con n) h = refl
 substitute-unused k e (var n) h = refl
 
@@ -79,8 +83,11 @@ isAbstraction-substitute k e (con n) h = h
 isAbstraction-substitute k e (var n) h = h
 
 pub normal-substitute : (k : ℕ) (e t : Term) → Normal (substitute k e t) → Normal t
-normal-substitute k e (app f a) h =
-    (not-T (isAbstraction f) (λ l. T-not (isAbstraction (substitute k e f)) (h .0) (isAbstraction-substitute k e f l)), normal-substitute k e f (h .1), normal-substitute k e a (h .2))
+normal-substitute k e (app f a) h = (
+  not-T (isAbstraction f) (λ l. T-not (isAbstraction (substitute k e f)) (h .0) (isAbstraction-substitute k e f l)),
+  normal-substitute k e f (h .1),
+  normal-substitute k e a (h .2),
+)
 normal-substitute k e (lam b) h = (rw (isEta-substitute k e b) at (h .0), normal-substitute (suc k) e b (h .1))
 normal-substitute k e (loc n) h = tt
 normal-substitute k e (con n) h = tt
@@ -121,7 +128,8 @@ size-substitute k e (var n) = omega arith
 pub size-used : (k : ℕ) (e t : Term) → uses k t ≡ true → size e ≤ size (substitute k e t)
 size-used k e (app f a) u =
     ⊎-elim (λ p. let h = size-used k e f p in let z : size e ≤ suc (size (substitute k e f) + size (substitute k e a)) = omega arith in z)
-    (λ p. let h = size-used k e a p in let z : size e ≤ suc (size (substitute k e f) + size (substitute k e a)) = omega arith in z) (or-true (uses k f) (uses k a) u)
+    (λ p. let h = size-used k e a p in let z : size e ≤ suc (size (substitute k e f) + size (substitute k e a)) = omega arith in z)
+    (or-true (uses k f) (uses k a) u)
 size-used k e (lam b) u = omega (arith, size-used (suc k) e b u)
 size-used k e (loc n) u = rw (substitute-here k e n (eqb-true n k u)) (omega (arith, size-shift k 0 e))
 size-used k e (con n) u = absurd (omega (arith, ap (λ b. cond {A = ℕ} b 1 0) u))
@@ -135,6 +143,7 @@ unused-substitute j i k a (app f g) e h u =
 unused-substitute j i k a (lam b) e h u = unused-substitute (suc j) i (suc k) a b (omega arith) h u
 unused-substitute j i k a (loc n) e h u =
     let ne = eqb-false n (suc j) h in
-    by-substitute (λ s. uses j s ≡ false) k a n (λ l. ne-eqb n j (omega arith)) (λ l. uses-above j i k 0 a e (omega arith) ∙ u) (λ l. ne-eqb (n - 1) j (omega arith))
+    by-substitute (λ s. uses j s ≡ false) k a n (λ l. ne-eqb n j (omega arith)) (λ l. uses-above j i k 0 a e (omega arith) ∙ u)
+    (λ l. ne-eqb (n - 1) j (omega arith))
 unused-substitute j i k a (con n) e h u = refl
 unused-substitute j i k a (var n) e h u = refl

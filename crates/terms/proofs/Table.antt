@@ -52,14 +52,16 @@ module _ (w : ℕ → ℕ → List ℕ → List ℕ) (lossless : Lossless w) whe
   first (con n) r = lossless .more 3 n [] r
   first (var n) r = lossless .more 4 n [] r
 
-  next : (s t : Term) (r q : List ℕ) → preorder w s ++ r ≡ preorder w t ++ q → (kind s ≡ kind t) × (number s ≡ number t) × (behind s ++ r ≡ behind t ++ q)
+  next : (s t : Term) (r q : List ℕ) → preorder w s ++ r ≡ preorder w t ++ q
+      → (kind s ≡ kind t) × (number s ≡ number t) × (behind s ++ r ≡ behind t ++ q)
   next s t r q p = lossless .inj (kind s) (kind t) (number s) (number t) (behind s ++ r) (behind t ++ q) (sym (first s r) ∙ p ∙ first t q)
 
   -- a term is known from its records, whatever follows them
   preorder-inj : (s t : Term) (r q : List ℕ) → preorder w s ++ r ≡ preorder w t ++ q → (s ≡ t) × (r ≡ q)
   preorder-inj (app f a) (app g b) r q p =
       let e = next (app f a) (app g b) r q p .2 in
-      let u = preorder-inj f g (preorder w a ++ r) (preorder w b ++ q) (sym (append-assoc (preorder w f) (preorder w a) r) ∙ e ∙ append-assoc (preorder w g) (preorder w b) q) in
+      let u = preorder-inj f g (preorder w a ++ r) (preorder w b ++ q)
+      (sym (append-assoc (preorder w f) (preorder w a) r) ∙ e ∙ append-assoc (preorder w g) (preorder w b) q) in
       let v = preorder-inj a b r q (u .1) in
       (ap₂ app (u .0) (v .0), v .1)
   preorder-inj (app f a) (lam c) r q p = absurd (omega (arith, next (app f a) (lam c) r q p .0))
@@ -143,7 +145,8 @@ module _ (w : ℕ → ℕ → List ℕ → List ℕ) (lossless : Lossless w) whe
   preorder-written (app f a) l =
       lossless .more 0 0 (preorder w f ++ preorder w a) (written w l)
       ∙ ap (w 0 0)
-      (append-assoc (preorder w f) (preorder w a) (written w l) ∙ ap (preorder w f ++_) (preorder-written a l) ∙ preorder-written f (items a ++ l)
+      (append-assoc (preorder w f) (preorder w a) (written w l) ∙ ap (preorder w f ++_) (preorder-written a l)
+      ∙ preorder-written f (items a ++ l)
       ∙ ap (written w) (sym (append-assoc (items f) (items a) l)))
   preorder-written (lam b) l = lossless .more 1 0 (preorder w b) (written w l) ∙ ap (w 1 0) (preorder-written b l)
   preorder-written (loc n) l = lossless .more 2 n [] (written w l)
@@ -160,15 +163,18 @@ word-less n k A h = go (decLt (n / 256) (k / 256))
     go (yes p) = inl p
     go (no p) = inr (omega arith, inl (omega arith))
 
-to-bytes : (l m : List (ℕ × ℕ)) → Lexicographic _<_ (written pair l) (written pair m) → Lexicographic _<_ (written bytes l) (written bytes m)
+to-bytes : (l m : List (ℕ × ℕ)) → Lexicographic _<_ (written pair l) (written pair m)
+    → Lexicographic _<_ (written bytes l) (written bytes m)
 to-bytes [] [] h = h
 to-bytes [] (s ∷ m) h = tt
 to-bytes (r ∷ l) [] h = h
 to-bytes (r ∷ l) (s ∷ m) (inl h) = inl h
-to-bytes (r ∷ l) (s ∷ m) (inr (e, inl h)) = inr (e, inr (refl, word-less (r .1) (s .1) ((r .1 % 256 ≡ s .1 % 256) × Lexicographic _<_ (written bytes l) (written bytes m)) h))
+to-bytes (r ∷ l) (s ∷ m) (inr (e, inl h)) =
+    inr (e, inr (refl, word-less (r .1) (s .1) ((r .1 % 256 ≡ s .1 % 256) × Lexicographic _<_ (written bytes l) (written bytes m)) h))
 to-bytes (r ∷ l) (s ∷ m) (inr (e, inr (f, h))) = inr (e, inr (refl, inr (ap (_/ 256) f, inr (ap (_% 256) f, to-bytes l m h))))
 
-from-bytes : (l m : List (ℕ × ℕ)) → Lexicographic _<_ (written bytes l) (written bytes m) → Lexicographic _<_ (written pair l) (written pair m)
+from-bytes : (l m : List (ℕ × ℕ)) → Lexicographic _<_ (written bytes l) (written bytes m)
+    → Lexicographic _<_ (written pair l) (written pair m)
 from-bytes [] [] h = h
 from-bytes [] (s ∷ m) h = tt
 from-bytes (r ∷ l) [] h = h
@@ -184,8 +190,10 @@ order-bytes v w =
     let pv = preorder-items pair pair-lossless v in
     let pw = preorder-items pair pair-lossless w in
     let bv = preorder-items bytes bytes-lossless v in
-    let bw = preorder-items bytes bytes-lossless w in
-    (λ h. rw (bv, bw) (to-bytes (items v) (items w) (rw (pv, pw) at h)), λ h. rw (pv, pw) (from-bytes (items v) (items w) (rw (bv, bw) at h)))
+    let bw = preorder-items bytes bytes-lossless w in (
+      λ h. rw (bv, bw) (to-bytes (items v) (items w) (rw (pv, pw) at h)),
+      λ h. rw (pv, pw) (from-bytes (items v) (items w) (rw (bv, bw) at h)),
+    )
 
 and-split : (a b : Bool) → a && b ≡ true → (a ≡ true) × (b ≡ true)
 and-split true b e = (refl, e)

@@ -19,7 +19,8 @@ use Prim.Native.Nat.{ℕ, suc, _+_, _-_, _<_}
 use lib.Dec.{T, ltb, eqb}
 use Rattle.terms.specs.Figures.{constants}
 
--- The five kinds, written `@`, `\`, `#n`, `kn` and `pn` in the document. "local, number = abstractions between it and its binder (0 is innermost)".
+-- The five kinds, written `@`, `\`, `#n`, `kn` and `pn` in the document.
+-- "local, number = abstractions between it and its binder (0 is innermost)".
 pub data Term : Type 0 where
   app : Term → Term → Term
   lam : Term → Term

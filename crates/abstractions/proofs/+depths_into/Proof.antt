@@ -1,13 +1,14 @@
--- `abstractions::depths_into` meets its contract. The record's own depth is stored, and the depths of its parts follow it; the measure is what is
--- left of the table. Assumes nothing.
-use mathlib.Core.Path.{refl, _∙_}
+-- `abstractions::depths_into` meets its contract. The record's own depth is stored, and the depths of its parts follow it; the measure is
+-- what is left of the table. Assumes nothing.
+use mathlib.Core.Path.{_∙_}
 use Prim.Native.Nat.{_-_}
 use native.Mathlib.Omega.{arith}
 use lib.ListN.{length, length-set}
 use borrow.Author.Needs.{needs}
-use Rattle.abstractions.proofs.Depths.{depths-whole, depths-head, depths-argument, depths-body, depths-application, depths-abstraction, depths-leaf}
+use Rattle.abstractions.proofs.Depths.{depths-whole, depths-head, depths-argument, depths-body, depths-application}
+use Rattle.abstractions.proofs.Depths.{depths-abstraction, depths-leaf}
 use Prim.Native.Nat.{ℕ, _<_}
-use borrow.Fn.Kinds.{In}
+use borrow.Fn.Kinds.{In, Out}
 use borrow.Fn.PlainCycle.{Measures, is, falls, and}
 use Rattle.abstractions.proofs.depths_into.Reads as depths-into
 use Rattle.abstractions.proofs.depths_into.Kinds as depths-into-kinds
@@ -26,125 +27,88 @@ abbrev depths-into-below : ℕ → In 2 depths-into-kinds.ps
 depths-into-below t =
     and 2 depths-into-kinds.ps (falls 2 depths-into-kinds.ps _<_ μ-depths-into t) depths-into.Pre
 
-depths-into-cast-out : (t : ℕ) → depths-into-lts.Need-cast-out (
+-- `depths-into-in t X`: the place or the need X of `depths_into`, whose calls within the cycle have a measure below t.
+abbrev depths-into-in :
+    ℕ →
+    (depths-into-lts.Claims → In 2 depths-into-kinds.ps → Out 2 depths-into-kinds.ps depths-into-kinds.r → Type 0) →
+    Type 0
+depths-into-in t X = X (
   depths-into-below t,
   depths-into.Post,
 ) (depths-into-at t) depths-into.Post
+
+depths-into-cast-out : (t : ℕ) → depths-into-in t depths-into-lts.Need-cast-out
 depths-into-cast-out t c = search needs
 
-depths-into-slice-write-out : (t : ℕ) → depths-into-lts.Need-slice-write-out (
-  depths-into-below t,
-  depths-into.Post,
-) (depths-into-at t) depths-into.Post
+depths-into-slice-write-out : (t : ℕ) → depths-into-in t depths-into-lts.Need-slice-write-out
 depths-into-slice-write-out t c = search needs
 
-depths-into-shared-slice-read-k : (t : ℕ) → depths-into-lts.Need-shared-slice-read-k (
-  depths-into-below t,
-  depths-into.Post,
-) (depths-into-at t) depths-into.Post
+depths-into-shared-slice-read-k : (t : ℕ) → depths-into-in t depths-into-lts.Need-shared-slice-read-k
 depths-into-shared-slice-read-k t c = search needs
 
-depths-into-add-depths-into : (t : ℕ) → depths-into-lts.Need-add-depths-into (
-  depths-into-below t,
-  depths-into.Post,
-) (depths-into-at t) depths-into.Post
+depths-into-add-depths-into : (t : ℕ) → depths-into-in t depths-into-lts.Need-add-depths-into
 depths-into-add-depths-into t c = search needs
 
-depths-into-add-depths-into-2 : (t : ℕ) → depths-into-lts.Need-add-depths-into-2 (
-  depths-into-below t,
-  depths-into.Post,
-) (depths-into-at t) depths-into.Post
+depths-into-add-depths-into-2 : (t : ℕ) → depths-into-in t depths-into-lts.Need-add-depths-into-2
 depths-into-add-depths-into-2 t c = search needs
 
-depths-into-depths-into-requires : (t : ℕ) → depths-into-lts.Need-depths-into-requires (
-  depths-into-below t,
-  depths-into.Post,
-) (depths-into-at t) depths-into.Post
-depths-into-depths-into-requires t c κs = (omega arith, depths-head _ _ _ _ _ _ (simp length-set) (c .before .before .before .before .before .before .pre .1) (c .before .if1 .taken))
+depths-into-depths-into-requires : (t : ℕ) → depths-into-in t depths-into-lts.Need-depths-into-requires
+depths-into-depths-into-requires t c κs = (omega arith, search (needs, depths-head, length-set))
 
-depths-into-sub-depths-into : (t : ℕ) → depths-into-lts.Need-sub-depths-into (
-  depths-into-below t,
-  depths-into.Post,
-) (depths-into-at t) depths-into.Post
-depths-into-sub-depths-into t c = omega (arith, c .before .before .before .depths-into .ensures .ends .more)
+depths-into-sub-depths-into : (t : ℕ) → depths-into-in t depths-into-lts.Need-sub-depths-into
+depths-into-sub-depths-into t c = omega arith
 
-depths-into-add-depths-into-3 : (t : ℕ) → depths-into-lts.Need-add-depths-into-3 (
-  depths-into-below t,
-  depths-into.Post,
-) (depths-into-at t) depths-into.Post
-depths-into-add-depths-into-3 t c = let e = c .before .before .before .depths-into .ensures .ends in let x = depths-argument _ _ _ _ _ _ (c .before .before .before .depths-into .kept .1 .1 .1 .0 ∙ simp length-set) (c .before .before .before .before .before .before .before .before .before .before .pre .1) _ (c .before .before .before .before .before .if1 .taken) e in omega (arith, x .first)
+depths-into-add-depths-into-3 : (t : ℕ) → depths-into-in t depths-into-lts.Need-add-depths-into-3
+depths-into-add-depths-into-3 t c = search needs
 
-depths-into-depths-into-requires-2 : (t : ℕ) → depths-into-lts.Need-depths-into-requires-2 (
-  depths-into-below t,
-  depths-into.Post,
-) (depths-into-at t) depths-into.Post
-depths-into-depths-into-requires-2 t c κs = let e = c .before .before .before .depths-into .ensures .ends in (omega (arith, e .more, e .within), depths-argument _ _ _ _ _ _ (c .before .before .before .depths-into .kept .1 .1 .1 .0 ∙ simp length-set) (c .before .before .before .before .before .before .before .before .before .before .pre .1) _ (c .before .before .before .before .before .if1 .taken) e)
+depths-into-depths-into-requires-2 : (t : ℕ) → depths-into-in t depths-into-lts.Need-depths-into-requires-2
+depths-into-depths-into-requires-2 t c κs =
+    let depths-into-point : depths-into-in t depths-into-lts.After-depths-into = search in
+    let then1 : depths-into-in t depths-into-lts.Then1 = search in
+    let start : depths-into-in t depths-into-lts.Start = search in
+    let e = depths-into-point .depths-into .ensures .ends in (
+      omega (arith, e .more, e .within),
+      depths-argument _ _ _ _ _ _ (depths-into-point .depths-into .kept .1 .1 .1 .0 ∙ simp length-set) (start .pre .1) _
+          (then1 .if1 .taken) e,
+    )
 
-depths-into-same-length : (t : ℕ) → depths-into-lts.Need-same-length (
-  depths-into-below t,
-  depths-into.Post,
-) (depths-into-at t) depths-into.Post
-depths-into-same-length t c = c .before .before .depths-into2 .kept .1 .1 .1 .0 ∙ c .before .before .before .before .before .before .depths-into .kept .1 .1 .1 .0 ∙ simp length-set
+depths-into-same-length : (t : ℕ) → depths-into-in t depths-into-lts.Need-same-length
+depths-into-same-length t c =
+    let depths-into2 : depths-into-in t depths-into-lts.After-depths-into2 = search in
+    let depths-into-point : depths-into-in t depths-into-lts.After-depths-into = search in
+    depths-into2 .depths-into2 .kept .1 .1 .1 .0 ∙ depths-into-point .depths-into .kept .1 .1 .1 .0 ∙ simp length-set
 
-depths-into-returns : (t : ℕ) → depths-into-lts.Need-returns (
-  depths-into-below t,
-  depths-into.Post,
-) (depths-into-at t) depths-into.Post
-depths-into-returns t c = depths-application _ _ _ _ _ (c .before .before .before .before .before .before .before .before .before .before .before .before .before .pre .1 .first) _ _ _ _ (c .before .before .before .before .before .before .before .before .if1 .taken) (c .before .before .before .before .before .before .depths-into .ensures) (c .before .before .depths-into2 .ensures)
+depths-into-returns : (t : ℕ) → depths-into-in t depths-into-lts.Need-returns
+depths-into-returns t c = search (needs, depths-application)
 
-depths-into-add-depths-into-4 : (t : ℕ) → depths-into-lts.Need-add-depths-into-4 (
-  depths-into-below t,
-  depths-into.Post,
-) (depths-into-at t) depths-into.Post
+depths-into-add-depths-into-4 : (t : ℕ) → depths-into-in t depths-into-lts.Need-add-depths-into-4
 depths-into-add-depths-into-4 t c = search needs
 
-depths-into-add-depths-into-5 : (t : ℕ) → depths-into-lts.Need-add-depths-into-5 (
-  depths-into-below t,
-  depths-into.Post,
-) (depths-into-at t) depths-into.Post
+depths-into-add-depths-into-5 : (t : ℕ) → depths-into-in t depths-into-lts.Need-add-depths-into-5
 depths-into-add-depths-into-5 t c = search needs
 
-depths-into-add-depths-into-6 : (t : ℕ) → depths-into-lts.Need-add-depths-into-6 (
-  depths-into-below t,
-  depths-into.Post,
-) (depths-into-at t) depths-into.Post
+depths-into-add-depths-into-6 : (t : ℕ) → depths-into-in t depths-into-lts.Need-add-depths-into-6
 depths-into-add-depths-into-6 t c = search needs
 
-depths-into-depths-into-requires-3 : (t : ℕ) → depths-into-lts.Need-depths-into-requires-3 (
-  depths-into-below t,
-  depths-into.Post,
-) (depths-into-at t) depths-into.Post
-depths-into-depths-into-requires-3 t c κs = (omega arith, depths-body _ _ _ _ _ _ (simp length-set) (c .before .before .before .before .before .before .before .before .pre .1) (c .before .if2 .taken))
+depths-into-depths-into-requires-3 : (t : ℕ) → depths-into-in t depths-into-lts.Need-depths-into-requires-3
+depths-into-depths-into-requires-3 t c κs =
+    let start : depths-into-in t depths-into-lts.Start = search in
+    (omega arith, depths-body _ _ _ _ _ _ (simp length-set) (start .pre .1) (c .before .if2 .taken))
 
-depths-into-same-length-2 : (t : ℕ) → depths-into-lts.Need-same-length-2 (
-  depths-into-below t,
-  depths-into.Post,
-) (depths-into-at t) depths-into.Post
+depths-into-same-length-2 : (t : ℕ) → depths-into-in t depths-into-lts.Need-same-length-2
 depths-into-same-length-2 t c = c .before .before .depths-into3 .kept .1 .1 .1 .0 ∙ simp length-set
 
-depths-into-returns-2 : (t : ℕ) → depths-into-lts.Need-returns-2 (
-  depths-into-below t,
-  depths-into.Post,
-) (depths-into-at t) depths-into.Post
-depths-into-returns-2 t c = depths-abstraction _ _ _ _ _ (c .before .before .before .before .before .before .before .before .before .before .before .pre .1 .first) _ _ (c .before .before .before .before .if2 .taken) (c .before .before .depths-into3 .ensures)
+depths-into-returns-2 : (t : ℕ) → depths-into-in t depths-into-lts.Need-returns-2
+depths-into-returns-2 t c = search (needs, depths-abstraction)
 
-depths-into-add-result : (t : ℕ) → depths-into-lts.Need-add-result (
-  depths-into-below t,
-  depths-into.Post,
-) (depths-into-at t) depths-into.Post
+depths-into-add-result : (t : ℕ) → depths-into-in t depths-into-lts.Need-add-result
 depths-into-add-result t c = search needs
 
-depths-into-same-length-3 : (t : ℕ) → depths-into-lts.Need-same-length-3 (
-  depths-into-below t,
-  depths-into.Post,
-) (depths-into-at t) depths-into.Post
+depths-into-same-length-3 : (t : ℕ) → depths-into-in t depths-into-lts.Need-same-length-3
 depths-into-same-length-3 t c = search needs
 
-depths-into-returns-3 : (t : ℕ) → depths-into-lts.Need-returns-3 (
-  depths-into-below t,
-  depths-into.Post,
-) (depths-into-at t) depths-into.Post
-depths-into-returns-3 t c = depths-leaf _ _ _ _ _ (c .before .before .before .before .before .before .before .pre .1 .first) (depths-whole _ _ _ _ _ _ refl (c .before .before .before .before .before .before .before .pre .1)) (c .before .before .if1 .left) (c .if2 .left)
+depths-into-returns-3 : (t : ℕ) → depths-into-in t depths-into-lts.Need-returns-3
+depths-into-returns-3 t c = search (needs, depths-leaf, depths-whole)
 
 pub +depths-into-spec : {M : Type 1} → statement M
 +depths-into-spec = close μ-depths-into λ t. depths-into-lts.spec (

@@ -1,13 +1,13 @@
--- `abstractions::is_rigid` meets its contract. An application is rigid as its head is, and any other term by its first record; the measure is
--- what is left of the table. Assumes nothing.
+-- `abstractions::is_rigid` meets its contract. An application is rigid as its head is, and any other term by its first record; the measure
+-- is what is left of the table. Assumes nothing.
+use native.Mathlib.Omega.{arith}
 use Prim.Native.Nat.{_-_}
 use lib.ListN.{length}
-use native.Mathlib.Omega.{arith}
 use Rattle.records.proofs.Parts.{whole-head}
 use Rattle.abstractions.proofs.Tests.{rigid-application, rigid-local, rigid-other}
 use borrow.Author.Needs.{needs}
 use Prim.Native.Nat.{ℕ, _<_}
-use borrow.Fn.Kinds.{In}
+use borrow.Fn.Kinds.{In, Out}
 use borrow.Fn.PlainCycle.{Measures, is, falls, and}
 use Rattle.abstractions.proofs.is_rigid.Reads as is-rigid
 use Rattle.abstractions.proofs.is_rigid.Kinds as is-rigid-kinds
@@ -25,37 +25,30 @@ abbrev is-rigid-below : ℕ → In 1 is-rigid-kinds.ps
 is-rigid-below t =
     and 1 is-rigid-kinds.ps (falls 1 is-rigid-kinds.ps _<_ μ-is-rigid t) is-rigid.Pre
 
-is-rigid-shared-slice-read-k : (t : ℕ) → is-rigid-lts.Need-shared-slice-read-k (
+-- `is-rigid-in t X`: the place or the need X of `is_rigid`, whose calls within the cycle have a measure below t.
+abbrev is-rigid-in : ℕ → (is-rigid-lts.Claims → In 1 is-rigid-kinds.ps → Out 1 is-rigid-kinds.ps is-rigid-kinds.r → Type 0) → Type 0
+is-rigid-in t X = X (
   is-rigid-below t,
   is-rigid.Post,
 ) (is-rigid-at t) is-rigid.Post
+
+is-rigid-shared-slice-read-k : (t : ℕ) → is-rigid-in t is-rigid-lts.Need-shared-slice-read-k
 is-rigid-shared-slice-read-k t c = search needs
 
-is-rigid-add-is-rigid :
-    (t : ℕ) →
-    is-rigid-lts.Need-add-is-rigid (is-rigid-below t, is-rigid.Post) (is-rigid-at t) is-rigid.Post
+is-rigid-add-is-rigid : (t : ℕ) → is-rigid-in t is-rigid-lts.Need-add-is-rigid
 is-rigid-add-is-rigid t c = search needs
 
-is-rigid-is-rigid-requires : (t : ℕ) → is-rigid-lts.Need-is-rigid-requires (
-  is-rigid-below t,
-  is-rigid.Post,
-) (is-rigid-at t) is-rigid.Post
-is-rigid-is-rigid-requires t c κs = (omega arith, whole-head _ _ (c .before .before .before .before .pre .1) (c .if1 .taken))
+is-rigid-is-rigid-requires : (t : ℕ) → is-rigid-in t is-rigid-lts.Need-is-rigid-requires
+is-rigid-is-rigid-requires t c κs = (omega arith, search (needs, whole-head))
 
-is-rigid-returns :
-    (t : ℕ) →
-    is-rigid-lts.Need-returns (is-rigid-below t, is-rigid.Post) (is-rigid-at t) is-rigid.Post
-is-rigid-returns t c = rigid-application _ _ _ (c .before .if1 .taken) (c .is-rigid .ensures)
+is-rigid-returns : (t : ℕ) → is-rigid-in t is-rigid-lts.Need-returns
+is-rigid-returns t c = search (needs, rigid-application)
 
-is-rigid-returns-2 :
-    (t : ℕ) →
-    is-rigid-lts.Need-returns-2 (is-rigid-below t, is-rigid.Post) (is-rigid-at t) is-rigid.Post
+is-rigid-returns-2 : (t : ℕ) → is-rigid-in t is-rigid-lts.Need-returns-2
 is-rigid-returns-2 t c = rigid-local _ _ (c .if2 .taken)
 
-is-rigid-returns-3 :
-    (t : ℕ) →
-    is-rigid-lts.Need-returns-3 (is-rigid-below t, is-rigid.Post) (is-rigid-at t) is-rigid.Post
-is-rigid-returns-3 t c = rigid-other _ _ (c .before .before .before .if1 .left) (c .before .if2 .left)
+is-rigid-returns-3 : (t : ℕ) → is-rigid-in t is-rigid-lts.Need-returns-3
+is-rigid-returns-3 t c = search (needs, rigid-other)
 
 pub +is-rigid-spec : {M : Type 1} → statement M
 +is-rigid-spec =

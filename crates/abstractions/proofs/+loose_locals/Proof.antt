@@ -1,13 +1,14 @@
 -- `abstractions::loose_locals` meets its contract. Each branch is one law of marks, by the kind of the first record; the measure is what is
 -- left of the table. Assumes nothing.
-use mathlib.Core.Path.{refl, _∙_}
+use mathlib.Core.Path.{refl}
 use Prim.Native.Nat.{_-_}
 use lib.ListN.{length}
 use native.Mathlib.Omega.{arith}
-use Rattle.abstractions.proofs.Locals.{marks-whole, marks-head, marks-argument, marks-body, marks-local, marked-application, marked-abstraction, marked-loose, marked-bound, marked-other}
+use Rattle.abstractions.proofs.Locals.{marks-whole, marks-head, marks-argument, marks-body, marks-local, marked-application}
+use Rattle.abstractions.proofs.Locals.{marked-abstraction, marked-loose, marked-bound, marked-other}
 use borrow.Author.Needs.{needs}
 use Prim.Native.Nat.{ℕ, _<_}
-use borrow.Fn.Kinds.{In}
+use borrow.Fn.Kinds.{In, Out}
 use borrow.Fn.PlainCycle.{Measures, is, falls, and}
 use Rattle.abstractions.proofs.loose_locals.Reads as loose-locals
 use Rattle.abstractions.proofs.loose_locals.Kinds as loose-locals-kinds
@@ -31,166 +32,80 @@ loose-locals-below t =
     (falls 2 loose-locals-kinds.ps _<_ μ-loose-locals t)
     loose-locals.Pre
 
-loose-locals-shared-slice-read-k : (t : ℕ) → loose-locals-lts.Need-shared-slice-read-k (
+-- `loose-locals-in t X`: the place or the need X of `loose_locals`, whose calls within the cycle have a measure below t.
+abbrev loose-locals-in :
+    ℕ →
+    (loose-locals-lts.Claims → In 2 loose-locals-kinds.ps → Out 2 loose-locals-kinds.ps loose-locals-kinds.r → Type 0) →
+    Type 0
+loose-locals-in t X = X (
   loose-locals-below t,
   loose-locals.Post,
   number-at-reads.Asked,
   number-at-reads.Learnt,
 ) (loose-locals-at t) loose-locals.Post
+
+loose-locals-shared-slice-read-k : (t : ℕ) → loose-locals-in t loose-locals-lts.Need-shared-slice-read-k
 loose-locals-shared-slice-read-k t c = search needs
 
-loose-locals-add-loose-locals : (t : ℕ) → loose-locals-lts.Need-add-loose-locals (
-  loose-locals-below t,
-  loose-locals.Post,
-  number-at-reads.Asked,
-  number-at-reads.Learnt,
-) (loose-locals-at t) loose-locals.Post
+loose-locals-add-loose-locals : (t : ℕ) → loose-locals-in t loose-locals-lts.Need-add-loose-locals
 loose-locals-add-loose-locals t c = search needs
 
-loose-locals-loose-locals-requires : (t : ℕ) → loose-locals-lts.Need-loose-locals-requires (
-  loose-locals-below t,
-  loose-locals.Post,
-  number-at-reads.Asked,
-  number-at-reads.Learnt,
-) (loose-locals-at t) loose-locals.Post
-loose-locals-loose-locals-requires t c κs = (omega arith, marks-head _ _ _ _ _ refl (c .before .before .before .before .before .before .pre .1) (c .before .if1 .taken))
+loose-locals-loose-locals-requires : (t : ℕ) → loose-locals-in t loose-locals-lts.Need-loose-locals-requires
+loose-locals-loose-locals-requires t c κs = (omega arith, search (needs, marks-head))
 
-loose-locals-loose-locals-requires-2 : (t : ℕ) → loose-locals-lts.Need-loose-locals-requires-2 (
-  loose-locals-below t,
-  loose-locals.Post,
-  number-at-reads.Asked,
-  number-at-reads.Learnt,
-) (loose-locals-at t) loose-locals.Post
-loose-locals-loose-locals-requires-2 t c κs = let w = c .before .before .before .loose-locals .ensures in
-    (omega (arith, w .ends .more, w .ends .within), marks-argument _ _ _ _ _ (c .before .before .before .loose-locals .kept .1 .1 .1 .0) (c .before .before .before .before .before .before .before .before .before .before .pre .1) _ (c .before .before .before .before .before .if1 .taken) (w .ends))
+loose-locals-loose-locals-requires-2 : (t : ℕ) → loose-locals-in t loose-locals-lts.Need-loose-locals-requires-2
+loose-locals-loose-locals-requires-2 t c κs = search (needs, marks-argument)
 
-loose-locals-same-length : (t : ℕ) → loose-locals-lts.Need-same-length (
-  loose-locals-below t,
-  loose-locals.Post,
-  number-at-reads.Asked,
-  number-at-reads.Learnt,
-) (loose-locals-at t) loose-locals.Post
-loose-locals-same-length t c = c .before .before .loose-locals2 .kept .1 .1 .1 .0 ∙ c .before .before .before .before .before .before .loose-locals .kept .1 .1 .1 .0
+loose-locals-same-length : (t : ℕ) → loose-locals-in t loose-locals-lts.Need-same-length
+loose-locals-same-length t c = search needs
 
-loose-locals-returns : (t : ℕ) → loose-locals-lts.Need-returns (
-  loose-locals-below t,
-  loose-locals.Post,
-  number-at-reads.Asked,
-  number-at-reads.Learnt,
-) (loose-locals-at t) loose-locals.Post
-loose-locals-returns t c = marked-application _ _ _ _ _ _ _ _ (c .before .before .before .before .before .before .before .before .if1 .taken) (c .before .before .before .before .before .before .loose-locals .kept .1 .1 .1 .0) (c .before .before .before .before .before .before .loose-locals .ensures) (c .before .before .loose-locals2 .ensures)
+loose-locals-returns : (t : ℕ) → loose-locals-in t loose-locals-lts.Need-returns
+loose-locals-returns t c = search (needs, marked-application)
 
-loose-locals-add-loose-locals-2 : (t : ℕ) → loose-locals-lts.Need-add-loose-locals-2 (
-  loose-locals-below t,
-  loose-locals.Post,
-  number-at-reads.Asked,
-  number-at-reads.Learnt,
-) (loose-locals-at t) loose-locals.Post
+loose-locals-add-loose-locals-2 : (t : ℕ) → loose-locals-in t loose-locals-lts.Need-add-loose-locals-2
 loose-locals-add-loose-locals-2 t c = search needs
 
-loose-locals-add-loose-locals-3 : (t : ℕ) → loose-locals-lts.Need-add-loose-locals-3 (
-  loose-locals-below t,
-  loose-locals.Post,
-  number-at-reads.Asked,
-  number-at-reads.Learnt,
-) (loose-locals-at t) loose-locals.Post
+loose-locals-add-loose-locals-3 : (t : ℕ) → loose-locals-in t loose-locals-lts.Need-add-loose-locals-3
 loose-locals-add-loose-locals-3 t c = search needs
 
-loose-locals-loose-locals-requires-3 : (t : ℕ) → loose-locals-lts.Need-loose-locals-requires-3 (
-  loose-locals-below t,
-  loose-locals.Post,
-  number-at-reads.Asked,
-  number-at-reads.Learnt,
-) (loose-locals-at t) loose-locals.Post
-loose-locals-loose-locals-requires-3 t c κs = (omega arith, marks-body _ _ _ _ _ refl (c .before .before .before .before .before .before .before .before .pre .1) (c .before .if2 .taken))
+loose-locals-loose-locals-requires-3 : (t : ℕ) → loose-locals-in t loose-locals-lts.Need-loose-locals-requires-3
+loose-locals-loose-locals-requires-3 t c κs = (omega arith, search (needs, marks-body))
 
-loose-locals-same-length-2 : (t : ℕ) → loose-locals-lts.Need-same-length-2 (
-  loose-locals-below t,
-  loose-locals.Post,
-  number-at-reads.Asked,
-  number-at-reads.Learnt,
-) (loose-locals-at t) loose-locals.Post
-loose-locals-same-length-2 t c = c .before .before .loose-locals3 .kept .1 .1 .1 .0
+loose-locals-same-length-2 : (t : ℕ) → loose-locals-in t loose-locals-lts.Need-same-length-2
+loose-locals-same-length-2 t c = search needs
 
-loose-locals-returns-2 : (t : ℕ) → loose-locals-lts.Need-returns-2 (
-  loose-locals-below t,
-  loose-locals.Post,
-  number-at-reads.Asked,
-  number-at-reads.Learnt,
-) (loose-locals-at t) loose-locals.Post
-loose-locals-returns-2 t c = marked-abstraction _ _ _ _ _ _ (c .before .before .before .before .if2 .taken) (c .before .before .loose-locals3 .ensures)
+loose-locals-returns-2 : (t : ℕ) → loose-locals-in t loose-locals-lts.Need-returns-2
+loose-locals-returns-2 t c = search (needs, marked-abstraction)
 
-loose-locals-number-at-requires : (t : ℕ) → loose-locals-lts.Need-number-at-requires (
-  loose-locals-below t,
-  loose-locals.Post,
-  number-at-reads.Asked,
-  number-at-reads.Learnt,
-) (loose-locals-at t) loose-locals.Post
+loose-locals-number-at-requires : (t : ℕ) → loose-locals-in t loose-locals-lts.Need-number-at-requires
 loose-locals-number-at-requires t c κs = search needs
 
-loose-locals-add-result : (t : ℕ) → loose-locals-lts.Need-add-result (
-  loose-locals-below t,
-  loose-locals.Post,
-  number-at-reads.Asked,
-  number-at-reads.Learnt,
-) (loose-locals-at t) loose-locals.Post
+loose-locals-add-result : (t : ℕ) → loose-locals-in t loose-locals-lts.Need-add-result
 loose-locals-add-result t c = search needs
 
-loose-locals-returns-3 : (t : ℕ) → loose-locals-lts.Need-returns-3 (
-  loose-locals-below t,
-  loose-locals.Post,
-  number-at-reads.Asked,
-  number-at-reads.Learnt,
-) (loose-locals-at t) loose-locals.Post
-loose-locals-returns-3 t c = marked-bound _ _ _ _ _ (marks-whole _ _ _ _ _ refl (c .before .before .before .before .before .before .before .before .before .before .before .pre .1)) (c .before .before .if3 .taken) (c .before .number-at .ensures .0) (c .if4 .taken)
+loose-locals-returns-3 : (t : ℕ) → loose-locals-in t loose-locals-lts.Need-returns-3
+loose-locals-returns-3 t c = search (needs, marked-bound, marks-whole)
 
-loose-locals-slice-write-marks : (t : ℕ) → loose-locals-lts.Need-slice-write-marks (
-  loose-locals-below t,
-  loose-locals.Post,
-  number-at-reads.Asked,
-  number-at-reads.Learnt,
-) (loose-locals-at t) loose-locals.Post
-loose-locals-slice-write-marks t c = omega (arith, marks-local _ _ _ _ _ refl (c .before .before .before .before .before .before .before .before .before .before .before .pre .1) _ (c .before .before .if3 .taken) (c .before .number-at .ensures .0))
+loose-locals-slice-write-marks : (t : ℕ) → loose-locals-in t loose-locals-lts.Need-slice-write-marks
+loose-locals-slice-write-marks t c =
+    let then3 : loose-locals-in t loose-locals-lts.Then3 = search in
+    let start : loose-locals-in t loose-locals-lts.Start = search in
+    omega (arith, marks-local _ _ _ _ _ refl (start .pre .1) _ (then3 .if3 .taken) (c .before .number-at .ensures .0))
 
-loose-locals-add-result-2 : (t : ℕ) → loose-locals-lts.Need-add-result-2 (
-  loose-locals-below t,
-  loose-locals.Post,
-  number-at-reads.Asked,
-  number-at-reads.Learnt,
-) (loose-locals-at t) loose-locals.Post
+loose-locals-add-result-2 : (t : ℕ) → loose-locals-in t loose-locals-lts.Need-add-result-2
 loose-locals-add-result-2 t c = search needs
 
-loose-locals-same-length-3 : (t : ℕ) → loose-locals-lts.Need-same-length-3 (
-  loose-locals-below t,
-  loose-locals.Post,
-  number-at-reads.Asked,
-  number-at-reads.Learnt,
-) (loose-locals-at t) loose-locals.Post
+loose-locals-same-length-3 : (t : ℕ) → loose-locals-in t loose-locals-lts.Need-same-length-3
 loose-locals-same-length-3 t c = search needs
 
-loose-locals-returns-4 : (t : ℕ) → loose-locals-lts.Need-returns-4 (
-  loose-locals-below t,
-  loose-locals.Post,
-  number-at-reads.Asked,
-  number-at-reads.Learnt,
-) (loose-locals-at t) loose-locals.Post
-loose-locals-returns-4 t c = marked-loose _ _ _ _ _ (marks-whole _ _ _ _ _ refl (c .before .before .before .before .before .before .before .before .before .before .before .pre .1)) (c .before .before .if3 .taken) (c .before .number-at .ensures .0) (c .if4 .left)
+loose-locals-returns-4 : (t : ℕ) → loose-locals-in t loose-locals-lts.Need-returns-4
+loose-locals-returns-4 t c = search (needs, marked-loose, marks-whole)
 
-loose-locals-add-result-3 : (t : ℕ) → loose-locals-lts.Need-add-result-3 (
-  loose-locals-below t,
-  loose-locals.Post,
-  number-at-reads.Asked,
-  number-at-reads.Learnt,
-) (loose-locals-at t) loose-locals.Post
+loose-locals-add-result-3 : (t : ℕ) → loose-locals-in t loose-locals-lts.Need-add-result-3
 loose-locals-add-result-3 t c = search needs
 
-loose-locals-returns-5 : (t : ℕ) → loose-locals-lts.Need-returns-5 (
-  loose-locals-below t,
-  loose-locals.Post,
-  number-at-reads.Asked,
-  number-at-reads.Learnt,
-) (loose-locals-at t) loose-locals.Post
-loose-locals-returns-5 t c = marked-other _ _ _ _ (marks-whole _ _ _ _ _ refl (c .before .before .before .before .before .before .before .before .before .pre .1)) (record { no-application = c .before .before .before .before .if1 .left; no-abstraction = c .before .before .if2 .left; no-local = c .if3 .left })
+loose-locals-returns-5 : (t : ℕ) → loose-locals-in t loose-locals-lts.Need-returns-5
+loose-locals-returns-5 t c = search (needs, marked-other, marks-whole)
 
 pub +loose-locals-spec : {M : Type 1} → statement M
 +loose-locals-spec = close μ-loose-locals λ t. loose-locals-lts.spec (

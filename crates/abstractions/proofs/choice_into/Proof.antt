@@ -1,4 +1,5 @@
--- `abstractions::choice_into` meets its contract. By the byte of the choice, the copy is written shifted or the local stands for it. Assumes nothing.
+-- `abstractions::choice_into` meets its contract. By the byte of the choice, the copy is written shifted or the local stands for it.
+-- Assumes nothing.
 use Rattle.abstractions.proofs.Bodies.{chose-kept, chose-local}
 use borrow.Author.Needs.{needs}
 use Rattle.abstractions.proofs.choice_into.Statement.{statement}
@@ -14,7 +15,7 @@ same-length : tie.Need-same-length
 same-length c = search needs
 
 returns : tie.Need-returns
-returns c = chose-kept _ _ _ _ _ _ _ _ _ _ (c .before .before .before .before .if1 .taken) (c .before .before .shift-into .ensures)
+returns c = search (needs, chose-kept)
 
 put-record-requires : tie.Need-put-record-requires
 put-record-requires c κs = search needs
@@ -26,7 +27,7 @@ same-length-2 : tie.Need-same-length-2
 same-length-2 c = search needs
 
 returns-2 : tie.Need-returns-2
-returns-2 c = chose-local _ _ _ _ _ _ _ _ (c .before .before .before .before .if1 .left) (c .before .before .put-record .ensures)
+returns-2 c = search (needs, chose-local)
 
 pub choice-into-spec : {M : Type 1} → statement M
 choice-into-spec =

@@ -1,5 +1,5 @@
--- `abstractions::copy_end` meets its contract. First records of different kinds tell that the one part is not the other shifted, and else the
--- walk tells. Assumes nothing.
+-- `abstractions::copy_end` meets its contract. First records of different kinds tell that the one part is not the other shifted, and else
+-- the walk tells. Assumes nothing.
 use Rattle.abstractions.proofs.Tests.{compared-kinds}
 use borrow.Author.Needs.{needs}
 use Rattle.abstractions.proofs.copy_end.Statement.{statement}

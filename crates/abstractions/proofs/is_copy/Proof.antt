@@ -14,10 +14,10 @@ enum-told-2 : tie.Need-enum-told-2
 enum-told-2 c = search needs
 
 returns : tie.Need-returns
-returns c = copy-yes _ _ _ _ _ _ (c .enum-told .given .1) (c .before .before .copy-end .ensures)
+returns c = search (needs, copy-yes)
 
 returns-2 : tie.Need-returns-2
-returns-2 c = copy-no _ _ _ _ _ (c .enum-told2 .given .1) (c .before .before .copy-end .ensures)
+returns-2 c = search (needs, copy-no)
 
 pub is-copy-spec : {M : Type 1} → statement M
 is-copy-spec = tie.close (tie.spec copy-end-requires enum-told enum-told-2 returns returns-2)

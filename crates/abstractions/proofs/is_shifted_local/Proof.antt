@@ -6,13 +6,13 @@ use Rattle.abstractions.proofs.is_shifted_local.Statement.{statement}
 use Rattle.abstractions.proofs.is_shifted_local.Tie as tie
 
 returns : tie.Need-returns
-returns c = shifted-low _ _ (c .before .args .d) _ (c .if1 .taken)
+returns c = search (needs, shifted-low)
 
 add-result : tie.Need-add-result
 add-result c = search needs
 
 returns-2 : tie.Need-returns-2
-returns-2 c = shifted-high _ _ (c .before .args .d) _ (c .if1 .left)
+returns-2 c = search (needs, shifted-high)
 
 pub is-shifted-local-spec : {M : Type 1} → statement M
 is-shifted-local-spec = tie.close (tie.spec returns add-result returns-2)

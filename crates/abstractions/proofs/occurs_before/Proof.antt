@@ -1,5 +1,5 @@
--- `abstractions::occurs_before` meets its contract. The first j parts are those that stand before the byte 4 * j on, and a walk looks at them.
--- Assumes nothing.
+-- `abstractions::occurs_before` meets its contract. The first j parts are those that stand before the byte 4 * j on, and a walk looks at
+-- them. Assumes nothing.
 use Rattle.abstractions.proofs.Occurrences.{earlier-no, earlier-yes}
 use borrow.Author.Needs.{needs}
 use Rattle.abstractions.proofs.occurs_before.Statement.{statement}
@@ -21,10 +21,10 @@ enum-told-2 : tie.Need-enum-told-2
 enum-told-2 c = search needs
 
 returns : tie.Need-returns
-returns c = earlier-no _ _ _ _ _ _ (c .enum-told .given .1) (c .before .before .copy-before .ensures)
+returns c = search (needs, earlier-no)
 
 returns-2 : tie.Need-returns-2
-returns-2 c = earlier-yes _ _ _ _ _ (c .enum-told2 .given .1) (c .before .before .copy-before .ensures)
+returns-2 c = search (needs, earlier-yes)
 
 pub occurs-before-spec : {M : Type 1} → statement M
 occurs-before-spec =

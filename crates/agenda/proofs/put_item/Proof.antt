@@ -80,7 +80,8 @@ same-length c = simp length-set
 
 returns : tie.Need-returns
 returns c =
-    let r = c .before .before .before .before .args .item in
+    let start : tie.Start = search in
+    let r = start .args .item in
     let a : r .part / 4 % 256 ≡ r .part / 4 = omega arith in
     let b : r .target / 4 / 256 % 256 ≡ r .target / 4 / 256 = omega arith in
     let d : r .next / 4 / 256 % 256 ≡ r .next / 4 / 256 = omega arith in

@@ -22,7 +22,7 @@ lacks-requires : tie.Need-lacks-requires Inv-loop μ-loop
 lacks-requires c κs = search needs
 
 returns : tie.Need-returns Inv-loop μ-loop
-returns c = (c .before .before .before .loop .i, omega arith, lacking-is _ _ _ _ _ _ (c .before .lacks .ensures) (c .if1 .taken))
+returns c = search (needs, lacking-is)
 
 add-i : tie.Need-add-i Inv-loop μ-loop
 add-i c = search needs
@@ -31,7 +31,10 @@ loop-less : tie.Need-loop-less Inv-loop μ-loop
 loop-less c = search needs
 
 loop-again : tie.Need-loop-again Inv-loop μ-loop
-loop-again c = (omega arith, given-more _ _ _ _ (c .before .before .before .loop .inv .1) (lacking-is _ _ _ _ _ _ (c .before .lacks .ensures) (c .if1 .left)))
+loop-again c = (
+  omega arith,
+  given-more _ _ _ _ (c .before .before .before .loop .inv .1) (lacking-is _ _ _ _ _ _ (c .before .lacks .ensures) (c .if1 .left)),
+)
 
 returns-2 : tie.Need-returns-2 Inv-loop μ-loop
 returns-2 c = λ j h. c .before .loop .inv .1 j (omega arith)

@@ -35,7 +35,7 @@ loop-less : tie.Need-loop-less Inv-loop μ-loop
 loop-less c = search needs
 
 loop-again : tie.Need-loop-again Inv-loop μ-loop
-loop-again c = (omega arith, simp length-set (c .before .before .loop .inv .1), read-more _ (c .before .before .loop .a) _ _ (omega (arith, c .before .before .loop .inv .1)) (c .entry-at .ensures) (c .before .before .loop .inv .2))
+loop-again c = search (needs, length-set, read-more)
 
 returns : tie.Need-returns Inv-loop μ-loop
 returns c = λ k lt. c .before .loop .inv .2 k (omega arith)

@@ -14,7 +14,7 @@ word-at-requires : tie.Need-word-at-requires
 word-at-requires c κs = search needs
 
 returns : tie.Need-returns
-returns c = open-at _ _ _ (c .before .word-at .ensures .0) (c .if1 .taken)
+returns c = search (needs, open-at)
 
 mul-word-at-2 : tie.Need-mul-word-at-2
 mul-word-at-2 c = search needs
@@ -23,7 +23,7 @@ word-at-requires-2 : tie.Need-word-at-requires-2
 word-at-requires-2 c κs = search needs
 
 returns-2 : tie.Need-returns-2
-returns-2 c = assigned-at _ _ _ _ (c .before .before .word-at .ensures .0) (c .before .if1 .left) (c .word-at2 .ensures .0)
+returns-2 c = search (needs, assigned-at)
 
 pub entry-at-spec : {M : Type 1} → statement M
 entry-at-spec =

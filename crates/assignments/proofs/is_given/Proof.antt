@@ -24,10 +24,14 @@ returns-2 : tie.Need-returns-2
 returns-2 c = not-long _ _ _ _ (c .before .before .before .e2 .given .1) (c .if1 .taken)
 
 returns-3 : tie.Need-returns-3
-returns-3 c = not-past _ _ _ _ (c .before .before .before .before .before .e2 .given .1) (omega arith)
+returns-3 c =
+    let e2 : tie.After-e2 = search in
+    not-past _ _ _ _ (e2 .e2 .given .1) (omega arith)
 
 returns-4 : tie.Need-returns-4
-returns-4 c = not-past _ _ _ _ (c .before .before .before .before .before .before .before .before .e2 .given .1) (omega arith)
+returns-4 c =
+    let e2 : tie.After-e2 = search in
+    not-past _ _ _ _ (e2 .e2 .given .1) (omega arith)
 
 value-of-requires : tie.Need-value-of-requires
 value-of-requires c κs = search needs
@@ -36,7 +40,11 @@ check-value-requires : tie.Need-check-value-requires
 check-value-requires c κs = search needs
 
 returns-5 : tie.Need-returns-5
-returns-5 c = says-given _ (c .before .before .before .before .before .before .before .before .before .before .before .before .before .before .args .t2) _ _ (c .before .before .before .before .before .before .before .before .before .before .e2 .given .1) (omega arith) (omega arith) _ (c .check-value .result) (c .before .value-of .ensures) (c .check-value .ensures)
+returns-5 c =
+    let e2 : tie.After-e2 = search in
+    let start : tie.Start = search in
+    says-given _ (start .args .t2) _ _ (e2 .e2 .given .1) (omega arith) (omega arith) _ (c .check-value .result)
+    (c .before .value-of .ensures) (c .check-value .ensures)
 
 pub is-given-spec : {M : Type 1} → statement M
 is-given-spec =

@@ -11,7 +11,7 @@ number-at-requires : tie.Need-number-at-requires
 number-at-requires c κs = search needs
 
 returns : tie.Need-returns
-returns c = variable-here _ _ _ _ (c .before .if1 .taken) (c .number-at .ensures .0)
+returns c = search (needs, variable-here)
 
 returns-2 : tie.Need-returns-2
 returns-2 c = search needs

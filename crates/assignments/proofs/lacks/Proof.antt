@@ -13,7 +13,9 @@ is-given-requires : tie.Need-is-given-requires
 is-given-requires c κs = search needs
 
 returns : tie.Need-returns
-returns c = lacking-given _ _ _ _ (c .is-given .result) (says (Mentions _ _) _ _ (c .before .before .mentions .ensures) (c .before .if1 .taken)) (c .is-given .ensures)
+returns c =
+    lacking-given _ _ _ _ (c .is-given .result) (says (Mentions _ _) _ _ (c .before .before .mentions .ensures) (c .before .if1 .taken))
+    (c .is-given .ensures)
 
 returns-2 : tie.Need-returns-2
 returns-2 c = λ m. absurd (says (Mentions _ _) _ _ (c .before .mentions .ensures) (c .if1 .left) m)

@@ -27,7 +27,9 @@ is-variable-requires : tie.Need-is-variable-requires Inv-loop μ-loop
 is-variable-requires c κs = search needs
 
 returns : tie.Need-returns Inv-loop μ-loop
-returns c = mentions-here _ _ (c .before .before .before .loop .k) (omega arith) (says (VariableAt _ _ _) _ _ (c .before .is-variable .ensures) (c .if1 .taken))
+returns c =
+    mentions-here _ _ (c .before .before .before .loop .k) (omega arith)
+    (says (VariableAt _ _ _) _ _ (c .before .is-variable .ensures) (c .if1 .taken))
 
 add-k : tie.Need-add-k Inv-loop μ-loop
 add-k c = search needs
@@ -36,10 +38,15 @@ loop-less : tie.Need-loop-less Inv-loop μ-loop
 loop-less c = search needs
 
 loop-again : tie.Need-loop-again Inv-loop μ-loop
-loop-again c = (refl, omega arith, below-more _ _ (c .before .before .before .loop .inv .2) (says (VariableAt _ _ _) _ _ (c .before .is-variable .ensures) (c .if1 .left)))
+loop-again c = (
+  refl,
+  omega arith,
+  below-more _ _ (c .before .before .before .loop .inv .2)
+      (says (VariableAt _ _ _) _ _ (c .before .is-variable .ensures) (c .if1 .left)),
+)
 
 returns-2 : tie.Need-returns-2 Inv-loop μ-loop
-returns-2 c = mentions-none _ _ _ _ (c .before .loop .inv .0) (omega arith) (c .before .loop .inv .2)
+returns-2 c = search (needs, mentions-none)
 
 pub mentions-spec : {M : Type 1} → statement M
 mentions-spec =

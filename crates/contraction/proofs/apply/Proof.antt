@@ -11,34 +11,43 @@ join-requires : tie.Need-join-requires
 join-requires c κs = search needs
 
 returns : tie.Need-returns
-returns c = applies-other _ _ _ _ _ (c .before .before .if1 .taken) (c .join .ensures)
+returns c = search (needs, applies-other)
 
 is-rigid-requires : tie.Need-is-rigid-requires
 is-rigid-requires c κs = search needs
 
 contract-redex-requires : tie.Need-contract-redex-requires
-contract-redex-requires c κs = (c .before .before .before .before .before .before .before .before .pre .redex (c .before .before .before .if1 .left), c .before .before .before .if1 .left)
+contract-redex-requires c κs =
+    let else1 : tie.Else1 = search in
+    let start : tie.Start = search in
+    (start .pre .redex (else1 .if1 .left), search needs)
 
 returns-2 : tie.Need-returns-2
-returns-2 c = applies-rigid _ _ _ _ _ (c .before .before .before .before .if1 .left) _ (c .before .before .before .is-rigid .ensures) (c .before .before .if2 .taken) (c .contract-redex .ensures)
+returns-2 c = search (needs, applies-rigid)
 
 body-of-requires : tie.Need-body-of-requires
-body-of-requires c κs = (redex-tree _ _ (c .before .before .before .before .before .before .before .pre .redex (c .before .before .if1 .left)), c .before .before .if1 .left)
+body-of-requires c κs =
+    let else1 : tie.Else1 = search in
+    let start : tie.Start = search in
+    (redex-tree _ _ (start .pre .redex (else1 .if1 .left)), search needs)
 
 is-guarded-requires : tie.Need-is-guarded-requires
 is-guarded-requires c κs = search needs
 
 contract-redex-requires-2 : tie.Need-contract-redex-requires-2
-contract-redex-requires-2 c κs = (c .before .before .before .before .before .before .before .before .before .before .before .pre .redex (c .before .before .before .before .before .before .if1 .left), c .before .before .before .before .before .before .if1 .left)
+contract-redex-requires-2 c κs =
+    let else1 : tie.Else1 = search in
+    let start : tie.Start = search in
+    (start .pre .redex (else1 .if1 .left), search needs)
 
 returns-3 : tie.Need-returns-3
-returns-3 c = applies-guarded _ _ _ _ _ (c .before .before .before .before .before .before .before .if1 .left) _ (c .before .before .before .before .before .before .is-rigid .ensures) (c .before .before .before .before .before .if2 .left) _ (c .before .before .before .before .body-of .ensures .1) _ (c .before .before .before .is-guarded .ensures) (c .before .before .if3 .taken) (c .contract-redex2 .ensures)
+returns-3 c = search (needs, applies-guarded)
 
 join-requires-2 : tie.Need-join-requires-2
 join-requires-2 c κs = search needs
 
 returns-4 : tie.Need-returns-4
-returns-4 c = applies-kept _ _ _ _ _ (c .before .before .before .before .before .before .before .if1 .left) _ (c .before .before .before .before .before .before .is-rigid .ensures) (c .before .before .before .before .before .if2 .left) _ (c .before .before .before .before .body-of .ensures .1) _ (c .before .before .before .is-guarded .ensures) (c .before .before .if3 .left) (c .join2 .ensures)
+returns-4 c = search (needs, applies-kept)
 
 pub apply-spec : {M : Type 1} → statement M
 apply-spec =

@@ -1,4 +1,5 @@
--- `contraction::join` meets its contract: the application's record, its head and its argument are written one behind another. Assumes nothing.
+-- `contraction::join` meets its contract: the application's record, its head and its argument are written one behind another.
+-- Assumes nothing.
 use Rattle.contraction.proofs.Reducts.{too-long, joined}
 use borrow.Author.Needs.{needs}
 use Rattle.contraction.proofs.join.Statement.{statement}
@@ -26,7 +27,7 @@ copy-into-requires-2 : tie.Need-copy-into-requires-2
 copy-into-requires-2 c κs = search needs
 
 returns-2 : tie.Need-returns-2
-returns-2 c = joined _ _ _ _ _ _ (c .before .before .before .before .before .before .if1 .left) (c .before .before .before .before .put-record .ensures) (c .before .before .copy-into .ensures) (c .copy-into2 .ensures)
+returns-2 c = search (needs, joined)
 
 pub join-spec : {M : Type 1} → statement M
 join-spec =

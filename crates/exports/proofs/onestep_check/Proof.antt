@@ -25,19 +25,33 @@ same-length : tie.Need-same-length
 same-length c = search needs
 
 returns : tie.Need-returns
-returns c = ((c .before .before .before .before .check .result, c .before .before .before .before .check .ensures .0, sym (ap checkCode (c .enum-told .given .1))), c .before .before .before .before .check .ensures .1)
+returns c =
+    let check : tie.After-check = search in
+    ((check .check .result, check .check .ensures .0, sym (ap checkCode (c .enum-told .given .1))), search needs)
 
 same-length-2 : tie.Need-same-length-2
 same-length-2 c = search needs
 
 returns-2 : tie.Need-returns-2
-returns-2 c = ((c .before .before .before .before .check .result, c .before .before .before .before .check .ensures .0, sym (ap checkCode (c .enum-told2 .given .1))), c .before .before .before .before .check .ensures .1)
+returns-2 c =
+    let check : tie.After-check = search in
+    ((check .check .result, check .check .ensures .0, sym (ap checkCode (c .enum-told2 .given .1))), search needs)
 
 same-length-3 : tie.Need-same-length-3
 same-length-3 c = search needs
 
 returns-3 : tie.Need-returns-3
-returns-3 c = ((c .before .before .before .before .before .before .check .result, c .before .before .before .before .before .before .check .ensures .0, handed-on _ _ (c .refusal-code .ensures) (fits-refusal (c .before .before .answer .given .0 .0)) ∙ sym (ap checkCode (c .before .before .answer .given .1))), c .before .before .before .before .before .before .check .ensures .1)
+returns-3 c =
+    let answer : tie.After-answer = search in
+    let check : tie.After-check = search in (
+      (
+        check .check .result,
+        check .check .ensures .0,
+        handed-on _ _ (c .refusal-code .ensures)
+            (fits-refusal (answer .answer .given .0 .0)) ∙ sym (ap checkCode (answer .answer .given .1)),
+      ),
+      search needs,
+    )
 
 pub onestep-check-spec : {M : Type 1} → statement M
 onestep-check-spec =

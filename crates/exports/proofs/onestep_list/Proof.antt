@@ -13,7 +13,7 @@ enum-known-answer : tie.Need-enum-known-answer
 enum-known-answer c = search needs
 
 cast-result : tie.Need-cast-result
-cast-result c = fits-records _ (listed-few _ _ _ _ _ _ _ _ (c .before .before .before .before .before .before .before .before .before .list .ensures .0) _ (c .before .answer .given .1))
+cast-result c = search (needs, fits-records, listed-few)
 
 enum-known-answer-2 : tie.Need-enum-known-answer-2
 enum-known-answer-2 c = search needs
@@ -31,7 +31,17 @@ same-length-3 : tie.Need-same-length-3
 same-length-3 c = search needs
 
 returns : tie.Need-returns
-returns c = ((c .before .before .before .before .before .before .before .before .before .list .result, c .before .before .before .before .before .before .before .before .before .list .ensures .0, handed-on _ _ refl (fits-records _ (listed-few _ _ _ _ _ _ _ _ (c .before .before .before .before .before .before .before .before .before .list .ensures .0) _ (c .before .answer .given .1))) ∙ sym (ap listCode (c .before .answer .given .1))), c .before .before .before .before .before .before .before .before .before .list .ensures .1 .1)
+returns c =
+    let list : tie.After-list = search in (
+      (
+        list .list .result,
+        list .list .ensures .0,
+        handed-on _ _ refl
+            (fits-records _ (listed-few _ _ _ _ _ _ _ _ (list .list .ensures .0) _ (c .before .answer .given .1))) ∙ sym
+            (ap listCode (c .before .answer .given .1)),
+      ),
+      search needs,
+    )
 
 same-length-4 : tie.Need-same-length-4
 same-length-4 c = search needs
@@ -43,7 +53,17 @@ same-length-6 : tie.Need-same-length-6
 same-length-6 c = search needs
 
 returns-2 : tie.Need-returns-2
-returns-2 c = ((c .before .before .before .before .before .before .before .before .before .before .list .result, c .before .before .before .before .before .before .before .before .before .before .list .ensures .0, handed-on _ _ (c .refusal-code .ensures) (fits-refusal (c .before .before .answer2 .given .0 .0)) ∙ sym (ap listCode (c .before .before .answer2 .given .1))), c .before .before .before .before .before .before .before .before .before .before .list .ensures .1 .1)
+returns-2 c =
+    let answer2 : tie.After-answer2 = search in
+    let list : tie.After-list = search in (
+      (
+        list .list .result,
+        list .list .ensures .0,
+        handed-on _ _ (c .refusal-code .ensures)
+            (fits-refusal (answer2 .answer2 .given .0 .0)) ∙ sym (ap listCode (answer2 .answer2 .given .1)),
+      ),
+      search needs,
+    )
 
 pub onestep-list-spec : {M : Type 1} → statement M
 onestep-list-spec =

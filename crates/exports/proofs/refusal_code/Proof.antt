@@ -18,7 +18,7 @@ sub-result : tie.Need-sub-result
 sub-result c = subst (SFits w64) (sym (minus-number (c .before .args .c) _ (c .number-of .ensures))) (fits-refusal (c .before .args .c))
 
 returns : tie.Need-returns
-returns c = handed-on _ _ (minus-number (c .before .args .c) _ (c .number-of .ensures)) (fits-refusal (c .before .args .c))
+returns c = search (needs, handed-on, minus-number, fits-refusal)
 
 pub refusal-code-spec : {M : Type 1} → statement M
 refusal-code-spec = tie.close (tie.spec number-of-requires cast-number sub-result returns)

@@ -1,5 +1,5 @@
--- `listing::arrange` meets its contract. The found lines are lines whose values stand in the value table; sorting keeps that, and laying out
--- the values makes the tables of the sorted lines. Assumes nothing.
+-- `listing::arrange` meets its contract. The found lines are lines whose values stand in the value table; sorting keeps that, and laying
+-- out the values makes the tables of the sorted lines. Assumes nothing.
 use mathlib.Core.Path.{refl}
 use native.Mathlib.Omega.{arith}
 use Rattle.listing.proofs.Arranging.{arranges-rooms, sort-needs, lay-needs, arranged}
@@ -29,13 +29,18 @@ part-sort-start-2 : tie.Need-part-sort-start-2
 part-sort-start-2 c = search needs
 
 part-sort-end-2 : tie.Need-part-sort-end-2
-part-sort-end-2 c = arranges-rooms _ _ _ _ _ (c .before .before .before .before .before .pre) .1
+part-sort-end-2 c =
+    let start : tie.Start = search in
+    arranges-rooms _ _ _ _ _ (start .pre) .1
 
 sort-requires : tie.Need-sort-requires
-sort-requires c κs = sort-needs _ _ _ _ _ (c .before .before .before .before .before .before .before .pre) _ _ refl refl
+sort-requires c κs = search (needs, sort-needs)
 
 lay-out-requires : tie.Need-lay-out-requires
-lay-out-requires c κs = lay-needs _ _ _ _ _ (c .before .before .before .before .before .before .before .before .before .before .before .before .before .before .before .pre) _ _ refl refl _ _ (c .before .before .before .before .before .before .before .sort .kept .0) refl (c .before .before .before .before .before .before .before .sort .ensures) _ (c .before .before .before .before .before .before .before .sort .kept .1 .1 .0)
+lay-out-requires c κs =
+    let sort : tie.After-sort = search in
+    let start : tie.Start = search in
+    lay-needs _ _ _ _ _ (start .pre) _ _ refl refl _ _ (sort .sort .kept .0) refl (sort .sort .ensures) _ (sort .sort .kept .1 .1 .0)
 
 same-length : tie.Need-same-length
 same-length c = search needs
@@ -47,7 +52,7 @@ same-length-3 : tie.Need-same-length-3
 same-length-3 c = search needs
 
 returns : tie.Need-returns
-returns c = arranged _ _ _ _ _ (c .before .before .before .before .before .before .before .before .before .before .before .before .before .before .before .before .before .before .before .before .before .before .pre) _ _ refl refl _ _ (c .before .before .before .before .before .before .before .before .before .before .before .before .before .before .sort .kept .0) refl (c .before .before .before .before .before .before .before .before .before .before .before .before .before .before .sort .ensures) _ _ (c .before .before .before .before .before .before .lay-out .ensures)
+returns c = search (needs, arranged)
 
 pub arrange-spec : {M : Type 1} → statement M
 arrange-spec =

@@ -13,22 +13,22 @@ abbrev μ-loop : tie.MeasureT-loop
 μ-loop a b values variable₀ variable = variables - variable
 
 loop-holds : tie.Need-loop-holds Inv-loop μ-loop
-loop-holds c = undecided-start _ _ _ (c .before .before .before .pre)
+loop-holds c = search (needs, undecided-start)
 
 compare-entries-requires : tie.Need-compare-entries-requires Inv-loop μ-loop
-compare-entries-requires c κs = (c .before .loop .inv .comparable, c .loop-test .taken)
+compare-entries-requires c κs = search needs
 
 enum-told : tie.Need-enum-told Inv-loop μ-loop
 enum-told c = search needs
 
 returns : tie.Need-returns Inv-loop μ-loop
-returns c = decided-earlier _ _ _ _ (c .before .before .before .before .loop .inv) (c .before .before .before .loop-test .taken) _ (c .before .before .compare-entries .ensures) (c .enum-told .given .1)
+returns c = search (needs, decided-earlier)
 
 enum-told-2 : tie.Need-enum-told-2 Inv-loop μ-loop
 enum-told-2 c = search needs
 
 returns-2 : tie.Need-returns-2 Inv-loop μ-loop
-returns-2 c = decided-later _ _ _ _ (c .before .before .before .before .loop .inv) (c .before .before .before .loop-test .taken) _ (c .before .before .compare-entries .ensures) (c .enum-told2 .given .1)
+returns-2 c = search (needs, decided-later)
 
 enum-told-3 : tie.Need-enum-told-3 Inv-loop μ-loop
 enum-told-3 c = search needs
@@ -40,10 +40,10 @@ loop-less : tie.Need-loop-less Inv-loop μ-loop
 loop-less c = search needs
 
 loop-again : tie.Need-loop-again Inv-loop μ-loop
-loop-again c = undecided-next _ _ _ _ (c .before .before .before .before .loop .inv) (c .before .before .before .loop-test .taken) _ (c .before .before .compare-entries .ensures) (c .enum-told3 .given .1)
+loop-again c = search (needs, undecided-next)
 
 returns-3 : tie.Need-returns-3 Inv-loop μ-loop
-returns-3 c = undecided-end _ _ _ _ (c .before .loop .inv) (c .loop-test .left)
+returns-3 c = search (needs, undecided-end)
 
 pub before-spec : {M : Type 1} → statement M
 before-spec =

@@ -21,7 +21,11 @@ compare-open-requires : tie.Need-compare-open-requires
 compare-open-requires c κs = search needs
 
 returns : tie.Need-returns
-returns c = open-against _ _ _ _ _ _ (sym (c .before .before .before .before .entry-at .ensures) ∙ c .before .enum-told .given .1) (c .before .before .before .entry-at2 .ensures) (c .compare-open .ensures)
+returns c =
+    let entry-at2 : tie.After-entry-at2 = search in
+    let entry-at : tie.After-entry-at = search in
+    open-against _ _ _ _ _ _ (sym (entry-at .entry-at .ensures) ∙ c .before .enum-told .given .1) (entry-at2 .entry-at2 .ensures)
+    (c .compare-open .ensures)
 
 enum-known-y : tie.Need-enum-known-y
 enum-known-y c = search needs
@@ -30,19 +34,39 @@ enum-told-2 : tie.Need-enum-told-2
 enum-told-2 c = search needs
 
 returns-2 : tie.Need-returns-2
-returns-2 c = open-later _ _ _ _ _ (sym (c .before .before .before .before .before .before .entry-at .ensures) ∙ c .before .before .before .x .given .1) (sym (c .before .before .before .before .before .entry-at2 .ensures) ∙ c .enum-told2 .given .1)
+returns-2 c =
+    let x : tie.After-x = search in
+    let entry-at2 : tie.After-entry-at2 = search in
+    let entry-at : tie.After-entry-at = search in
+    open-later _ _ _ _ _ (sym (entry-at .entry-at .ensures) ∙ x .x .given .1)
+    (sym (entry-at2 .entry-at2 .ensures) ∙ c .enum-told2 .given .1)
 
 value-of-requires : tie.Need-value-of-requires
-value-of-requires c κs = value-within _ _ _ _ _ (c .before .before .before .before .before .before .before .before .before .before .before .pre .1) (c .before .before .before .before .before .before .before .before .before .before .before .pre .0 .left) (sym (c .before .before .before .before .before .before .before .entry-at .ensures) ∙ c .before .before .before .before .x .given .1)
+value-of-requires c κs =
+    let x : tie.After-x = search in
+    let entry-at : tie.After-entry-at = search in
+    let start : tie.Start = search in
+    value-within _ _ _ _ _ (start .pre .1) (start .pre .0 .left) (sym (entry-at .entry-at .ensures) ∙ x .x .given .1)
 
 value-of-requires-2 : tie.Need-value-of-requires-2
-value-of-requires-2 c κs = value-within _ _ _ _ _ (c .before .before .before .before .before .before .before .before .before .before .before .before .pre .1) (c .before .before .before .before .before .before .before .before .before .before .before .before .pre .0 .right) (sym (c .before .before .before .before .before .before .before .entry-at2 .ensures) ∙ c .before .before .y .given .1)
+value-of-requires-2 c κs =
+    let y : tie.After-y = search in
+    let entry-at2 : tie.After-entry-at2 = search in
+    let start : tie.Start = search in
+    value-within _ _ _ _ _ (start .pre .1) (start .pre .0 .right) (sym (entry-at2 .entry-at2 .ensures) ∙ y .y .given .1)
 
 compare-requires : tie.Need-compare-requires
 compare-requires c κs = search needs
 
 returns-3 : tie.Need-returns-3
-returns-3 c = by-values _ _ _ _ _ _ (sym (c .before .before .before .before .before .before .before .before .before .before .entry-at .ensures) ∙ c .before .before .before .before .before .before .before .x .given .1) (sym (c .before .before .before .before .before .before .before .before .before .entry-at2 .ensures) ∙ c .before .before .before .before .y .given .1) _ _ (c .before .before .value-of .ensures) (c .before .value-of2 .ensures) _ (c .compare .ensures)
+returns-3 c =
+    let value-of : tie.After-value-of = search in
+    let y : tie.After-y = search in
+    let x : tie.After-x = search in
+    let entry-at2 : tie.After-entry-at2 = search in
+    let entry-at : tie.After-entry-at = search in
+    by-values _ _ _ _ _ _ (sym (entry-at .entry-at .ensures) ∙ x .x .given .1) (sym (entry-at2 .entry-at2 .ensures) ∙ y .y .given .1) _ _
+    (value-of .value-of .ensures) (c .before .value-of2 .ensures) _ (c .compare .ensures)
 
 pub compare-entries-spec : {M : Type 1} → statement M
 compare-entries-spec =

@@ -15,25 +15,36 @@ add-count : tie.Need-add-count
 add-count c = search needs
 
 records-of-requires : tie.Need-records-of-requires
-records-of-requires c κs = omega (arith, total-few _ _ _ _ _ (c .before .before .before .before .before .pre))
+records-of-requires c κs = omega (arith, total-few)
 
 add-records : tie.Need-add-records
-add-records c = omega (arith, total-few _ _ _ _ _ (c .before .before .before .before .before .before .pre), c .records-of .ensures)
+add-records c = omega (arith, total-few)
 
 mul-if1 : tie.Need-mul-if1
 mul-if1 c = search needs
 
 returns : tie.Need-returns
-returns c = found-lines-full _ _ _ _ _ _ (ap (c .before .before .before .before .before .before .before .args .done .records +_) (c .before .records-of .ensures)) (c .if1 .taken)
+returns c =
+    let start : tie.Start = search in
+    found-lines-full _ _ _ _ _ _ (ap (start .args .done .records +_) (c .before .records-of .ensures)) (c .if1 .taken)
 
 mul-if2 : tie.Need-mul-if2
-mul-if2 c = omega (arith, total-few _ _ _ _ _ (c .before .before .before .before .before .before .before .pre), c .before .records-of .ensures)
+mul-if2 c = omega (arith, total-few)
 
 returns-2 : tie.Need-returns-2
-returns-2 c = found-values-full _ _ _ _ _ _ (ap (c .before .before .before .before .before .before .before .before .args .done .records +_) (c .before .before .records-of .ensures)) (c .if2 .taken)
+returns-2 c =
+    let records-of : tie.After-records-of = search in
+    let start : tie.Start = search in
+    found-values-full _ _ _ _ _ _ (ap (start .args .done .records +_) (records-of .records-of .ensures)) (c .if2 .taken)
 
 write-line-requires : tie.Need-write-line-requires
-write-line-requires c κs = line-of _ _ _ _ _ _ (ap (c .before .before .before .before .before .before .before .before .before .before .args .done .records +_) (c .before .before .before .before .records-of .ensures)) (c .before .before .before .before .before .before .before .before .before .before .pre) (c .before .before .before .if1 .left) (c .before .before .if2 .left) (omega arith)
+write-line-requires c κs =
+    let else2 : tie.Else2 = search in
+    let else1 : tie.Else1 = search in
+    let records-of : tie.After-records-of = search in
+    let start : tie.Start = search in
+    line-of _ _ _ _ _ _ (ap (start .args .done .records +_) (records-of .records-of .ensures)) (start .pre) (else1 .if1 .left)
+    (else2 .if2 .left) (omega arith)
 
 same-length : tie.Need-same-length
 same-length c = search needs
@@ -42,7 +53,14 @@ same-length-2 : tie.Need-same-length-2
 same-length-2 c = search needs
 
 returns-3 : tie.Need-returns-3
-returns-3 c = found-written _ _ _ _ _ _ (ap (c .before .before .before .before .before .before .before .before .before .before .before .before .before .before .before .args .done .records +_) (c .before .before .before .before .before .before .before .before .before .records-of .ensures)) _ _ _ (c .before .before .before .before .before .before .before .before .if1 .left) (c .before .before .before .before .before .before .before .if2 .left) (c .before .before .before .before .write-line .ensures)
+returns-3 c =
+    let write-line : tie.After-write-line = search in
+    let else2 : tie.Else2 = search in
+    let else1 : tie.Else1 = search in
+    let records-of : tie.After-records-of = search in
+    let start : tie.Start = search in
+    found-written _ _ _ _ _ _ (ap (start .args .done .records +_) (records-of .records-of .ensures)) _ _ _ (else1 .if1 .left)
+    (else2 .if2 .left) (write-line .write-line .ensures)
 
 pub found-spec : {M : Type 1} → statement M
 found-spec =

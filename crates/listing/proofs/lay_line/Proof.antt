@@ -1,7 +1,5 @@
--- `listing::lay_line` meets its contract. The entries read from the line are those of the line that stands there, so writing them writes the same
--- line with its values in their new place. Assumes nothing.
-use mathlib.Core.Path.{refl}
-use native.Mathlib.Omega.{arith}
+-- `listing::lay_line` meets its contract. The entries read from the line are those of the line that stands there, so writing them writes
+-- the same line with its values in their new place. Assumes nothing.
 use Rattle.listing.proofs.Laying.{lay-write, laid-line}
 use borrow.Author.Needs.{needs}
 use Rattle.listing.proofs.lay_line.Statement.{statement}
@@ -23,7 +21,7 @@ entries-of-requires : tie.Need-entries-of-requires
 entries-of-requires c κs = search needs
 
 write-line-requires : tie.Need-write-line-requires
-write-line-requires c κs = lay-write _ _ _ _ _ _ _ refl (omega arith) (c .before .before .entries-of .ensures) (c .before .before .before .before .before .before .before .before .pre)
+write-line-requires c κs = search (needs, lay-write)
 
 same-length : tie.Need-same-length
 same-length c = search needs
@@ -32,7 +30,7 @@ same-length-2 : tie.Need-same-length-2
 same-length-2 c = search needs
 
 returns : tie.Need-returns
-returns c = laid-line _ _ _ _ _ _ _ refl (omega arith) (c .before .before .before .before .before .before .before .entries-of .ensures) _ _ _ (c .before .before .before .before .write-line .ensures)
+returns c = search (needs, laid-line)
 
 pub lay-line-spec : {M : Type 1} → statement M
 lay-line-spec =

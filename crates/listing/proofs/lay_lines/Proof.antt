@@ -17,10 +17,10 @@ loop-holds : tie.Need-loop-holds Inv-loop μ-loop
 loop-holds c = (omega arith, laying-start _ _ _ _)
 
 mul-lay-line : tie.Need-mul-lay-line Inv-loop μ-loop
-mul-lay-line c = omega (arith, c .before .before .before .before .before .before .pre .room)
+mul-lay-line c = omega arith
 
 lay-line-requires : tie.Need-lay-line-requires Inv-loop μ-loop
-lay-line-requires c κs = lay-line _ _ _ _ _ _ _ _ (c .before .before .before .before .before .before .before .pre) (c .before .before .before .loop .inv .1) (c .before .before .loop-test .taken)
+lay-line-requires c κs = search (needs, lay-line)
 
 add-i : tie.Need-add-i Inv-loop μ-loop
 add-i c = search needs
@@ -29,16 +29,16 @@ loop-less : tie.Need-loop-less Inv-loop μ-loop
 loop-less c = search needs
 
 loop-again : tie.Need-loop-again Inv-loop μ-loop
-loop-again c = (omega arith, laying-more _ _ _ _ _ _ _ _ (c .before .before .before .before .before .before .before .before .before .before .before .before .pre) (c .before .before .before .before .before .before .before .before .loop .inv .1) (c .before .before .before .before .before .before .before .loop-test .taken) _ _ _ (c .before .before .before .before .lay-line .ensures) (c .before .before .before .before .lay-line .kept .1 .0) (c .before .before .before .before .lay-line .kept .1 .1 .1 .0))
+loop-again c = search (needs, laying-more)
 
 same-length : tie.Need-same-length Inv-loop μ-loop
-same-length c = c .before .loop .inv .1 .same-lines
+same-length c = search needs
 
 same-length-2 : tie.Need-same-length-2 Inv-loop μ-loop
-same-length-2 c = c .before .loop .inv .1 .same-values
+same-length-2 c = search needs
 
 returns : tie.Need-returns Inv-loop μ-loop
-returns c = laying-done _ _ _ _ _ _ _ _ (c .before .before .before .before .before .pre) (c .before .loop .inv .1) (c .loop-test .left)
+returns c = search (needs, laying-done)
 
 pub lay-lines-spec : {M : Type 1} → statement M
 lay-lines-spec =

@@ -1,6 +1,5 @@
 -- `listing::lay_out` meets its contract. The work area begins with a copy of the values, so the lines stand with them there as they did.
 -- Assumes nothing.
-use mathlib.Core.Path.{refl}
 use Rattle.listing.proofs.Laying.{lay-lines, laid-out}
 use borrow.Author.Needs.{needs}
 use Rattle.listing.proofs.lay_out.Statement.{statement}
@@ -31,7 +30,7 @@ part-lay-lines-end : tie.Need-part-lay-lines-end
 part-lay-lines-end c = search needs
 
 lay-lines-requires : tie.Need-lay-lines-requires
-lay-lines-requires c κs = lay-lines _ _ _ _ _ _ (c .before .before .before .before .before .before .before .before .before .before .before .before .before .pre) _ refl (c .before .before .before .before .before .before .copy-into .ensures)
+lay-lines-requires c κs = search (needs, lay-lines)
 
 same-length : tie.Need-same-length
 same-length c = search needs
@@ -43,7 +42,7 @@ same-length-3 : tie.Need-same-length-3
 same-length-3 c = search needs
 
 returns : tie.Need-returns
-returns c = laid-out _ _ _ _ _ _ (c .before .before .before .before .before .before .before .before .before .before .before .before .before .before .before .before .before .before .pre) _ refl (c .before .before .before .before .before .before .before .before .before .before .before .copy-into .ensures) _ _ (c .before .before .before .before .lay-lines .ensures)
+returns c = search (needs, laid-out)
 
 pub lay-out-spec : {M : Type 1} → statement M
 lay-out-spec =

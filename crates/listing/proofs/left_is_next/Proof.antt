@@ -6,10 +6,10 @@ use Rattle.listing.proofs.left_is_next.Statement.{statement}
 use Rattle.listing.proofs.left_is_next.Tie as tie
 
 returns : tie.Need-returns
-returns c = chosen-right _ _ _ _ _ (c .before .before .before .before .pre .0) (c .before .before .before .before .pre .1) (c .if1 .taken)
+returns c = search (needs, chosen-right)
 
 returns-2 : tie.Need-returns-2
-returns-2 c = chosen-left _ _ _ _ _ (c .before .before .before .before .before .pre .0) (c .before .if1 .left) (c .if2 .taken)
+returns-2 c = search (needs, chosen-left)
 
 sub-before : tie.Need-sub-before
 sub-before c = search needs
@@ -30,10 +30,10 @@ part-before-end-2 : tie.Need-part-before-end-2
 part-before-end-2 c = search needs
 
 before-requires : tie.Need-before-requires
-before-requires c κs = merging-begin (c .before .before .before .before .before .before .before .args .a .now) (c .before .before .before .before .before .before .before .args .b .now) _ (c .before .before .before .before .before .before .before .args .i) (c .before .before .before .before .before .before .before .args .j) (c .before .before .before .before .before .before .before .pre .0) (c .before .before .before .if1 .left) (c .before .before .if2 .left)
+before-requires c κs = search (needs, merging-begin)
 
 returns-3 : tie.Need-returns-3
-returns-3 c = chosen-earlier _ _ _ _ _ (c .before .before .before .before .before .before .before .before .pre .0) (c .before .before .before .before .if1 .left) (c .before .before .before .if2 .left) _ (c .before2 .ensures)
+returns-3 c = search (needs, chosen-earlier)
 
 pub left-is-next-spec : {M : Type 1} → statement M
 left-is-next-spec =

@@ -24,7 +24,7 @@ part-merge-end-2 : tie.Need-part-merge-end-2
 part-merge-end-2 c = search needs
 
 merge-requires : tie.Need-merge-requires
-merge-requires c κs = merges-parts (c .before .before .before .before .before .before .before .args .lines .now) _ _ (c .before .before .before .before .before .before .before .args .half) (c .before .before .before .before .before .before .before .pre .merges)
+merge-requires c κs = search (needs, merges-parts)
 
 sub-copy-into : tie.Need-sub-copy-into
 sub-copy-into c = search needs
@@ -45,7 +45,7 @@ same-length-2 : tie.Need-same-length-2
 same-length-2 c = search needs
 
 returns : tie.Need-returns
-returns c = merged-back (c .before .before .before .before .before .before .before .before .before .before .before .before .before .before .before .before .args .lines .now) _ (c .before .before .before .before .before .before .before .before .before .before .before .before .before .before .before .before .args .work .now) (c .before .before .before .before .before .before .before .before .before .before .before .before .before .before .before .before .args .half) _ _ (c .before .before .before .before .before .before .before .before .before .before .before .before .before .before .before .before .pre .within) (c .before .before .before .before .before .before .before .before .before .before .before .before .before .before .before .before .pre .room) (c .before .before .before .before .before .before .before .before .merge .ensures) (c .before .before .copy-into .ensures)
+returns c = search (needs, merged-back)
 
 pub merge-halves-spec : {M : Type 1} → statement M
 merge-halves-spec =

@@ -18,7 +18,10 @@ part-copy-into-start : tie.Need-part-copy-into-start
 part-copy-into-start c = search needs
 
 part-copy-into-end : tie.Need-part-copy-into-end
-part-copy-into-end c = let h = left-some _ _ _ _ _ (c .before .before .before .before .before .before .pre .merging) _ (c .before .left-is-next .ensures) (c .if1 .taken) in search needs
+part-copy-into-end c =
+    let start : tie.Start = search in
+    let h = left-some _ _ _ _ _ (start .pre .merging) _ (c .before .left-is-next .ensures) (c .if1 .taken) in
+    search needs
 
 add-copy-into : tie.Need-add-copy-into
 add-copy-into c = search needs
@@ -30,7 +33,7 @@ same-length : tie.Need-same-length
 same-length c = search needs
 
 returns : tie.Need-returns
-returns c = merged-line-left _ _ _ _ _ (c .before .before .before .before .before .before .before .before .before .before .before .pre .merging) _ (c .before .before .before .before .before .before .left-is-next .ensures) _ _ (c .before .before .before .before .before .if1 .taken) (c .before .before .copy-into .ensures)
+returns c = search (needs, merged-line-left)
 
 add-end-2 : tie.Need-add-end-2
 add-end-2 c = search needs
@@ -42,7 +45,10 @@ part-copy-into-start-2 : tie.Need-part-copy-into-start-2
 part-copy-into-start-2 c = search needs
 
 part-copy-into-end-2 : tie.Need-part-copy-into-end-2
-part-copy-into-end-2 c = let h = right-some _ _ _ _ _ (c .before .before .before .before .before .before .pre .merging) _ (c .before .left-is-next .ensures) (c .if1 .left) in search needs
+part-copy-into-end-2 c =
+    let start : tie.Start = search in
+    let h = right-some _ _ _ _ _ (start .pre .merging) _ (c .before .left-is-next .ensures) (c .if1 .left) in
+    search needs
 
 add-copy-into-2 : tie.Need-add-copy-into-2
 add-copy-into-2 c = search needs
@@ -54,7 +60,7 @@ same-length-2 : tie.Need-same-length-2
 same-length-2 c = search needs
 
 returns-2 : tie.Need-returns-2
-returns-2 c = merged-line-right _ _ _ _ _ (c .before .before .before .before .before .before .before .before .before .before .before .pre .merging) _ (c .before .before .before .before .before .before .left-is-next .ensures) _ _ (c .before .before .before .before .before .if1 .left) (c .before .before .copy-into2 .ensures)
+returns-2 c = search (needs, merged-line-right)
 
 pub merge-line-spec : {M : Type 1} → statement M
 merge-line-spec =

@@ -1,4 +1,5 @@
--- `listing::put_word` meets its contract. Two stores are the run of stores of a word's bytes, since the number fits two bytes. Assumes nothing.
+-- `listing::put_word` meets its contract. Two stores are the run of stores of a word's bytes, since the number fits two bytes. Assumes
+-- nothing.
 use Prim.Native.Nat.{_/_, _%_}
 use mathlib.Core.Path.{_≡_}
 use native.Mathlib.Omega.{arith}

@@ -1,9 +1,10 @@
--- `listing::records_of` meets its contract. The loop's invariant: what was counted and what the entries left say is what all entries say; the
--- measure is the number of entries left. Assumes nothing.
+-- `listing::records_of` meets its contract. The loop's invariant: what was counted and what the entries left say is what all entries say;
+-- the measure is the number of entries left. Assumes nothing.
 use mathlib.Core.Path.{_≡_}
 use Prim.Native.Nat.{_+_, _-_, _≤_}
 use native.Mathlib.Omega.{arith}
 use lib.ListN.{length, drop}
+use Rattle.terms.specs.Figures.{variables}
 use Rattle.listing.specs.Writers.{total}
 use Rattle.listing.proofs.Writers.{total-next, total-none}
 use borrow.Author.Needs.{needs}
@@ -11,10 +12,10 @@ use Rattle.listing.proofs.records_of.Statement.{statement}
 use Rattle.listing.proofs.records_of.Tie as tie
 
 abbrev Inv-loop : tie.InvT-loop
-Inv-loop a n₀ i₀ n i = (i ≤ 8) × (length a ≡ 8) × (n + total (drop i a) ≡ total a)
+Inv-loop a n₀ i₀ n i = (i ≤ variables) × (length a ≡ variables) × (n + total (drop i a) ≡ total a)
 
 abbrev μ-loop : tie.MeasureT-loop
-μ-loop a n₀ i₀ n i = 8 - i
+μ-loop a n₀ i₀ n i = variables - i
 
 loop-holds : tie.Need-loop-holds Inv-loop μ-loop
 loop-holds c = search needs
@@ -29,7 +30,10 @@ count-of-requires : tie.Need-count-of-requires Inv-loop μ-loop
 count-of-requires c κs = search needs
 
 add-n : tie.Need-add-n Inv-loop μ-loop
-add-n c = omega (arith, total-next (c .before .before .before .before .args .t1) (c .before .before .before .loop .i) (omega arith), c .count-of .ensures)
+add-n c =
+    let at-loop : tie.At-loop Inv-loop μ-loop = search in
+    let start : tie.Start Inv-loop μ-loop = search in
+    omega (arith, total-next (start .args .t1) (at-loop .loop .i) (omega arith), c .count-of .ensures)
 
 add-i : tie.Need-add-i Inv-loop μ-loop
 add-i c = search needs
@@ -38,7 +42,10 @@ loop-less : tie.Need-loop-less Inv-loop μ-loop
 loop-less c = search needs
 
 loop-again : tie.Need-loop-again Inv-loop μ-loop
-loop-again c = omega (arith, total-next (c .before .before .before .before .args .t1) (c .before .before .before .loop .i) (omega arith), c .count-of .ensures)
+loop-again c =
+    let at-loop : tie.At-loop Inv-loop μ-loop = search in
+    let start : tie.Start Inv-loop μ-loop = search in
+    omega (arith, total-next (start .args .t1) (at-loop .loop .i) (omega arith), c .count-of .ensures)
 
 returns : tie.Need-returns Inv-loop μ-loop
 returns c = omega (arith, total-none (c .before .before .args .t1) (c .before .loop .i) (omega arith))

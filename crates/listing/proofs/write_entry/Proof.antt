@@ -1,5 +1,5 @@
--- `listing::write_entry` meets its contract. An open entry is four zero bytes; an assigned one is two words, and its value is copied from where its
--- span says. Assumes nothing.
+-- `listing::write_entry` meets its contract. An open entry is four zero bytes; an assigned one is two words, and its value is copied from
+-- where its span says. Assumes nothing.
 use mathlib.Core.Path.{_∙_, ap}
 use lib.ListN.{length}
 use native.Mathlib.Omega.{arith}
@@ -27,7 +27,7 @@ same-length : tie.Need-same-length
 same-length c = search needs
 
 returns : tie.Need-returns
-returns c = wrote-open _ _ _ _ _ _ _ _ (c .before .before .before .before .before .before .before .before .enum-told .given .1) (c .before .before .before .before .before .before .put-word .ensures) (c .before .before .put-word2 .ensures)
+returns c = search (needs, wrote-open)
 
 put-word-requires-3 : tie.Need-put-word-requires-3
 put-word-requires-3 c κs = search needs
@@ -36,20 +36,34 @@ add-put-word-2 : tie.Need-add-put-word-2
 add-put-word-2 c = search needs
 
 put-word-requires-4 : tie.Need-put-word-requires-4
-put-word-requires-4 c κs = let h = assigned-entry _ _ _ _ (c .before .before .before .before .before .before .before .before .before .before .before .pre .stands) (c .before .before .before .before .before .before .e .given .1) in omega (arith, h .records)
+put-word-requires-4 c κs =
+    let e : tie.After-e = search in
+    let start : tie.Start = search in
+    let h = assigned-entry _ _ _ _ (start .pre .stands) (e .e .given .1) in
+    search needs
 
 value-of-requires : tie.Need-value-of-requires
-value-of-requires c κs = assigned-entry _ _ _ _ (c .before .before .before .before .before .before .before .before .before .before .before .before .before .before .pre .stands) (c .before .before .before .before .before .before .before .before .before .e .given .1) .within
+value-of-requires c κs =
+    let e : tie.After-e = search in
+    let start : tie.Start = search in
+    assigned-entry _ _ _ _ (start .pre .stands) (e .e .given .1) .within
 
 mul-copy-into : tie.Need-mul-copy-into
 mul-copy-into c = search needs
 
 copy-into-requires : tie.Need-copy-into-requires
-copy-into-requires c κs = let h = assigned-entry _ _ _ _ (c .before .before .before .before .before .before .before .before .before .before .before .before .before .before .before .before .pre .stands) (c .before .before .before .before .before .before .before .before .before .before .before .e .given .1) in
-    omega (arith, ap length (c .before .value-of .ensures) ∙ ap length (h .bytes) ∙ entry-values-length (c .before .before .before .before .before .before .before .before .before .before .before .before .before .before .before .before .pre .entry))
+copy-into-requires c κs =
+    let e : tie.After-e = search in
+    let start : tie.Start = search in
+    let h = assigned-entry _ _ _ _ (start .pre .stands) (e .e .given .1) in
+    omega (arith, ap length (c .before .value-of .ensures) ∙ ap length (h .bytes) ∙ entry-values-length (start .pre .entry))
 
 add-result : tie.Need-add-result
-add-result c = let h = assigned-entry _ _ _ _ (c .before .before .before .before .before .before .before .before .before .before .before .before .before .before .before .before .before .before .before .before .pre .stands) (c .before .before .before .before .before .before .before .before .before .before .before .before .before .before .before .e .given .1) in omega (arith, h .records)
+add-result c =
+    let e : tie.After-e = search in
+    let start : tie.Start = search in
+    let h = assigned-entry _ _ _ _ (start .pre .stands) (e .e .given .1) in
+    search needs
 
 same-length-2 : tie.Need-same-length-2
 same-length-2 c = search needs
@@ -58,7 +72,7 @@ same-length-3 : tie.Need-same-length-3
 same-length-3 c = search needs
 
 returns-2 : tie.Need-returns-2
-returns-2 c = wrote-assigned _ _ _ _ _ _ _ _ _ _ _ (c .before .before .before .before .before .before .before .before .before .before .before .before .before .before .before .e .given .1) (c .before .before .before .before .before .before .before .before .before .before .before .before .put-word3 .ensures) (c .before .before .before .before .before .before .before .before .put-word4 .ensures) (c .before .before .before .before .before .value-of .ensures) (c .before .before .before .copy-into .ensures)
+returns-2 c = search (needs, wrote-assigned)
 
 pub write-entry-spec : {M : Type 1} → statement M
 write-entry-spec =

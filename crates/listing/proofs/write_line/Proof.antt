@@ -1,5 +1,5 @@
--- `listing::write_line` meets its contract. The loop's invariant: once the entries that are left are written behind those passed the line is; the
--- measure is the number of entries left. Assumes nothing.
+-- `listing::write_line` meets its contract. The loop's invariant: once the entries that are left are written behind those passed the line
+-- is; the measure is the number of entries left. Assumes nothing.
 use Prim.Native.Nat.{_-_}
 use native.Mathlib.Omega.{arith}
 use Rattle.terms.specs.Figures.{variables}
@@ -15,7 +15,7 @@ abbrev μ-loop : tie.MeasureT-loop
 μ-loop s lines₀ at values₀ first a next₀ i₀ lines values next i = variables - i
 
 loop-holds : tie.Need-loop-holds Inv-loop μ-loop
-loop-holds c = writing-start _ _ _ _ _ _ (c .before .before .before .pre)
+loop-holds c = search (needs, writing-start)
 
 mul-entry : tie.Need-mul-entry Inv-loop μ-loop
 mul-entry c = search needs
@@ -27,10 +27,10 @@ mul-write-entry : tie.Need-mul-write-entry Inv-loop μ-loop
 mul-write-entry c = omega arith
 
 add-write-entry : tie.Need-add-write-entry Inv-loop μ-loop
-add-write-entry c = omega (arith, c .before .before .before .loop .inv .left .room, c .before .before .before .loop .inv .same-lines)
+add-write-entry c = omega arith
 
 write-entry-requires : tie.Need-write-entry-requires Inv-loop μ-loop
-write-entry-requires c κs = writing-entry _ _ _ _ _ _ _ _ _ _ (c .before .before .before .before .loop .inv) (c .before .before .before .loop-test .taken)
+write-entry-requires c κs = search (needs, writing-entry)
 
 add-i : tie.Need-add-i Inv-loop μ-loop
 add-i c = search needs
@@ -39,16 +39,16 @@ loop-less : tie.Need-loop-less Inv-loop μ-loop
 loop-less c = search needs
 
 loop-again : tie.Need-loop-again Inv-loop μ-loop
-loop-again c = writing-more _ _ _ _ _ _ _ _ _ _ (c .before .before .before .before .before .before .before .before .before .loop .inv) _ _ _ (c .before .before .before .before .before .before .before .before .loop-test .taken) (c .before .before .before .before .write-entry .ensures) (c .before .before .before .before .write-entry .kept .1 .1 .0) (c .before .before .before .before .write-entry .kept .1 .1 .1 .1 .0)
+loop-again c = search (needs, writing-more)
 
 same-length : tie.Need-same-length Inv-loop μ-loop
-same-length c = c .before .loop .inv .same-lines
+same-length c = search needs
 
 same-length-2 : tie.Need-same-length-2 Inv-loop μ-loop
-same-length-2 c = c .before .loop .inv .same-values
+same-length-2 c = search needs
 
 returns : tie.Need-returns Inv-loop μ-loop
-returns c = writing-done _ _ _ _ _ _ _ _ _ _ (c .before .loop .inv) (c .loop-test .left)
+returns c = search (needs, writing-done)
 
 pub write-line-spec : {M : Type 1} → statement M
 write-line-spec =

@@ -1,5 +1,6 @@
 -- `matcher::judge_list` meets its contract: the rows of the tables, then those of the pattern and of the recipe. Assumes nothing.
-use Rattle.matcher.proofs.Judging.{judged-first, judged-list}
+use Rattle.refusals.proofs.Judging.{judged-first}
+use Rattle.matcher.proofs.Listed.{judged-list}
 use borrow.Author.Needs.{needs}
 use Rattle.matcher.proofs.judge_list.Statement.{statement}
 use Rattle.matcher.proofs.judge_list.Tie as tie
@@ -26,7 +27,19 @@ first-requires-3 : tie.Need-first-requires-3
 first-requires-3 c κs = search needs
 
 returns : tie.Need-returns
-returns c = judged-list (c .before .before .before .before .before .before .before .before .before .before .before .before .args .pattern .now) (c .before .before .before .before .before .before .before .before .before .before .before .before .args .recipe .now) (c .before .before .before .before .before .before .before .before .before .before .before .before .args .lines .now) (c .before .before .before .before .before .before .before .before .before .before .before .before .args .values .now) (c .before .before .before .before .before .before .before .before .before .before .before .before .args .work .now) _ _ _ (judged-first _ _ _ _ _ _ _ (c .before .before .before .judge-table .ensures) (c .before .before .judge-room .ensures) (c .before .first2 .ensures)) (judged-first _ _ _ _ _ _ _ (c .before .before .before .before .before .before .judge-pattern .ensures) (c .before .before .before .before .before .judge-recipe .ensures) (c .before .before .before .before .first .ensures)) (c .first3 .ensures)
+returns c =
+    let judge-pattern : tie.After-judge-pattern = search in
+    let start : tie.Start = search in
+    let judge-recipe : tie.After-judge-recipe = search in
+    let first : tie.After-first = search in
+    let judge-table : tie.After-judge-table = search in
+    let judge-room : tie.After-judge-room = search in
+    let first2 : tie.After-first2 = search in
+    judged-list (start .args .pattern .now) (start .args .recipe .now) (start .args .lines .now) (start .args .values .now)
+    (start .args .work .now) _ _ _
+    (judged-first _ _ _ _ _ _ _ (judge-table .judge-table .ensures) (judge-room .judge-room .ensures) (first2 .first2 .ensures))
+    (judged-first _ _ _ _ _ _ _ (judge-pattern .judge-pattern .ensures) (judge-recipe .judge-recipe .ensures) (first .first .ensures))
+    (c .first3 .ensures)
 
 pub judge-list-spec : {M : Type 1} → statement M
 judge-list-spec =

@@ -1,8 +1,8 @@
 -- `matcher::list` meets its contract, from the verdict on its tables and from the search; that 9 is exact follows from its answer. Assumes
 -- nothing.
 use mathlib.Core.Path.{_∙_}
-use Rattle.matcher.proofs.Judging.{right-known}
-use Rattle.matcher.proofs.Clearing.{cleared-same}
+use Rattle.refusals.proofs.Judging.{right-known}
+use Rattle.refusals.proofs.Clearing.{cleared-same}
 use Rattle.matcher.proofs.Listed.{listed-all, listed-lent, listed-enumerated}
 use borrow.Author.Needs.{needs}
 use Rattle.matcher.proofs.list.Statement.{statement}
@@ -27,13 +27,21 @@ same-length-3 : tie.Need-same-length-3
 same-length-3 c = search needs
 
 returns : tie.Need-returns
-returns c = listed-all _ _ _ _ _ _ _ _ _ (listed-lent _ _ _ _ _ _ (c .before .before .before .before .before .before .before .judge-list .ensures) _ (c .before .before .before .before .before .verdict .given .1)) (c .before .before .clear .ensures)
+returns c =
+    let clear : tie.After-clear = search in
+    let verdict : tie.After-verdict = search in
+    let judge-list : tie.After-judge-list = search in
+    listed-all _ _ _ _ _ _ _ _ _ (listed-lent _ _ _ _ _ _ (judge-list .judge-list .ensures) _ (verdict .verdict .given .1))
+    (clear .clear .ensures)
 
 enum-told : tie.Need-enum-told
 enum-told c = search needs
 
 enumerate-requires : tie.Need-enumerate-requires
-enumerate-requires c κs = right-known _ _ _ (c .before .before .before .before .before .judge-list .ensures) (c .before .before .before .enum-told .given .1)
+enumerate-requires c κs =
+    let enum-told-point : tie.After-enum-told = search in
+    let judge-list : tie.After-judge-list = search in
+    right-known _ _ _ (judge-list .judge-list .ensures) (enum-told-point .enum-told .given .1)
 
 clear-requires-2 : tie.Need-clear-requires-2
 clear-requires-2 c κs = search needs
@@ -48,7 +56,18 @@ same-length-6 : tie.Need-same-length-6
 same-length-6 c = search needs
 
 returns-2 : tie.Need-returns-2
-returns-2 c = listed-all _ _ _ _ _ _ _ _ _ (listed-enumerated _ _ _ _ _ _ (c .before .before .before .before .before .before .before .before .before .before .before .before .before .before .before .before .judge-list .ensures) (c .before .before .before .before .before .before .before .before .before .before .before .before .before .before .enum-told .given .1) _ _ _ (c .before .before .before .before .before .before .before .before .before .before .enumerate .ensures)) (c .before .before .clear2 .ensures ∙ cleared-same (c .before .before .before .before .before .before .before .before .before .before .before .before .before .before .before .before .before .before .before .before .before .before .before .before .before .args .work .now) (c .before .before .before .before .before .before .before .before .before .before .enumerate .last .1 .1 .1 .1 .0) (c .before .before .before .before .before .before .before .before .before .before .enumerate .kept .1 .1 .1 .1 .0) ((right-known _ _ _ (c .before .before .before .before .before .before .before .before .before .before .before .before .before .before .before .before .judge-list .ensures) (c .before .before .before .before .before .before .before .before .before .before .before .before .before .before .enum-told .given .1)) .area))
+returns-2 c =
+    let clear2 : tie.After-clear2 = search in
+    let slice-known5 : tie.After-slice-known5 = search in
+    let enumerate : tie.After-enumerate = search in
+    let enum-told-point : tie.After-enum-told = search in
+    let judge-list : tie.After-judge-list = search in
+    let slice-known : tie.After-slice-known = search in
+    let start : tie.Start = search in
+    listed-all _ _ _ _ _ _ _ _ _ (listed-enumerated _ _ _ _ _ _ (judge-list .judge-list .ensures) (enum-told-point .enum-told .given .1) _
+    _ _ (enumerate .enumerate .ensures)) (clear2 .clear2 .ensures ∙ cleared-same (start .args .work .now)
+    (enumerate .enumerate .last .1 .1 .1 .1 .0) (enumerate .enumerate .kept .1 .1 .1 .1 .0)
+    ((right-known _ _ _ (judge-list .judge-list .ensures) (enum-told-point .enum-told .given .1)) .area))
 
 pub list-spec : {M : Type 1} → statement M
 list-spec =

@@ -1,5 +1,5 @@
--- `notation::build` meets its contract. The loop's invariant: the text is read up to `i` and the end is within the table, which keeps its length.
--- Assumes nothing.
+-- `notation::build` meets its contract. The loop's invariant: the text is read up to `i` and the end is within the table, which keeps its
+-- length. Assumes nothing.
 use native.Mathlib.Omega.{arith}
 use Rattle.notation.proofs.Counting.{counts}
 use Prim.Native.Nat.{_≤_, _-_}

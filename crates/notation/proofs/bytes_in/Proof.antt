@@ -18,11 +18,11 @@ returns c = search needs
 loop-holds : tie.Need-loop-holds Inv-loop μ-loop
 loop-holds c = search needs
 
-shared-slice-read-with-digit : tie.Need-shared-slice-read-with-digit Inv-loop μ-loop
-shared-slice-read-with-digit c = search needs
+shared-slice-read-with-character : tie.Need-shared-slice-read-with-character Inv-loop μ-loop
+shared-slice-read-with-character c = search needs
 
-with-digit-requires : tie.Need-with-digit-requires Inv-loop μ-loop
-with-digit-requires c κs = search needs
+with-character-requires : tie.Need-with-character-requires Inv-loop μ-loop
+with-character-requires c κs = search needs
 
 add-i : tie.Need-add-i Inv-loop μ-loop
 add-i c = search needs
@@ -44,8 +44,8 @@ bytes-in-spec =
     μ-loop
     returns
     loop-holds
-    shared-slice-read-with-digit
-    with-digit-requires
+    shared-slice-read-with-character
+    with-character-requires
     add-i
     loop-less
     loop-again

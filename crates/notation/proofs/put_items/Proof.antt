@@ -1,5 +1,5 @@
--- `notation::put_items` meets its contract. The loop's invariant: the end is within the table, which keeps its length; the measure is the number of turns left.
--- Assumes nothing.
+-- `notation::put_items` meets its contract. The loop's invariant: the end is within the table, which keeps its length; the measure is the
+-- number of turns left. Assumes nothing.
 use Prim.Native.Nat.{_≤_, _-_}
 use mathlib.Core.Path.{_≡_}
 use lib.ListN.{length}
@@ -8,10 +8,13 @@ use Rattle.notation.proofs.put_items.Statement.{statement}
 use Rattle.notation.proofs.put_items.Tie as tie
 
 abbrev Inv-loop : tie.InvT-loop
-Inv-loop out₀ at item end₀ i₀ out end i = (end ≤ length out) × (length out ≡ length out₀)
+Inv-loop out₀ at item times end₀ i₀ out end i = (end ≤ length out) × (length out ≡ length out₀)
 
 abbrev μ-loop : tie.MeasureT-loop
-μ-loop out₀ at item end₀ i₀ out end i = item .times - i
+μ-loop out₀ at item times end₀ i₀ out end i = times - i
+
+times-at-requires : tie.Need-times-at-requires Inv-loop μ-loop
+times-at-requires c κs = search needs
 
 loop-holds : tie.Need-loop-holds Inv-loop μ-loop
 loop-holds c = search needs
@@ -40,6 +43,7 @@ put-items-spec =
     (tie.spec
     Inv-loop
     μ-loop
+    times-at-requires
     loop-holds
     put-item-requires
     add-i

@@ -4,6 +4,7 @@ use mathlib.Core.Path.{_≡_}
 use Prim.Native.Nat.{_≤_, _-_}
 use native.Mathlib.Omega.{arith}
 use borrow.Author.Tests.{not-true, not-false}
+use Rattle.terms.specs.Figures.{variables}
 use Rattle.printing.specs.Text.{Opens}
 use Rattle.printing.proofs.Rooms.{opens-none, opens-more, opens-not, opens-all}
 use borrow.Author.Needs.{needs}
@@ -11,10 +12,10 @@ use Rattle.printing.proofs.is_bare.Statement.{statement}
 use Rattle.printing.proofs.is_bare.Tie as tie
 
 abbrev Inv-loop : tie.InvT-loop
-Inv-loop line v₀ v = (v ≤ 8) × Opens line v
+Inv-loop line v₀ v = (v ≤ variables) × Opens line v
 
 abbrev μ-loop : tie.MeasureT-loop
-μ-loop line v₀ v = 8 - v
+μ-loop line v₀ v = variables - v
 
 loop-holds : tie.Need-loop-holds Inv-loop μ-loop
 loop-holds c = (omega arith, opens-none _)
@@ -26,7 +27,7 @@ is-open-requires : tie.Need-is-open-requires Inv-loop μ-loop
 is-open-requires c κs = search needs
 
 returns : tie.Need-returns Inv-loop μ-loop
-returns c = opens-not _ _ _ (c .before .is-open .result) (c .before .before .entry-at .ensures) (c .before .is-open .ensures) 8 (c .before .before .before .loop-test .taken) (not-true _ (c .if1 .taken))
+returns c = search (needs, opens-not, variables, not-true)
 
 add-v : tie.Need-add-v Inv-loop μ-loop
 add-v c = search needs
@@ -35,11 +36,11 @@ loop-less : tie.Need-loop-less Inv-loop μ-loop
 loop-less c = search needs
 
 loop-again : tie.Need-loop-again Inv-loop μ-loop
-loop-again c = (omega arith, opens-more _ _ _ (c .before .is-open .result) (c .before .before .entry-at .ensures) (c .before .is-open .ensures) (c .before .before .before .before .loop .inv .1) (not-false _ (c .if1 .left)))
+loop-again c = search (needs, opens-more, not-false)
 
 returns-2 : tie.Need-returns-2 Inv-loop μ-loop
 returns-2 c =
-    let e : c .before .loop .v ≡ 8 = omega arith in
+    let e : c .before .loop .v ≡ variables = omega arith in
     opens-all _ _ _ e (c .before .loop .inv .1)
 
 pub is-bare-spec : {M : Type 1} → statement M

@@ -15,7 +15,11 @@ enum-known-entry : tie.Need-enum-known-entry
 enum-known-entry c = search needs
 
 print-value-requires : tie.Need-print-value-requires
-print-value-requires c κs = (c .before .before .before .before .before .before .before .before .pre .0, c .before .before .before .before .before .before .before .before .pre .1 .each _ _ (c .before .before .before .before .before .before .before .before .pre .2) (sym (c .before .before .before .before .entry-at .ensures) ∙ c .before .before .entry .given .1), c .before .before .before .before .before .before .before .before .pre .1 .few)
+print-value-requires c κs =
+    let entry : tie.After-entry = search in
+    let entry-at : tie.After-entry-at = search in
+    let start : tie.Start = search in
+    (search needs, start .pre .1 .each _ _ (start .pre .2) (sym (entry-at .entry-at .ensures) ∙ entry .entry .given .1), search needs)
 
 returns : tie.Need-returns
 returns c = search needs

@@ -1,21 +1,22 @@
--- `printing::print_line` is safe and ends. The loop's measure is the number of variables left; the invariant keeps the length of the table for texts.
--- Assumes nothing.
-use mathlib.Core.Path.{_≡_, refl, _∙_}
+-- `printing::print_line` is safe and ends. The loop's measure is the number of variables left; the invariant keeps the length of the table
+-- for texts. Assumes nothing.
+use mathlib.Core.Path.{_≡_, refl}
 use Prim.Native.Nat.{_≤_, _-_}
 use native.Mathlib.Omega.{arith}
 use lib.ListN.{length}
 use borrow.Author.Needs.{needs}
+use Rattle.terms.specs.Figures.{variables}
 use Rattle.printing.proofs.print_line.Statement.{statement}
 use Rattle.printing.proofs.print_line.Tie as tie
 
 abbrev Inv-loop : tie.InvT-loop
-Inv-loop out₀ number line values v₀ out v = (v ≤ 8) × (length out ≡ length out₀)
+Inv-loop out₀ number line values v₀ out v = (v ≤ variables) × (length out ≡ length out₀)
 
 abbrev μ-loop : tie.MeasureT-loop
-μ-loop out₀ number line values v₀ out v = 8 - v
+μ-loop out₀ number line values v₀ out v = variables - v
 
 is-bare-requires : tie.Need-is-bare-requires Inv-loop μ-loop
-is-bare-requires c κs = c .before .before .before .pre .1 .whole
+is-bare-requires c κs = search needs
 
 print-bare-requires : tie.Need-print-bare-requires Inv-loop μ-loop
 print-bare-requires c κs = search needs
@@ -30,7 +31,7 @@ loop-holds : tie.Need-loop-holds Inv-loop μ-loop
 loop-holds c = (omega arith, refl)
 
 print-entry-requires : tie.Need-print-entry-requires Inv-loop μ-loop
-print-entry-requires c κs = (omega arith, c .before .before .before .before .before .before .before .before .pre .1, omega arith)
+print-entry-requires c κs = search needs
 
 add-v : tie.Need-add-v Inv-loop μ-loop
 add-v c = search needs
@@ -39,10 +40,10 @@ loop-less : tie.Need-loop-less Inv-loop μ-loop
 loop-less c = search needs
 
 loop-again : tie.Need-loop-again Inv-loop μ-loop
-loop-again c = (omega arith, c .before .before .print-entry .kept .0 ∙ c .before .before .before .before .before .loop .inv .1)
+loop-again c = search needs
 
 same-length-2 : tie.Need-same-length-2 Inv-loop μ-loop
-same-length-2 c = c .before .loop .inv .1
+same-length-2 c = search needs
 
 returns-2 : tie.Need-returns-2 Inv-loop μ-loop
 returns-2 c = search needs

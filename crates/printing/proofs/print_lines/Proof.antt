@@ -1,6 +1,6 @@
--- `printing::print_lines` is safe and ends. The loop's measure is the number of lines left; a line that can be printed stands in each place.
--- Assumes nothing.
-use mathlib.Core.Path.{_≡_, refl, _∙_}
+-- `printing::print_lines` is safe and ends. The loop's measure is the number of lines left; a line that can be printed stands in each
+-- place. Assumes nothing.
+use mathlib.Core.Path.{_≡_}
 use Prim.Native.Nat.{_≤_, _-_}
 use native.Mathlib.Omega.{arith}
 use lib.ListN.{length}
@@ -23,25 +23,25 @@ print-labelled-requires : tie.Need-print-labelled-requires Inv-loop μ-loop
 print-labelled-requires c κs = search needs
 
 loop-holds : tie.Need-loop-holds Inv-loop μ-loop
-loop-holds c = (omega arith, refl, omega (arith, c .before .before .print-labelled .kept .0))
+loop-holds c = search needs
 
 mul-from : tie.Need-mul-from Inv-loop μ-loop
-mul-from c = omega (arith, c .before .before .before .before .before .before .before .before .before .before .pre .1 .enough, c .before .before .before .before .before .before .before .before .before .before .pre .1 .most)
+mul-from c = omega arith
 
 add-to : tie.Need-add-to Inv-loop μ-loop
-add-to c = omega (arith, c .before .before .before .before .before .before .before .before .before .before .pre .1 .enough, c .before .before .before .before .before .before .before .before .before .before .pre .1 .most)
+add-to c = omega arith
 
 sub-print-line : tie.Need-sub-print-line Inv-loop μ-loop
 sub-print-line c = omega arith
 
 part-print-line-start : tie.Need-part-print-line-start Inv-loop μ-loop
-part-print-line-start c = omega (arith, c .before .before .before .before .before .before .before .before .before .before .before .pre .1 .enough)
+part-print-line-start c = omega arith
 
 part-print-line-end : tie.Need-part-print-line-end Inv-loop μ-loop
-part-print-line-end c = omega (arith, c .before .before .before .before .before .before .before .before .before .before .before .pre .1 .enough)
+part-print-line-end c = omega arith
 
 print-line-requires : tie.Need-print-line-requires Inv-loop μ-loop
-print-line-requires c κs = (c .before .before .before .loop .inv .2, line-within _ _ _ _ (c .before .before .before .before .before .before .before .before .before .before .before .before .pre .1) (c .before .before .loop-test .taken))
+print-line-requires c κs = search (needs, line-within)
 
 add-i : tie.Need-add-i Inv-loop μ-loop
 add-i c = search needs
@@ -50,10 +50,10 @@ loop-less : tie.Need-loop-less Inv-loop μ-loop
 loop-less c = search needs
 
 loop-again : tie.Need-loop-again Inv-loop μ-loop
-loop-again c = (omega arith, c .before .before .print-line .kept .0 ∙ c .before .before .before .before .before .before .loop .inv .1, omega (arith, c .before .before .print-line .kept .0))
+loop-again c = search needs
 
 same-length : tie.Need-same-length Inv-loop μ-loop
-same-length c = c .before .loop .inv .1 ∙ c .before .before .before .before .print-labelled .kept .0
+same-length c = search needs
 
 returns : tie.Need-returns Inv-loop μ-loop
 returns c = search needs

@@ -8,7 +8,7 @@ slice-aggregate-print-lines : tie.Need-slice-aggregate-print-lines
 slice-aggregate-print-lines c = search needs
 
 print-lines-requires : tie.Need-print-lines-requires
-print-lines-requires c κs = (search needs, c .before .before .before .pre)
+print-lines-requires c κs = (search needs, search needs)
 
 returns : tie.Need-returns
 returns c = search needs

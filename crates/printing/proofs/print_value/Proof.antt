@@ -1,6 +1,5 @@
 -- `printing::print_value` is safe and ends. A value has no more records than the value table, so its printed line has room.
 -- Assumes nothing.
-use mathlib.Core.Path.{sym}
 use lib.Seq.{length-take-le}
 use Rattle.printing.proofs.Rooms.{value-fits}
 use borrow.Author.Needs.{needs}
@@ -11,13 +10,13 @@ value-of-requires : tie.Need-value-of-requires
 value-of-requires c κs = search needs
 
 put-entry-requires : tie.Need-put-entry-requires
-put-entry-requires c κs = value-fits _ _ _ _ (c .before .value-of .ensures) (c .before .before .before .before .pre .1) (c .before .before .before .before .pre .2) (c .before .before .before .before .pre .0)
+put-entry-requires c κs = search (needs, value-fits)
 
 slice-reshare-prefix-say : tie.Need-slice-reshare-prefix-say
 slice-reshare-prefix-say c = search needs
 
 slice-aggregate-say : tie.Need-slice-aggregate-say
-slice-aggregate-say c = sym (length-take-le _ _ (c .before .before .before .put-entry .ensures .1))
+slice-aggregate-say c = search (needs, length-take-le)
 
 say-requires : tie.Need-say-requires
 say-requires c κs = search needs

@@ -1,6 +1,5 @@
 -- `printing::put_bare` meets its contract. Four texts are put one behind another.
 -- Assumes nothing.
-use native.Mathlib.Omega.{arith}
 use Rattle.printing.proofs.Texts.{puts-then}
 use borrow.Author.Needs.{needs}
 use Rattle.printing.proofs.put_bare.Statement.{statement}
@@ -23,9 +22,12 @@ same-length c = search needs
 
 returns : tie.Need-returns
 returns c =
-    let a = puts-then _ _ _ _ _ _ _ _ (c .before .before .before .before .before .before .before .before .before .before .before .before .before .before .put-decimal .ensures .0) (c .before .before .before .before .before .before .before .before .before .before .put .ensures .0) in
-    let b = puts-then _ _ _ _ _ _ _ _ a (c .before .before .before .before .before .before .put2 .ensures .0) in
-    (puts-then _ _ _ _ _ _ _ _ b (c .before .before .put3 .ensures .0), omega arith)
+    let put2 : tie.After-put2 = search in
+    let put : tie.After-put = search in
+    let put-decimal : tie.After-put-decimal = search in
+    let a = puts-then _ _ _ _ _ _ _ _ (put-decimal .put-decimal .ensures .0) (put .put .ensures .0) in
+    let b = puts-then _ _ _ _ _ _ _ _ a (put2 .put2 .ensures .0) in
+    search (needs, puts-then)
 
 pub put-bare-spec : {M : Type 1} → statement M
 put-bare-spec =

@@ -1,6 +1,5 @@
 -- `printing::put_byte` meets its contract. Two digits are put one behind the other, and are those of the byte.
 -- Assumes nothing.
-use native.Mathlib.Omega.{arith}
 use Rattle.printing.proofs.Texts.{digits-byte}
 use borrow.Author.Needs.{needs}
 use Rattle.printing.proofs.put_byte.Statement.{statement}
@@ -22,7 +21,7 @@ same-length : tie.Need-same-length
 same-length c = search needs
 
 returns : tie.Need-returns
-returns c = (digits-byte (c .before .before .before .before .before .before .before .before .before .before .before .args .b) _ _ _ _ _ _ _ _ (c .before .before .before .before .before .before .before .before .glyph .ensures) (c .before .before .before .glyph2 .ensures) (c .before .before .before .before .before .before .before .put .ensures .0) (c .before .before .put2 .ensures .0), omega arith)
+returns c = search (needs, digits-byte)
 
 pub put-byte-spec : {M : Type 1} → statement M
 put-byte-spec =

@@ -1,6 +1,5 @@
 -- `printing::put_entry` meets its contract. The numbers, the records and the line's end are put one behind another.
 -- Assumes nothing.
-use native.Mathlib.Omega.{arith}
 use Rattle.printing.proofs.Texts.{puts-then}
 use borrow.Author.Needs.{needs}
 use Rattle.printing.proofs.put_entry.Statement.{statement}
@@ -19,7 +18,7 @@ same-length : tie.Need-same-length
 same-length c = search needs
 
 returns : tie.Need-returns
-returns c = (puts-then _ _ _ _ _ _ _ _ (puts-then _ _ _ _ _ _ _ _ (c .before .before .before .before .before .before .before .before .before .before .put-numbers .ensures .0) (c .before .before .before .before .before .before .put-records .ensures .0)) (c .before .before .put .ensures .0), omega arith)
+returns c = search (needs, puts-then)
 
 pub put-entry-spec : {M : Type 1} → statement M
 put-entry-spec =

@@ -23,9 +23,13 @@ same-length c = search needs
 
 returns : tie.Need-returns
 returns c =
-    let a = puts-then _ _ _ _ _ _ _ _ (word-put _ _ _ (c .before .before .before .before .before .before .before .before .before .before .before .before .before .before .copy-into .ensures)) (c .before .before .before .before .before .before .before .before .before .before .put .ensures .0) in
-    let b = puts-then _ _ _ _ _ _ _ _ a (c .before .before .before .before .before .before .put-decimal .ensures .0) in
-    (puts-then _ _ _ _ _ _ _ _ b (c .before .before .put2 .ensures .0), omega arith)
+    let put2 : tie.After-put2 = search in
+    let put-decimal : tie.After-put-decimal = search in
+    let put : tie.After-put = search in
+    let copy-into : tie.After-copy-into = search in
+    let a = puts-then _ _ _ _ _ _ _ _ (word-put _ _ _ (copy-into .copy-into .ensures)) (put .put .ensures .0) in
+    let b = puts-then _ _ _ _ _ _ _ _ a (put-decimal .put-decimal .ensures .0) in
+    (puts-then _ _ _ _ _ _ _ _ b (put2 .put2 .ensures .0), omega arith)
 
 pub put-labelled-spec : {M : Type 1} → statement M
 put-labelled-spec =

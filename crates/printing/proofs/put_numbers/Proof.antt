@@ -1,6 +1,5 @@
 -- `printing::put_numbers` meets its contract. Three numbers with blanks between are put one behind another.
 -- Assumes nothing.
-use native.Mathlib.Omega.{arith}
 use Rattle.printing.proofs.Texts.{puts-then}
 use borrow.Author.Needs.{needs}
 use Rattle.printing.proofs.put_numbers.Statement.{statement}
@@ -26,10 +25,14 @@ same-length c = search needs
 
 returns : tie.Need-returns
 returns c =
-    let a = puts-then _ _ _ _ _ _ _ _ (c .before .before .before .before .before .before .before .before .before .before .before .before .before .before .before .before .before .before .put-decimal .ensures .0) (c .before .before .before .before .before .before .before .before .before .before .before .before .before .before .put .ensures .0) in
-    let b = puts-then _ _ _ _ _ _ _ _ a (c .before .before .before .before .before .before .before .before .before .before .put-decimal2 .ensures .0) in
-    let d = puts-then _ _ _ _ _ _ _ _ b (c .before .before .before .before .before .before .put2 .ensures .0) in
-    (puts-then _ _ _ _ _ _ _ _ d (c .before .before .put-decimal3 .ensures .0), omega arith)
+    let put2 : tie.After-put2 = search in
+    let put-decimal2 : tie.After-put-decimal2 = search in
+    let put : tie.After-put = search in
+    let put-decimal : tie.After-put-decimal = search in
+    let a = puts-then _ _ _ _ _ _ _ _ (put-decimal .put-decimal .ensures .0) (put .put .ensures .0) in
+    let b = puts-then _ _ _ _ _ _ _ _ a (put-decimal2 .put-decimal2 .ensures .0) in
+    let d = puts-then _ _ _ _ _ _ _ _ b (put2 .put2 .ensures .0) in
+    search (needs, puts-then)
 
 pub put-numbers-spec : {M : Type 1} → statement M
 put-numbers-spec =

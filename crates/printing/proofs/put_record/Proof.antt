@@ -50,10 +50,15 @@ same-length c = search needs
 
 returns : tie.Need-returns
 returns c =
-    let a = is-then _ _ _ _ _ _ _ _ (c .before .before .before .before .before .before .before .before .before .before .before .before .before .before .before .before .before .before .before .before .before .before .put .ensures .0) (c .before .before .before .before .before .before .before .before .before .before .before .before .before .before .before .before .before .put-byte .ensures .0) in
-    let b = is-then _ _ _ _ _ _ _ _ a (c .before .before .before .before .before .before .before .before .before .before .before .before .put-byte2 .ensures .0) in
-    let d = is-then _ _ _ _ _ _ _ _ b (c .before .before .before .before .before .before .before .put-byte3 .ensures .0) in
-    (is-then _ _ _ _ _ _ _ _ d (c .before .before .put-byte4 .ensures .0), omega arith)
+    let put-byte4 : tie.After-put-byte4 = search in
+    let put-byte3 : tie.After-put-byte3 = search in
+    let put-byte2 : tie.After-put-byte2 = search in
+    let put-byte : tie.After-put-byte = search in
+    let put : tie.After-put = search in
+    let a = is-then _ _ _ _ _ _ _ _ (put .put .ensures .0) (put-byte .put-byte .ensures .0) in
+    let b = is-then _ _ _ _ _ _ _ _ a (put-byte2 .put-byte2 .ensures .0) in
+    let d = is-then _ _ _ _ _ _ _ _ b (put-byte3 .put-byte3 .ensures .0) in
+    (is-then _ _ _ _ _ _ _ _ d (put-byte4 .put-byte4 .ensures .0), omega arith)
 
 pub put-record-spec : {M : Type 1} → statement M
 put-record-spec =

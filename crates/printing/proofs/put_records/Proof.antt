@@ -1,6 +1,6 @@
 -- `printing::put_records` meets its contract. The loop's invariant: the text of the records passed is put.
 -- Assumes nothing.
-use mathlib.Core.Path.{_≡_, refl, _∙_}
+use mathlib.Core.Path.{_≡_}
 use Prim.Native.Nat.{_+_, _*_, _-_, _/_, _≤_}
 use native.Mathlib.Omega.{arith}
 use lib.ListN.{length}
@@ -11,13 +11,14 @@ use Rattle.printing.proofs.put_records.Statement.{statement}
 use Rattle.printing.proofs.put_records.Tie as tie
 
 abbrev Inv-loop : tie.InvT-loop
-Inv-loop out₀ at table n end₀ k₀ out end k = (k ≤ n) × (length out ≡ length out₀) × (end ≡ at + 9 * k) × Puts (Is (recordsText table k)) out₀ at end out
+Inv-loop out₀ at table n end₀ k₀ out end k =
+    (k ≤ n) × (length out ≡ length out₀) × (end ≡ at + 9 * k) × Puts (Is (recordsText table k)) out₀ at end out
 
 abbrev μ-loop : tie.MeasureT-loop
 μ-loop out₀ at table n end₀ k₀ out end k = n - k
 
 loop-holds : tie.Need-loop-holds Inv-loop μ-loop
-loop-holds c = (omega arith, refl, omega arith, records-none (c .before .before .args .table .now) _ _)
+loop-holds c = search (needs, records-none)
 
 put-record-requires : tie.Need-put-record-requires Inv-loop μ-loop
 put-record-requires c κs = search needs
@@ -29,15 +30,16 @@ loop-less : tie.Need-loop-less Inv-loop μ-loop
 loop-less c = search needs
 
 loop-again : tie.Need-loop-again Inv-loop μ-loop
-loop-again c = (omega arith, c .before .before .put-record .kept .0 ∙ c .before .before .before .before .before .loop .inv .1, omega arith, records-more (c .before .before .before .before .before .before .before .before .args .table .now) _ _ _ (c .before .before .before .before .before .loop .k) _ _ _ (c .before .before .before .before .before .loop .inv .3) (c .before .before .put-record .ensures .0))
+loop-again c = search (needs, records-more)
 
 same-length : tie.Need-same-length Inv-loop μ-loop
-same-length c = c .before .loop .inv .1
+same-length c = search needs
 
 returns : tie.Need-returns Inv-loop μ-loop
 returns c =
-    let e : c .before .loop .k ≡ length (c .before .before .before .before .args .table .now) / 4 = omega arith in
-    (records-all (c .before .before .before .before .args .table .now) _ _ _ _ _ _ e (c .before .loop .inv .3), omega arith)
+    let start : tie.Start Inv-loop μ-loop = search in
+    let e : c .before .loop .k ≡ length (start .args .table .now) / 4 = omega arith in
+    search (needs, records-all)
 
 pub put-records-spec : {M : Type 1} → statement M
 put-records-spec =

@@ -13,7 +13,11 @@ enum-known-answer : tie.Need-enum-known-answer
 enum-known-answer c = search needs
 
 print-listing-requires : tie.Need-print-listing-requires
-print-listing-requires c κs = listed-printable _ _ _ _ _ _ _ _ (c .before .before .before .before .before .before .before .before .before .before .before .list .ensures .0) _ (c .before .before .before .answer .given .1) (omega (arith, c .before .before .before .before .before .before .before .before .before .before .before .list .kept .1 .1 .0)) (omega (arith, c .before .before .before .before .before .before .before .before .before .before .before .list .kept .1 .1 .1 .0))
+print-listing-requires c κs =
+    let answer : tie.After-answer = search in
+    let list : tie.After-list = search in
+    listed-printable _ _ _ _ _ _ _ _ (list .list .ensures .0) _ (answer .answer .given .1) (omega (arith, list .list .kept .1 .1 .0))
+    (omega (arith, list .list .kept .1 .1 .1 .0))
 
 enum-known-answer-2 : tie.Need-enum-known-answer-2
 enum-known-answer-2 c = search needs

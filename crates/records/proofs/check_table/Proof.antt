@@ -13,22 +13,50 @@ is-bad-length-requires : tie.Need-is-bad-length-requires
 is-bad-length-requires c κs = search needs
 
 returns : tie.Need-returns
-returns c = found-length _ _ (c .before .is-bad-length .result) (c .before .is-bad-length .ensures) _ (c .if1 .taken)
+returns c = search (needs, found-length)
 
 good-records-requires : tie.Need-good-records-requires
 good-records-requires c κs = search needs
 
 returns-2 : tie.Need-returns-2
-returns-2 c = found-record _ _ (c .before .before .before .is-bad-length .result) (c .before .before .before .is-bad-length .ensures) (c .before .before .if1 .left) _ (sym (c .before .good-records .ensures) ∙ not-true _ (c .if2 .taken))
+returns-2 c =
+    found-record _ _ (c .before .before .before .is-bad-length .result) (c .before .before .before .is-bad-length .ensures)
+    (c .before .before .if1 .left) _ (sym (c .before .good-records .ensures) ∙ not-true _ (c .if2 .taken))
 
 is-one-term-requires : tie.Need-is-one-term-requires
-is-one-term-requires c κs = (record { allowed = c .before .before .before .before .before .args .variables; good = sym (c .before .good-records .ensures) ∙ not-false _ (c .if2 .left) }, omega (arith, found-most (c .before .before .before .before .before .args .most) (c .before .before .before .before .before .args .s .now) (c .before .before .before .is-bad-length .result) (c .before .before .before .is-bad-length .ensures) (c .before .before .if1 .left)))
+is-one-term-requires c κs =
+    let else1 : tie.Else1 = search in
+    let is-bad-length : tie.After-is-bad-length = search in
+    let start : tie.Start = search in (
+      record { allowed = start .args .variables; good = sym (c .before .good-records .ensures) ∙ not-false _ (c .if2 .left) },
+      omega (
+        arith,
+        found-most (start .args .most) (start .args .s .now) (is-bad-length .is-bad-length .result)
+            (is-bad-length .is-bad-length .ensures) (else1 .if1 .left),
+      ),
+    )
 
 returns-3 : tie.Need-returns-3
-returns-3 c = found-term _ _ (c .before .before .before .before .before .is-bad-length .result) (c .before .before .before .before .before .is-bad-length .ensures) (c .before .before .before .before .if1 .left) _ (sym (c .before .before .before .good-records .ensures) ∙ not-false _ (c .before .before .if2 .left)) (says (OneTerm (c .before .before .before .before .before .before .before .args .s .now)) _ _ (c .before .is-one-term .ensures) (c .if3 .taken))
+returns-3 c =
+    let else2 : tie.Else2 = search in
+    let good-records : tie.After-good-records = search in
+    let else1 : tie.Else1 = search in
+    let is-bad-length : tie.After-is-bad-length = search in
+    let start : tie.Start = search in
+    found-term _ _ (is-bad-length .is-bad-length .result) (is-bad-length .is-bad-length .ensures) (else1 .if1 .left) _
+    (sym (good-records .good-records .ensures) ∙ not-false _ (else2 .if2 .left))
+    (says (OneTerm (start .args .s .now)) _ _ (c .before .is-one-term .ensures) (c .if3 .taken))
 
 returns-4 : tie.Need-returns-4
-returns-4 c = found-none _ _ (c .before .before .before .before .before .is-bad-length .result) (c .before .before .before .before .before .is-bad-length .ensures) (c .before .before .before .before .if1 .left) _ (sym (c .before .before .before .good-records .ensures) ∙ not-false _ (c .before .before .if2 .left)) (says (OneTerm (c .before .before .before .before .before .before .before .args .s .now)) _ _ (c .before .is-one-term .ensures) (c .if3 .left))
+returns-4 c =
+    let else2 : tie.Else2 = search in
+    let good-records : tie.After-good-records = search in
+    let else1 : tie.Else1 = search in
+    let is-bad-length : tie.After-is-bad-length = search in
+    let start : tie.Start = search in
+    found-none _ _ (is-bad-length .is-bad-length .result) (is-bad-length .is-bad-length .ensures) (else1 .if1 .left) _
+    (sym (good-records .good-records .ensures) ∙ not-false _ (else2 .if2 .left))
+    (says (OneTerm (start .args .s .now)) _ _ (c .before .is-one-term .ensures) (c .if3 .left))
 
 pub check-table-spec : {M : Type 1} → statement M
 check-table-spec =

@@ -26,19 +26,29 @@ enum-told-5 : tie.Need-enum-told-5
 enum-told-5 c = search needs
 
 returns : tie.Need-returns
-returns c = value-right _ (c .before .before .check-normal .result) (c .before .before .check-normal .ensures) (ap recipeRefusal (c .enum-told .given .1))
+returns c =
+    value-right _ (c .before .before .check-normal .result) (c .before .before .check-normal .ensures)
+    (ap recipeRefusal (c .enum-told .given .1))
 
 returns-2 : tie.Need-returns-2
-returns-2 c = value-refused _ (c .before .before .check-normal .result) _ (c .before .before .check-normal .ensures) (ap recipeRefusal (c .enum-told2 .given .1))
+returns-2 c =
+    value-refused _ (c .before .before .check-normal .result) _ (c .before .before .check-normal .ensures)
+    (ap recipeRefusal (c .enum-told2 .given .1))
 
 returns-3 : tie.Need-returns-3
-returns-3 c = value-refused _ (c .before .before .check-normal .result) _ (c .before .before .check-normal .ensures) (ap recipeRefusal (c .enum-told3 .given .1))
+returns-3 c =
+    value-refused _ (c .before .before .check-normal .result) _ (c .before .before .check-normal .ensures)
+    (ap recipeRefusal (c .enum-told3 .given .1))
 
 returns-4 : tie.Need-returns-4
-returns-4 c = value-refused _ (c .before .before .check-normal .result) _ (c .before .before .check-normal .ensures) (ap recipeRefusal (c .enum-told4 .given .1))
+returns-4 c =
+    value-refused _ (c .before .before .check-normal .result) _ (c .before .before .check-normal .ensures)
+    (ap recipeRefusal (c .enum-told4 .given .1))
 
 returns-5 : tie.Need-returns-5
-returns-5 c = value-refused _ (c .before .before .check-normal .result) _ (c .before .before .check-normal .ensures) (ap recipeRefusal (c .enum-told5 .given .1))
+returns-5 c =
+    value-refused _ (c .before .before .check-normal .result) _ (c .before .before .check-normal .ensures)
+    (ap recipeRefusal (c .enum-told5 .given .1))
 
 pub check-value-spec : {M : Type 1} → statement M
 check-value-spec =

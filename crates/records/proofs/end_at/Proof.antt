@@ -8,7 +8,7 @@ pass-part-requires : tie.Need-pass-part-requires
 pass-part-requires c κs = search needs
 
 returns : tie.Need-returns
-returns c = reached-ends _ _ _ _ (c .before .before .pre) (c .pass-part .ensures)
+returns c = search (needs, reached-ends)
 
 pub end-at-spec : {M : Type 1} → statement M
 end-at-spec = tie.close (tie.spec pass-part-requires returns)

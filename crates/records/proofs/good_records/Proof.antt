@@ -30,7 +30,11 @@ is-allowed-requires : tie.Need-is-allowed-requires Inv-loop μ-loop
 is-allowed-requires c κs = search needs
 
 returns-2 : tie.Need-returns-2 Inv-loop μ-loop
-returns-2 c = good-first (c .before .before .before .before .before .before .args .variables) (c .before .before .before .before .before .before .args .s .now) (c .before .before .before .before .loop .at) _ (omega arith) (sym (not-true _ (c .if2 .taken)) ∙ c .before .is-allowed .ensures) ∙ sym (c .before .before .before .before .loop .inv .1)
+returns-2 c =
+    let at-loop : tie.At-loop Inv-loop μ-loop = search in
+    let start : tie.Start Inv-loop μ-loop = search in
+    good-first (start .args .variables) (start .args .s .now) (at-loop .loop .at) _ (omega arith)
+    (sym (not-true _ (c .if2 .taken)) ∙ c .before .is-allowed .ensures) ∙ sym (at-loop .loop .inv .1)
 
 add-at : tie.Need-add-at Inv-loop μ-loop
 add-at c = search needs
@@ -39,7 +43,13 @@ loop-less : tie.Need-loop-less Inv-loop μ-loop
 loop-less c = search needs
 
 loop-again : tie.Need-loop-again Inv-loop μ-loop
-loop-again c = (omega arith, c .before .before .before .before .loop .inv .1 ∙ sym (good-first (c .before .before .before .before .before .before .args .variables) (c .before .before .before .before .before .before .args .s .now) (c .before .before .before .before .loop .at) _ (omega arith) (sym (not-false _ (c .if2 .left)) ∙ c .before .is-allowed .ensures)))
+loop-again c =
+    let at-loop : tie.At-loop Inv-loop μ-loop = search in
+    let start : tie.Start Inv-loop μ-loop = search in (
+      omega arith,
+      at-loop .loop .inv .1 ∙ sym (good-first (start .args .variables) (start .args .s .now) (at-loop .loop .at) _ (omega arith)
+          (sym (not-false _ (c .if2 .left)) ∙ c .before .is-allowed .ensures)),
+    )
 
 returns-3 : tie.Need-returns-3 Inv-loop μ-loop
 returns-3 c = good-end _ _ _ (c .loop-test .left) ∙ sym (c .before .loop .inv .1)

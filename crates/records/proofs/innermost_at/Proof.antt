@@ -1,6 +1,6 @@
 -- `records::innermost_at` meets its contract. By the record's kind and number. Assumes nothing.
-use mathlib.Core.Path.{sym, ap, ap₂}
-use mathlib.Core.Bool.{Bool, _&&_}
+use mathlib.Core.Path.{sym, ap₂}
+use mathlib.Core.Bool.{_&&_}
 use Prim.Native.Nat.{ℕ}
 use lib.Dec.{eqb}
 use borrow.Author.Tests.{ne-eqb}
@@ -19,7 +19,7 @@ returns : tie.Need-returns
 returns c = ap₂ (λ (k n : ℕ). eqb k 2 && eqb n 0) (sym (c .before .if1 .taken)) (c .number-at .ensures .0)
 
 returns-2 : tie.Need-returns-2
-returns-2 c = ap (λ (b : Bool). b && eqb (numberAt (c .before .before .before .before .args .s .now) (c .before .before .before .before .args .at)) 0) (sym (ne-eqb _ 2 (c .if1 .left)))
+returns-2 c = search (needs, eqb, numberAt, ne-eqb)
 
 pub innermost-at-spec : {M : Type 1} → statement M
 innermost-at-spec = tie.close (tie.spec shared-slice-read-if1 number-at-requires returns returns-2)

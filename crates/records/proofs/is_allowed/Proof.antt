@@ -1,7 +1,5 @@
 -- `records::is_allowed` meets its contract. By the second byte, then by the kind that the first byte is. Assumes nothing.
 use Rattle.records.proofs.Record.{second-not-zero, known-of, unknown-of, kind-unknown, kind-known}
-use mathlib.Core.Path.{subst, sym}
-use Prim.Native.Nat.{ℕ, _≤_}
 use lib.ListN.{getD}
 use borrow.Author.Needs.{needs}
 use Rattle.records.proofs.is_allowed.Statement.{statement}
@@ -14,7 +12,7 @@ shared-slice-read-if1 : tie.Need-shared-slice-read-if1
 shared-slice-read-if1 c = search needs
 
 returns : tie.Need-returns
-returns c = second-not-zero (c .before .before .before .args .variables) (c .before .before .before .args .s .now) (c .before .before .before .args .at) (c .if1 .taken)
+returns c = search (needs, second-not-zero)
 
 number-at-requires : tie.Need-number-at-requires
 number-at-requires c κs = search needs
@@ -32,14 +30,22 @@ enum-told : tie.Need-enum-told
 enum-told c = search needs
 
 returns-2 : tie.Need-returns-2
-returns-2 c = kind-unknown (c .before .before .before .before .before .before .before .before .args .variables) (c .before .before .before .before .before .before .before .before .args .s .now) (c .before .before .before .before .before .before .before .before .args .at) (c .before .before .before .before .before .if1 .left) (unknown-of _ _ (c .before .before .from-byte .ensures) (c .enum-told .given .1))
+returns-2 c = search (needs, kind-unknown, unknown-of)
 
 allows-requires : tie.Need-allows-requires
-allows-requires c κs = let k = known-of (getD (c .before .before .before .before .before .before .before .before .before .args .s .now) (c .before .before .before .before .before .before .before .before .before .args .at) 0) _ _ (c .before .before .before .from-byte .ensures) (c .before .read .given .1) in subst (λ (i : ℕ). i ≤ 4) (sym (k .1)) (k .0)
+allows-requires c κs =
+    let from-byte : tie.After-from-byte = search in
+    let start : tie.Start = search in
+    let k = known-of (getD (start .args .s .now) (start .args .at) 0) _ _ (from-byte .from-byte .ensures) (c .before .read .given .1) in
+    search needs
 
 returns-3 : tie.Need-returns-3
-returns-3 c = let k = known-of (getD (c .before .before .before .before .before .before .before .before .before .before .args .s .now) (c .before .before .before .before .before .before .before .before .before .before .args .at) 0) _ _ (c .before .before .before .before .from-byte .ensures) (c .before .before .read .given .1) in
-    kind-known (c .before .before .before .before .before .before .before .before .before .before .args .variables) (c .before .before .before .before .before .before .before .before .before .before .args .s .now) (c .before .before .before .before .before .before .before .before .before .before .args .at) _ _ _ (c .before .before .before .before .before .before .before .if1 .left) (k .1) (c .before .before .before .before .before .before .number-at .ensures .0) (c .allows .ensures)
+returns-3 c =
+    let read : tie.After-read = search in
+    let from-byte : tie.After-from-byte = search in
+    let start : tie.Start = search in
+    let k = known-of (getD (start .args .s .now) (start .args .at) 0) _ _ (from-byte .from-byte .ensures) (read .read .given .1) in
+    search (needs, kind-known)
 
 pub is-allowed-spec : {M : Type 1} → statement M
 is-allowed-spec =

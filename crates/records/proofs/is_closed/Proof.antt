@@ -8,7 +8,7 @@ use Rattle.records.proofs.is_closed.Statement.{statement}
 use Rattle.records.proofs.is_closed.Tie as tie
 
 ask-at-requires : tie.Need-ask-at-requires
-ask-at-requires c κs = (tree-whole _ (c .before .pre .0), omega arith)
+ask-at-requires c κs = (search (needs, tree-whole), omega arith)
 
 enum-told : tie.Need-enum-told
 enum-told c = search needs
@@ -17,10 +17,13 @@ enum-told-2 : tie.Need-enum-told-2
 enum-told-2 c = search needs
 
 returns : tie.Need-returns
-returns c = walked-table _ (Closed (c .before .before .before .before .args .depth)) _ _ (c .enum-told .given .1) (c .before .before .ask-at .ensures)
+returns c =
+    let ask-at : tie.After-ask-at = search in
+    let start : tie.Start = search in
+    walked-table _ (Closed (start .args .depth)) _ _ (c .enum-told .given .1) (ask-at .ask-at .ensures)
 
 returns-2 : tie.Need-returns-2
-returns-2 c = walked-table-no _ (Closed (c .before .before .before .before .args .depth)) _ (c .enum-told2 .given .1) (c .before .before .ask-at .ensures)
+returns-2 c = search (needs, walked-table-no)
 
 pub is-closed-spec : {M : Type 1} → statement M
 is-closed-spec = tie.close (tie.spec ask-at-requires enum-told enum-told-2 returns returns-2)

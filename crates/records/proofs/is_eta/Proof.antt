@@ -8,7 +8,14 @@ use Rattle.records.proofs.is_eta.Statement.{statement}
 use Rattle.records.proofs.is_eta.Tie as tie
 
 is-eta-at-requires : tie.Need-is-eta-at-requires
-is-eta-at-requires c κs = record { whole = tree-whole _ (c .before .pre .0); more = omega (arith, c .before .pre .0 .least); within = omega arith; table = omega arith }
+is-eta-at-requires c κs =
+    record {
+      whole = tree-whole _ (c .before .pre .0);
+      more = omega (arith, c .before .pre .0 .least);
+      within = omega arith;
+      table = omega
+          arith;
+    }
 
 returns : tie.Need-returns
 returns c = λ t e. c .is-eta-at .ensures t (at-start _ t e) (omega (arith, ap length e, encode-length t))

@@ -1,6 +1,7 @@
--- `records::is_eta_at` meets its contract. By the first record, then by the last, then by what the walk over the head says. Assumes nothing.
-use mathlib.Core.Path.{sym, _∙_}
+-- `records::is_eta_at` meets its contract. By the first record, then by the last, then by what the walk over the head says. Assumes
+-- nothing.
 use native.Mathlib.Omega.{arith}
+use mathlib.Core.Path.{sym, _∙_}
 use borrow.Author.Tests.{not-true, not-false}
 use Rattle.records.proofs.Parts.{whole-head}
 use Rattle.records.proofs.Tests.{eta-no-application, eta-other-last, eta-used, eta-ends}
@@ -27,7 +28,7 @@ add-ask-at : tie.Need-add-ask-at
 add-ask-at c = search needs
 
 ask-at-requires : tie.Need-ask-at-requires
-ask-at-requires c κs = (whole-head _ _ (c .before .before .before .before .before .before .pre .whole) (c .before .before .if1 .left), omega (arith, c .before .before .before .before .before .before .pre .table))
+ask-at-requires c κs = (search (needs, whole-head), omega arith)
 
 enum-known-head : tie.Need-enum-known-head
 enum-known-head c = search needs
@@ -36,10 +37,16 @@ enum-told : tie.Need-enum-told
 enum-told c = search needs
 
 returns-3 : tie.Need-returns-3
-returns-3 c = eta-ends _ _ _ (c .before .before .before .before .before .before .if1 .left) _ (c .before .before .before .ask-at .ensures) _ (sym (c .before .before .before .before .before .innermost-at .ensures) ∙ not-false _ (c .before .before .before .before .if2 .left)) (c .before .head .given .1)
+returns-3 c =
+    let ask-at : tie.After-ask-at = search in
+    let else2 : tie.Else2 = search in
+    let innermost-at : tie.After-innermost-at = search in
+    let else1 : tie.Else1 = search in
+    eta-ends _ _ _ (else1 .if1 .left) _ (ask-at .ask-at .ensures) _
+    (sym (innermost-at .innermost-at .ensures) ∙ not-false _ (else2 .if2 .left)) (c .before .head .given .1)
 
 returns-4 : tie.Need-returns-4
-returns-4 c = eta-used _ _ _ (c .before .before .before .before .before .if1 .left) _ (c .before .before .ask-at .ensures) (c .enum-told .given .1)
+returns-4 c = search (needs, eta-used)
 
 pub is-eta-at-spec : {M : Type 1} → statement M
 is-eta-at-spec =

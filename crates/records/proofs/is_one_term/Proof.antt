@@ -16,16 +16,16 @@ enum-told : tie.Need-enum-told
 enum-told c = search needs
 
 returns : tie.Need-returns
-returns c = none-found _ _ (c .before .before .part-end .ensures) (c .enum-told .given .1)
+returns c = search (needs, none-found)
 
 returns-2 : tie.Need-returns-2
-returns-2 c = more-behind _ _ _ (c .before .before .before .before .part-end .ensures) (c .before .before .end .given .1) (c .if1 .taken)
+returns-2 c = search (needs, more-behind)
 
 is-closed-requires : tie.Need-is-closed-requires
-is-closed-requires c κs = (tree-found _ _ _ (c .before .before .before .before .before .before .pre .0) (c .before .before .before .before .part-end .ensures) (c .before .before .end .given .1) (c .if1 .left), omega arith)
+is-closed-requires c κs = (search (needs, tree-found), omega arith)
 
 returns-3 : tie.Need-returns-3
-returns-3 c = one-term _ (c .is-closed .result) (tree-found _ _ _ (c .before .before .before .before .before .before .before .pre .0) (c .before .before .before .before .before .part-end .ensures) (c .before .before .before .end .given .1) (c .before .if1 .left)) (c .is-closed .ensures)
+returns-3 c = search (needs, one-term, tree-found)
 
 pub is-one-term-spec : {M : Type 1} → statement M
 is-one-term-spec =

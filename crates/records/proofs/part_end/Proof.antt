@@ -8,10 +8,10 @@ pass-part-requires : tie.Need-pass-part-requires
 pass-part-requires c κs = search needs
 
 returns : tie.Need-returns
-returns c = ended-at _ _ _ (c .if1 .taken) (c .before .before .pass-part .ensures)
+returns c = search (needs, ended-at)
 
 returns-2 : tie.Need-returns-2
-returns-2 c = ended-nowhere _ _ _ (c .if1 .left) (c .before .before .pass-part .ensures)
+returns-2 c = search (needs, ended-nowhere)
 
 pub part-end-spec : {M : Type 1} → statement M
 part-end-spec = tie.close (tie.spec pass-part-requires returns returns-2)

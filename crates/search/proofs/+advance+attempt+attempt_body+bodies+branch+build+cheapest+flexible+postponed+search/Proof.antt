@@ -6,57 +6,66 @@ use mathlib.Core.Path.{refl, _∙_}
 use native.Mathlib.Omega.{arith}
 use lib.ListN.{length-set}
 use Rattle.agenda.specs.Moves.{progress}
-use Rattle.search.proofs.Taken.{stepped-failed, stepped-left, stepped-assign, branched-failed, branched-next, decided-failed, decided-next, decided-open, planned-failed, planned-next, planned-bodies}
-use Rattle.search.proofs.Searching.{begins-move, searched-move, searched-failed, finds, searched-found, begins-open, searched-open, Going, going-start, begins-going, going-next, going-end, going-stop, searched-last, searched-stop, choosing-next, searched-both, begins-forwarded, searched-forwarded, begins-kept, matches-kept, counted-kept, builds-kept, planned-begins, planned-searched}
+use Rattle.search.proofs.Taken.{stepped-failed, stepped-left, stepped-assign, branched-failed, branched-next, decided-failed}
+use Rattle.search.proofs.Taken.{decided-next, decided-open, planned-failed, planned-next, planned-bodies}
+use Rattle.search.proofs.Searching.{begins-move, searched-move, searched-failed, finds, searched-found, begins-open, searched-open}
+use Rattle.search.proofs.Searching.{Going, going-start, begins-going, going-next, going-end, going-stop, searched-last}
+use Rattle.search.proofs.Searching.{searched-stop, choosing-next, searched-both, begins-forwarded, searched-forwarded, begins-kept}
+use Rattle.search.proofs.Searching.{matches-kept, counted-kept, builds-kept, planned-begins, planned-searched}
 use borrow.Author.Needs.{needs}
 use Prim.Native.Nat.{ℕ, _<_}
-use borrow.Fn.Kinds.{In}
+use borrow.Fn.Kinds.{In, Out}
 use borrow.Fn.PlainCycle.{Measures, is, falls, and}
 use Rattle.search.proofs.advance.Reads as advance
 use Rattle.search.proofs.advance.Kinds as advance-kinds
-use Rattle.search.proofs.+advance+attempt+attempt_body+bodies+branch+build+cheapest+flexible+postponed+search.Lts-advance as advance-lts
+use Rattle.search.proofs.+advance+attempt+attempt_body+bodies+branch+build+cheapest+flexible+postponed+search.Lts-advance
+    as advance-lts
 use Rattle.search.proofs.attempt.Reads as attempt
 use Rattle.search.proofs.attempt.Kinds as attempt-kinds
-use Rattle.search.proofs.+advance+attempt+attempt_body+bodies+branch+build+cheapest+flexible+postponed+search.Lts-attempt as attempt-lts
+use Rattle.search.proofs.+advance+attempt+attempt_body+bodies+branch+build+cheapest+flexible+postponed+search.Lts-attempt
+    as attempt-lts
 use Rattle.search.proofs.attempt_body.Reads as attempt-body
 use Rattle.search.proofs.attempt_body.Kinds as attempt-body-kinds
-use Rattle.search.proofs.+advance+attempt+attempt_body+bodies+branch+build+cheapest+flexible+postponed+search.Lts-attempt_body as attempt-body-lts
+use Rattle.search.proofs.+advance+attempt+attempt_body+bodies+branch+build+cheapest+flexible+postponed+search.Lts-attempt_body
+    as attempt-body-lts
 use Rattle.search.proofs.bodies.Reads as bodies
 use Rattle.search.proofs.bodies.Kinds as bodies-kinds
-use Rattle.search.proofs.+advance+attempt+attempt_body+bodies+branch+build+cheapest+flexible+postponed+search.Lts-bodies as bodies-lts
+use Rattle.search.proofs.+advance+attempt+attempt_body+bodies+branch+build+cheapest+flexible+postponed+search.Lts-bodies
+    as bodies-lts
 use Rattle.search.proofs.branch.Reads as branch
 use Rattle.search.proofs.branch.Kinds as branch-kinds
-use Rattle.search.proofs.+advance+attempt+attempt_body+bodies+branch+build+cheapest+flexible+postponed+search.Lts-branch as branch-lts
+use Rattle.search.proofs.+advance+attempt+attempt_body+bodies+branch+build+cheapest+flexible+postponed+search.Lts-branch
+    as branch-lts
 use Rattle.search.proofs.build.Reads as build
 use Rattle.search.proofs.build.Kinds as build-kinds
 use Rattle.search.proofs.+advance+attempt+attempt_body+bodies+branch+build+cheapest+flexible+postponed+search.Lts-build as build-lts
 use Rattle.search.proofs.cheapest.Reads as cheapest
 use Rattle.search.proofs.cheapest.Kinds as cheapest-kinds
-use Rattle.search.proofs.+advance+attempt+attempt_body+bodies+branch+build+cheapest+flexible+postponed+search.Lts-cheapest as cheapest-lts
+use Rattle.search.proofs.+advance+attempt+attempt_body+bodies+branch+build+cheapest+flexible+postponed+search.Lts-cheapest
+    as cheapest-lts
 use Rattle.search.proofs.flexible.Reads as flexible
 use Rattle.search.proofs.flexible.Kinds as flexible-kinds
-use Rattle.search.proofs.+advance+attempt+attempt_body+bodies+branch+build+cheapest+flexible+postponed+search.Lts-flexible as flexible-lts
+use Rattle.search.proofs.+advance+attempt+attempt_body+bodies+branch+build+cheapest+flexible+postponed+search.Lts-flexible
+    as flexible-lts
 use Rattle.search.proofs.postponed.Reads as postponed
 use Rattle.search.proofs.postponed.Kinds as postponed-kinds
-use Rattle.search.proofs.+advance+attempt+attempt_body+bodies+branch+build+cheapest+flexible+postponed+search.Lts-postponed as postponed-lts
+use Rattle.search.proofs.+advance+attempt+attempt_body+bodies+branch+build+cheapest+flexible+postponed+search.Lts-postponed
+    as postponed-lts
 use Rattle.search.proofs.search.Reads as search′
 use Rattle.search.proofs.search.Kinds as search-kinds
-use Rattle.search.proofs.+advance+attempt+attempt_body+bodies+branch+build+cheapest+flexible+postponed+search.Lts-search as search-lts
-use Rattle.agenda.proofs.alternatives.way.Reads as way-reads
-use Rattle.agenda.proofs.alternatives.ways.Reads as ways-reads
-use Rattle.agenda.proofs.builds.body.Reads as body-reads
-use Rattle.agenda.proofs.builds.plan.Reads as plan-reads
-use Rattle.agenda.proofs.ground.decide.Reads as decide-reads
-use Rattle.agenda.proofs.order.bring_forward.Reads as bring-forward-reads
-use Rattle.agenda.proofs.repeated.force.Reads as force-reads
-use Rattle.agenda.proofs.steps.step.Reads as step-reads
+use Rattle.search.proofs.+advance+attempt+attempt_body+bodies+branch+build+cheapest+flexible+postponed+search.Lts-search
+    as search-lts
+use Rattle.alternatives.proofs.way.Reads as way-reads
+use Rattle.alternatives.proofs.ways.Reads as ways-reads
+use Rattle.builds.proofs.body.Reads as body-reads
+use Rattle.builds.proofs.plan.Reads as plan-reads
+use Rattle.builds.proofs.ground.decide.Reads as decide-reads
+use Rattle.ordering.proofs.order.bring_forward.Reads as bring-forward-reads
+use Rattle.ordering.proofs.repeated.force.Reads as force-reads
+use Rattle.steps.proofs.step.Reads as step-reads
 use Rattle.listing.proofs.found.Reads as found-reads
-use Rattle.search.proofs.+advance+attempt+attempt_body+bodies+branch+build+cheapest+flexible+postponed+search.{
-  statement,
-}
-use Rattle.search.proofs.+advance+attempt+attempt_body+bodies+branch+build+cheapest+flexible+postponed+search.Tie.{
-  close,
-}
+use Rattle.search.proofs.+advance+attempt+attempt_body+bodies+branch+build+cheapest+flexible+postponed+search.{statement}
+use Rattle.search.proofs.+advance+attempt+attempt_body+bodies+branch+build+cheapest+flexible+postponed+search.Tie.{close}
 
 abbrev μ-advance : Measures 4 advance-kinds.ps ℕ
 μ-advance κs a = 1000 * progress (a .1 .1 .0) + 899
@@ -157,559 +166,315 @@ search-at t = and 4 search-kinds.ps (is 4 search-kinds.ps μ-search t) search′
 abbrev search-below : ℕ → In 4 search-kinds.ps
 search-below t = and 4 search-kinds.ps (falls 4 search-kinds.ps _<_ μ-search t) search′.Pre
 
-advance-step-requires : (t : ℕ) → advance-lts.Need-step-requires (
+-- `advance-in t X`: the place or the need X of `advance`, whose calls within the cycle have a measure below t.
+abbrev advance-in : ℕ → (advance-lts.Claims → In 4 advance-kinds.ps → Out 4 advance-kinds.ps advance-kinds.r → Type 0) → Type 0
+advance-in t X = X (
   step-reads.Asked,
   step-reads.Learnt,
   search-below t,
   search′.Post,
 ) (advance-at t) advance.Post
-advance-step-requires t c κs = (c .before .before .before .before .before .pre .1 .0 .ready, c .before .before .before .before .before .pre .1 .1)
 
-advance-enum-told : (t : ℕ) → advance-lts.Need-enum-told (
-  step-reads.Asked,
-  step-reads.Learnt,
-  search-below t,
-  search′.Post,
-) (advance-at t) advance.Post
+advance-step-requires : (t : ℕ) → advance-in t advance-lts.Need-step-requires
+advance-step-requires t c κs = search needs
+
+advance-enum-told : (t : ℕ) → advance-in t advance-lts.Need-enum-told
 advance-enum-told t c = search needs
 
-advance-same-length : (t : ℕ) → advance-lts.Need-same-length (
-  step-reads.Asked,
-  step-reads.Learnt,
-  search-below t,
-  search′.Post,
-) (advance-at t) advance.Post
+advance-same-length : (t : ℕ) → advance-in t advance-lts.Need-same-length
 advance-same-length t c = search needs
 
-advance-returns : (t : ℕ) → advance-lts.Need-returns (
-  step-reads.Asked,
-  step-reads.Learnt,
-  search-below t,
-  search′.Post,
-) (advance-at t) advance.Post
-advance-returns t c = searched-failed _ _ _ _ _ _ _ _ _ _ _ (stepped-failed _ _ _ _ _ _ (c .before .before .before .before .step .ensures) (c .enum-told .given .1)) (c .before .before .before .before .before .before .before .before .before .before .pre .1 .0)
+advance-returns : (t : ℕ) → advance-in t advance-lts.Need-returns
+advance-returns t c = search (needs, searched-failed, stepped-failed)
 
-advance-enum-known-taken : (t : ℕ) → advance-lts.Need-enum-known-taken (
-  step-reads.Asked,
-  step-reads.Learnt,
-  search-below t,
-  search′.Post,
-) (advance-at t) advance.Post
+advance-enum-known-taken : (t : ℕ) → advance-in t advance-lts.Need-enum-known-taken
 advance-enum-known-taken t c = search needs
 
-advance-search-requires : (t : ℕ) → advance-lts.Need-search-requires (
-  step-reads.Asked,
-  step-reads.Learnt,
-  search-below t,
-  search′.Post,
-) (advance-at t) advance.Post
-advance-search-requires t c κs = let m = stepped-left _ _ _ _ _ _ (c .before .before .before .before .before .before .before .before .step .ensures) _ (c .before .before .before .before .taken .given .1) in (omega (arith, m .falls), begins-move _ _ _ _ _ _ _ _ _ _ _ _ _ m (c .before .before .before .before .before .before .before .before .before .before .before .before .before .before .pre .1 .0))
+advance-search-requires : (t : ℕ) → advance-in t advance-lts.Need-search-requires
+advance-search-requires t c κs =
+    let taken : advance-in t advance-lts.After-taken = search in
+    let step : advance-in t advance-lts.After-step = search in
+    let m = stepped-left _ _ _ _ _ _ (step .step .ensures) _ (taken .taken .given .1) in
+    search (needs, begins-move)
 
-advance-same-length-2 : (t : ℕ) → advance-lts.Need-same-length-2 (
-  step-reads.Asked,
-  step-reads.Learnt,
-  search-below t,
-  search′.Post,
-) (advance-at t) advance.Post
+advance-same-length-2 : (t : ℕ) → advance-in t advance-lts.Need-same-length-2
 advance-same-length-2 t c = search needs
 
-advance-same-length-3 : (t : ℕ) → advance-lts.Need-same-length-3 (
-  step-reads.Asked,
-  step-reads.Learnt,
-  search-below t,
-  search′.Post,
-) (advance-at t) advance.Post
+advance-same-length-3 : (t : ℕ) → advance-in t advance-lts.Need-same-length-3
 advance-same-length-3 t c = search needs
 
-advance-same-length-4 : (t : ℕ) → advance-lts.Need-same-length-4 (
-  step-reads.Asked,
-  step-reads.Learnt,
-  search-below t,
-  search′.Post,
-) (advance-at t) advance.Post
+advance-same-length-4 : (t : ℕ) → advance-in t advance-lts.Need-same-length-4
 advance-same-length-4 t c = search needs
 
-advance-returns-2 : (t : ℕ) → advance-lts.Need-returns-2 (
-  step-reads.Asked,
-  step-reads.Learnt,
-  search-below t,
-  search′.Post,
-) (advance-at t) advance.Post
-advance-returns-2 t c = let m = stepped-left _ _ _ _ _ _ (c .before .before .before .before .before .before .before .before .before .before .before .before .before .before .before .step .ensures) _ (c .before .before .before .before .before .before .before .before .before .before .before .taken .given .1) in searched-move _ _ _ _ _ _ _ _ _ _ _ _ _ _ _ _ _ m (c .before .before .before .before .before .before .search .ensures)
+advance-returns-2 : (t : ℕ) → advance-in t advance-lts.Need-returns-2
+advance-returns-2 t c = search (needs, stepped-left, searched-move)
 
-advance-enum-known-taken-2 : (t : ℕ) → advance-lts.Need-enum-known-taken-2 (
-  step-reads.Asked,
-  step-reads.Learnt,
-  search-below t,
-  search′.Post,
-) (advance-at t) advance.Post
+advance-enum-known-taken-2 : (t : ℕ) → advance-in t advance-lts.Need-enum-known-taken-2
 advance-enum-known-taken-2 t c = search needs
 
-advance-mul-b : (t : ℕ) → advance-lts.Need-mul-b (
-  step-reads.Asked,
-  step-reads.Learnt,
-  search-below t,
-  search′.Post,
-) (advance-at t) advance.Post
-advance-mul-b t c = let m = stepped-assign _ _ _ _ _ _ (c .before .before .before .before .before .before .before .step .ensures) _ (c .before .before .before .taken2 .given .1) in search (needs, m .0)
+advance-mul-b : (t : ℕ) → advance-in t advance-lts.Need-mul-b
+advance-mul-b t c =
+    let taken2 : advance-in t advance-lts.After-taken2 = search in
+    let step : advance-in t advance-lts.After-step = search in
+    let m = stepped-assign _ _ _ _ _ _ (step .step .ensures) _ (taken2 .taken2 .given .1) in
+    search needs
 
-advance-array-set-from-b : (t : ℕ) → advance-lts.Need-array-set-from-b (
-  step-reads.Asked,
-  step-reads.Learnt,
-  search-below t,
-  search′.Post,
-) (advance-at t) advance.Post
-advance-array-set-from-b t c = let m = stepped-assign _ _ _ _ _ _ (c .before .before .before .before .before .before .before .step .ensures) _ (c .before .before .before .taken2 .given .1) in omega (arith, m .0)
+advance-array-set-from-b : (t : ℕ) → advance-in t advance-lts.Need-array-set-from-b
+advance-array-set-from-b t c =
+    let taken2 : advance-in t advance-lts.After-taken2 = search in
+    let step : advance-in t advance-lts.After-step = search in
+    let m = stepped-assign _ _ _ _ _ _ (step .step .ensures) _ (taken2 .taken2 .given .1) in
+    search needs
 
-advance-search-requires-2 : (t : ℕ) → advance-lts.Need-search-requires-2 (
-  step-reads.Asked,
-  step-reads.Learnt,
-  search-below t,
-  search′.Post,
-) (advance-at t) advance.Post
-advance-search-requires-2 t c κs = let m = stepped-assign _ _ _ _ _ _ (c .before .before .before .before .before .before .before .before .before .before .step .ensures) _ (c .before .before .before .before .before .before .taken2 .given .1) in (omega (arith, m .1 .falls), begins-move _ _ _ _ _ _ _ _ _ _ _ _ _ (m .1) (c .before .before .before .before .before .before .before .before .before .before .before .before .before .before .before .before .pre .1 .0))
+advance-search-requires-2 : (t : ℕ) → advance-in t advance-lts.Need-search-requires-2
+advance-search-requires-2 t c κs =
+    let taken2 : advance-in t advance-lts.After-taken2 = search in
+    let step : advance-in t advance-lts.After-step = search in
+    let m = stepped-assign _ _ _ _ _ _ (step .step .ensures) _ (taken2 .taken2 .given .1) in
+    search (needs, begins-move)
 
-advance-same-length-5 : (t : ℕ) → advance-lts.Need-same-length-5 (
-  step-reads.Asked,
-  step-reads.Learnt,
-  search-below t,
-  search′.Post,
-) (advance-at t) advance.Post
+advance-same-length-5 : (t : ℕ) → advance-in t advance-lts.Need-same-length-5
 advance-same-length-5 t c = search needs
 
-advance-same-length-6 : (t : ℕ) → advance-lts.Need-same-length-6 (
-  step-reads.Asked,
-  step-reads.Learnt,
-  search-below t,
-  search′.Post,
-) (advance-at t) advance.Post
+advance-same-length-6 : (t : ℕ) → advance-in t advance-lts.Need-same-length-6
 advance-same-length-6 t c = search needs
 
-advance-same-length-7 : (t : ℕ) → advance-lts.Need-same-length-7 (
-  step-reads.Asked,
-  step-reads.Learnt,
-  search-below t,
-  search′.Post,
-) (advance-at t) advance.Post
+advance-same-length-7 : (t : ℕ) → advance-in t advance-lts.Need-same-length-7
 advance-same-length-7 t c = search needs
 
-advance-returns-3 : (t : ℕ) → advance-lts.Need-returns-3 (
-  step-reads.Asked,
-  step-reads.Learnt,
-  search-below t,
-  search′.Post,
-) (advance-at t) advance.Post
-advance-returns-3 t c = let m = stepped-assign _ _ _ _ _ _ (c .before .before .before .before .before .before .before .before .before .before .before .before .before .before .before .before .before .step .ensures) _ (c .before .before .before .before .before .before .before .before .before .before .before .before .before .taken2 .given .1) in searched-move _ _ _ _ _ _ _ _ _ _ _ _ _ _ _ _ _ (m .1) (c .before .before .before .before .before .before .search2 .ensures)
+advance-returns-3 : (t : ℕ) → advance-in t advance-lts.Need-returns-3
+advance-returns-3 t c =
+    let taken2 : advance-in t advance-lts.After-taken2 = search in
+    let step : advance-in t advance-lts.After-step = search in
+    let m = stepped-assign _ _ _ _ _ _ (step .step .ensures) _ (taken2 .taken2 .given .1) in
+    search (needs, searched-move)
 
-attempt-way-requires : (t : ℕ) → attempt-lts.Need-way-requires (
+abbrev attempt-in : ℕ → (attempt-lts.Claims → In 4 attempt-kinds.ps → Out 4 attempt-kinds.ps attempt-kinds.r → Type 0) → Type 0
+attempt-in t X = X (
   way-reads.Asked,
   way-reads.Learnt,
   search-below t,
   search′.Post,
 ) (attempt-at t) attempt.Post
-attempt-way-requires t c κs = (c .before .before .before .before .before .pre .1 .1, c .before .before .before .before .before .pre .1 .2, c .before .before .before .before .before .pre .1 .3)
 
-attempt-enum-known-taken : (t : ℕ) → attempt-lts.Need-enum-known-taken (
-  way-reads.Asked,
-  way-reads.Learnt,
-  search-below t,
-  search′.Post,
-) (attempt-at t) attempt.Post
+attempt-way-requires : (t : ℕ) → attempt-in t attempt-lts.Need-way-requires
+attempt-way-requires t c κs = search needs
+
+attempt-enum-known-taken : (t : ℕ) → attempt-in t attempt-lts.Need-enum-known-taken
 attempt-enum-known-taken t c = search needs
 
-attempt-enum-told : (t : ℕ) → attempt-lts.Need-enum-told (
-  way-reads.Asked,
-  way-reads.Learnt,
-  search-below t,
-  search′.Post,
-) (attempt-at t) attempt.Post
+attempt-enum-told : (t : ℕ) → attempt-in t attempt-lts.Need-enum-told
 attempt-enum-told t c = search needs
 
-attempt-same-length : (t : ℕ) → attempt-lts.Need-same-length (
-  way-reads.Asked,
-  way-reads.Learnt,
-  search-below t,
-  search′.Post,
-) (attempt-at t) attempt.Post
+attempt-same-length : (t : ℕ) → attempt-in t attempt-lts.Need-same-length
 attempt-same-length t c = search needs
 
-attempt-returns : (t : ℕ) → attempt-lts.Need-returns (
-  way-reads.Asked,
-  way-reads.Learnt,
-  search-below t,
-  search′.Post,
-) (attempt-at t) attempt.Post
-attempt-returns t c = searched-failed _ _ _ _ _ _ _ _ _ _ _ (branched-failed _ _ _ _ _ _ _ (c .before .before .before .before .way .ensures) (c .enum-told .given .1)) (c .before .before .before .before .before .before .before .before .before .before .pre .1 .0)
+attempt-returns : (t : ℕ) → attempt-in t attempt-lts.Need-returns
+attempt-returns t c = search (needs, searched-failed, branched-failed)
 
-attempt-search-requires : (t : ℕ) → attempt-lts.Need-search-requires (
-  way-reads.Asked,
-  way-reads.Learnt,
-  search-below t,
-  search′.Post,
-) (attempt-at t) attempt.Post
-attempt-search-requires t c κs = let m = branched-next _ _ _ _ _ _ _ (c .before .before .before .before .before .before .before .before .way .ensures) _ (c .before .before .before .before .taken .given .1) in (omega (arith, m .falls), begins-move _ _ _ _ _ _ _ _ _ _ _ _ _ m (c .before .before .before .before .before .before .before .before .before .before .before .before .before .before .pre .1 .0))
+attempt-search-requires : (t : ℕ) → attempt-in t attempt-lts.Need-search-requires
+attempt-search-requires t c κs =
+    let taken : attempt-in t attempt-lts.After-taken = search in
+    let way : attempt-in t attempt-lts.After-way = search in
+    let m = branched-next _ _ _ _ _ _ _ (way .way .ensures) _ (taken .taken .given .1) in
+    search (needs, begins-move)
 
-attempt-same-length-2 : (t : ℕ) → attempt-lts.Need-same-length-2 (
-  way-reads.Asked,
-  way-reads.Learnt,
-  search-below t,
-  search′.Post,
-) (attempt-at t) attempt.Post
+attempt-same-length-2 : (t : ℕ) → attempt-in t attempt-lts.Need-same-length-2
 attempt-same-length-2 t c = search needs
 
-attempt-same-length-3 : (t : ℕ) → attempt-lts.Need-same-length-3 (
-  way-reads.Asked,
-  way-reads.Learnt,
-  search-below t,
-  search′.Post,
-) (attempt-at t) attempt.Post
+attempt-same-length-3 : (t : ℕ) → attempt-in t attempt-lts.Need-same-length-3
 attempt-same-length-3 t c = search needs
 
-attempt-same-length-4 : (t : ℕ) → attempt-lts.Need-same-length-4 (
-  way-reads.Asked,
-  way-reads.Learnt,
-  search-below t,
-  search′.Post,
-) (attempt-at t) attempt.Post
+attempt-same-length-4 : (t : ℕ) → attempt-in t attempt-lts.Need-same-length-4
 attempt-same-length-4 t c = search needs
 
-attempt-returns-2 : (t : ℕ) → attempt-lts.Need-returns-2 (
-  way-reads.Asked,
-  way-reads.Learnt,
-  search-below t,
-  search′.Post,
-) (attempt-at t) attempt.Post
-attempt-returns-2 t c = let m = branched-next _ _ _ _ _ _ _ (c .before .before .before .before .before .before .before .before .before .before .before .before .before .before .before .way .ensures) _ (c .before .before .before .before .before .before .before .before .before .before .before .taken .given .1) in searched-move _ _ _ _ _ _ _ _ _ _ _ _ _ _ _ _ _ m (c .before .before .before .before .before .before .search .ensures)
+attempt-returns-2 : (t : ℕ) → attempt-in t attempt-lts.Need-returns-2
+attempt-returns-2 t c = search (needs, branched-next, searched-move)
 
-attempt-body-body-requires : (t : ℕ) → attempt-body-lts.Need-body-requires (
+abbrev attempt-body-in :
+    ℕ →
+    (attempt-body-lts.Claims → In 4 attempt-body-kinds.ps → Out 4 attempt-body-kinds.ps attempt-body-kinds.r → Type 0) →
+    Type 0
+attempt-body-in t X = X (
   body-reads.Asked,
   body-reads.Learnt,
   search-below t,
   search′.Post,
 ) (attempt-body-at t) attempt-body.Post
-attempt-body-body-requires t c κs = (c .before .before .before .before .before .pre .1 .0 .ready, c .before .before .before .before .before .pre .1 .1)
 
-attempt-body-enum-known-taken : (t : ℕ) → attempt-body-lts.Need-enum-known-taken (
-  body-reads.Asked,
-  body-reads.Learnt,
-  search-below t,
-  search′.Post,
-) (attempt-body-at t) attempt-body.Post
+attempt-body-body-requires : (t : ℕ) → attempt-body-in t attempt-body-lts.Need-body-requires
+attempt-body-body-requires t c κs = search needs
+
+attempt-body-enum-known-taken : (t : ℕ) → attempt-body-in t attempt-body-lts.Need-enum-known-taken
 attempt-body-enum-known-taken t c = search needs
 
-attempt-body-enum-told : (t : ℕ) → attempt-body-lts.Need-enum-told (
-  body-reads.Asked,
-  body-reads.Learnt,
-  search-below t,
-  search′.Post,
-) (attempt-body-at t) attempt-body.Post
+attempt-body-enum-told : (t : ℕ) → attempt-body-in t attempt-body-lts.Need-enum-told
 attempt-body-enum-told t c = search needs
 
-attempt-body-same-length : (t : ℕ) → attempt-body-lts.Need-same-length (
-  body-reads.Asked,
-  body-reads.Learnt,
-  search-below t,
-  search′.Post,
-) (attempt-body-at t) attempt-body.Post
+attempt-body-same-length : (t : ℕ) → attempt-body-in t attempt-body-lts.Need-same-length
 attempt-body-same-length t c = search needs
 
-attempt-body-returns : (t : ℕ) → attempt-body-lts.Need-returns (
-  body-reads.Asked,
-  body-reads.Learnt,
-  search-below t,
-  search′.Post,
-) (attempt-body-at t) attempt-body.Post
-attempt-body-returns t c = searched-failed _ _ _ _ _ _ _ _ _ _ _ (branched-failed _ _ _ _ _ _ _ (c .before .before .before .before .body .ensures) (c .enum-told .given .1)) (c .before .before .before .before .before .before .before .before .before .before .pre .1 .0)
+attempt-body-returns : (t : ℕ) → attempt-body-in t attempt-body-lts.Need-returns
+attempt-body-returns t c = search (needs, searched-failed, branched-failed)
 
-attempt-body-search-requires : (t : ℕ) → attempt-body-lts.Need-search-requires (
-  body-reads.Asked,
-  body-reads.Learnt,
-  search-below t,
-  search′.Post,
-) (attempt-body-at t) attempt-body.Post
-attempt-body-search-requires t c κs = let m = branched-next _ _ _ _ _ _ _ (c .before .before .before .before .before .before .before .before .body .ensures) _ (c .before .before .before .before .taken .given .1) in (omega (arith, m .falls), begins-move _ _ _ _ _ _ _ _ _ _ _ _ _ m (c .before .before .before .before .before .before .before .before .before .before .before .before .before .before .pre .1 .0))
+attempt-body-search-requires : (t : ℕ) → attempt-body-in t attempt-body-lts.Need-search-requires
+attempt-body-search-requires t c κs =
+    let taken : attempt-body-in t attempt-body-lts.After-taken = search in
+    let body : attempt-body-in t attempt-body-lts.After-body = search in
+    let m = branched-next _ _ _ _ _ _ _ (body .body .ensures) _ (taken .taken .given .1) in
+    search (needs, begins-move)
 
-attempt-body-same-length-2 : (t : ℕ) → attempt-body-lts.Need-same-length-2 (
-  body-reads.Asked,
-  body-reads.Learnt,
-  search-below t,
-  search′.Post,
-) (attempt-body-at t) attempt-body.Post
+attempt-body-same-length-2 : (t : ℕ) → attempt-body-in t attempt-body-lts.Need-same-length-2
 attempt-body-same-length-2 t c = search needs
 
-attempt-body-same-length-3 : (t : ℕ) → attempt-body-lts.Need-same-length-3 (
-  body-reads.Asked,
-  body-reads.Learnt,
-  search-below t,
-  search′.Post,
-) (attempt-body-at t) attempt-body.Post
+attempt-body-same-length-3 : (t : ℕ) → attempt-body-in t attempt-body-lts.Need-same-length-3
 attempt-body-same-length-3 t c = search needs
 
-attempt-body-same-length-4 : (t : ℕ) → attempt-body-lts.Need-same-length-4 (
-  body-reads.Asked,
-  body-reads.Learnt,
-  search-below t,
-  search′.Post,
-) (attempt-body-at t) attempt-body.Post
+attempt-body-same-length-4 : (t : ℕ) → attempt-body-in t attempt-body-lts.Need-same-length-4
 attempt-body-same-length-4 t c = search needs
 
-attempt-body-returns-2 : (t : ℕ) → attempt-body-lts.Need-returns-2 (
-  body-reads.Asked,
-  body-reads.Learnt,
-  search-below t,
-  search′.Post,
-) (attempt-body-at t) attempt-body.Post
-attempt-body-returns-2 t c = let m = branched-next _ _ _ _ _ _ _ (c .before .before .before .before .before .before .before .before .before .before .before .before .before .before .before .body .ensures) _ (c .before .before .before .before .before .before .before .before .before .before .before .taken .given .1) in searched-move _ _ _ _ _ _ _ _ _ _ _ _ _ _ _ _ _ m (c .before .before .before .before .before .before .search .ensures)
+attempt-body-returns-2 : (t : ℕ) → attempt-body-in t attempt-body-lts.Need-returns-2
+attempt-body-returns-2 t c = search (needs, branched-next, searched-move)
 
-bodies-attempt-body-requires : (t : ℕ) → bodies-lts.Need-attempt-body-requires (
+abbrev bodies-in : ℕ → (bodies-lts.Claims → In 4 bodies-kinds.ps → Out 4 bodies-kinds.ps bodies-kinds.r → Type 0) → Type 0
+bodies-in t X = X (
   attempt-body-below t,
   attempt-body.Post,
   bodies-below t,
   bodies.Post,
 ) (bodies-at t) bodies.Post
-bodies-attempt-body-requires t c κs = (omega arith, (c .before .before .before .before .before .before .before .before .pre .1 .0, c .before .before .before .before .before .before .before .before .pre .1 .1))
 
-bodies-same-length : (t : ℕ) → bodies-lts.Need-same-length (
-  attempt-body-below t,
-  attempt-body.Post,
-  bodies-below t,
-  bodies.Post,
-) (bodies-at t) bodies.Post
+bodies-attempt-body-requires : (t : ℕ) → bodies-in t bodies-lts.Need-attempt-body-requires
+bodies-attempt-body-requires t c κs = search needs
+
+bodies-same-length : (t : ℕ) → bodies-in t bodies-lts.Need-same-length
 bodies-same-length t c = search needs
 
-bodies-same-length-2 : (t : ℕ) → bodies-lts.Need-same-length-2 (
-  attempt-body-below t,
-  attempt-body.Post,
-  bodies-below t,
-  bodies.Post,
-) (bodies-at t) bodies.Post
+bodies-same-length-2 : (t : ℕ) → bodies-in t bodies-lts.Need-same-length-2
 bodies-same-length-2 t c = search needs
 
-bodies-same-length-3 : (t : ℕ) → bodies-lts.Need-same-length-3 (
-  attempt-body-below t,
-  attempt-body.Post,
-  bodies-below t,
-  bodies.Post,
-) (bodies-at t) bodies.Post
+bodies-same-length-3 : (t : ℕ) → bodies-in t bodies-lts.Need-same-length-3
 bodies-same-length-3 t c = search needs
 
-bodies-returns : (t : ℕ) → bodies-lts.Need-returns (
-  attempt-body-below t,
-  attempt-body.Post,
-  bodies-below t,
-  bodies.Post,
-) (bodies-at t) bodies.Post
-bodies-returns t c = searched-last _ _ _ _ _ _ _ _ _ _ _ (c .before .before .before .before .before .before .before .before .before .before .before .before .before .before .before .pre .1 .2) _ _ _ _ (c .before .before .before .before .before .before .before .before .before .before .if1 .taken) (c .before .before .before .before .before .before .attempt-body .ensures)
+bodies-returns : (t : ℕ) → bodies-in t bodies-lts.Need-returns
+bodies-returns t c = search (needs, searched-last)
 
-bodies-array-write-replaced : (t : ℕ) → bodies-lts.Need-array-write-replaced (
-  attempt-body-below t,
-  attempt-body.Post,
-  bodies-below t,
-  bodies.Post,
-) (bodies-at t) bodies.Post
+bodies-array-write-replaced : (t : ℕ) → bodies-in t bodies-lts.Need-array-write-replaced
 bodies-array-write-replaced t c = search needs
 
-bodies-add-bodies : (t : ℕ) → bodies-lts.Need-add-bodies (
-  attempt-body-below t,
-  attempt-body.Post,
-  bodies-below t,
-  bodies.Post,
-) (bodies-at t) bodies.Post
+bodies-add-bodies : (t : ℕ) → bodies-in t bodies-lts.Need-add-bodies
 bodies-add-bodies t c = search needs
 
-bodies-bodies-requires : (t : ℕ) → bodies-lts.Need-bodies-requires (
-  attempt-body-below t,
-  attempt-body.Post,
-  bodies-below t,
-  bodies.Post,
-) (bodies-at t) bodies.Post
-bodies-bodies-requires t c κs = (omega arith, (c .before .before .before .before .before .before .before .before .pre .1 .0, c .before .before .before .before .before .before .before .before .pre .1 .1, let z = c .before .before .before .before .before .before .before .before .pre .1 .2 in record { upto = omega arith; most = z .most; sized = length-set (c .before .before .before .before .before .before .before .before .args .chosen) (c .before .before .before .before .before .before .before .before .args .k) 1 ∙ z .sized; are = z .are }))
+bodies-bodies-requires : (t : ℕ) → bodies-in t bodies-lts.Need-bodies-requires
+bodies-bodies-requires t c κs =
+    let start : bodies-in t bodies-lts.Start = search in (
+      omega arith,
+      (
+        start .pre .1 .0,
+        start .pre .1 .1,
+        let z = start .pre .1 .2 in record
+            { upto = omega arith; most = z .most; sized = length-set (start .args .chosen) (start .args .k) 1 ∙ z .sized; are = z .are },
+      ),
+    )
 
-bodies-same-length-4 : (t : ℕ) → bodies-lts.Need-same-length-4 (
-  attempt-body-below t,
-  attempt-body.Post,
-  bodies-below t,
-  bodies.Post,
-) (bodies-at t) bodies.Post
+bodies-same-length-4 : (t : ℕ) → bodies-in t bodies-lts.Need-same-length-4
 bodies-same-length-4 t c = search needs
 
-bodies-same-length-5 : (t : ℕ) → bodies-lts.Need-same-length-5 (
-  attempt-body-below t,
-  attempt-body.Post,
-  bodies-below t,
-  bodies.Post,
-) (bodies-at t) bodies.Post
+bodies-same-length-5 : (t : ℕ) → bodies-in t bodies-lts.Need-same-length-5
 bodies-same-length-5 t c = search needs
 
-bodies-same-length-6 : (t : ℕ) → bodies-lts.Need-same-length-6 (
-  attempt-body-below t,
-  attempt-body.Post,
-  bodies-below t,
-  bodies.Post,
-) (bodies-at t) bodies.Post
+bodies-same-length-6 : (t : ℕ) → bodies-in t bodies-lts.Need-same-length-6
 bodies-same-length-6 t c = search needs
 
-bodies-returns-2 : (t : ℕ) → bodies-lts.Need-returns-2 (
-  attempt-body-below t,
-  attempt-body.Post,
-  bodies-below t,
-  bodies.Post,
-) (bodies-at t) bodies.Post
-bodies-returns-2 t c = searched-stop _ _ _ _ _ _ _ _ _ _ _ (c .before .before .before .before .before .before .before .before .before .before .before .before .before .before .before .before .before .pre .1 .2) (c .before .before .before .before .before .before .before .before .before .before .before .before .if1 .left) _ _ _ _ (c .before .before .before .before .before .before .before .before .bodies .ensures) (c .if2 .taken)
+bodies-returns-2 : (t : ℕ) → bodies-in t bodies-lts.Need-returns-2
+bodies-returns-2 t c = search (needs, searched-stop)
 
-bodies-array-write-kept : (t : ℕ) → bodies-lts.Need-array-write-kept (
-  attempt-body-below t,
-  attempt-body.Post,
-  bodies-below t,
-  bodies.Post,
-) (bodies-at t) bodies.Post
+bodies-array-write-kept : (t : ℕ) → bodies-in t bodies-lts.Need-array-write-kept
 bodies-array-write-kept t c = search needs
 
-bodies-add-bodies-2 : (t : ℕ) → bodies-lts.Need-add-bodies-2 (
-  attempt-body-below t,
-  attempt-body.Post,
-  bodies-below t,
-  bodies.Post,
-) (bodies-at t) bodies.Post
+bodies-add-bodies-2 : (t : ℕ) → bodies-in t bodies-lts.Need-add-bodies-2
 bodies-add-bodies-2 t c = search needs
 
-bodies-bodies-requires-2 : (t : ℕ) → bodies-lts.Need-bodies-requires-2 (
-  attempt-body-below t,
-  attempt-body.Post,
-  bodies-below t,
-  bodies.Post,
-) (bodies-at t) bodies.Post
-bodies-bodies-requires-2 t c κs = let z = c .before .before .before .before .before .before .before .before .before .before .before .before .before .before .before .before .before .before .before .before .pre .1 .2 in let y = c .before .before .before .before .before .before .before .before .before .before .before .bodies .ensures in (omega arith, (begins-kept _ _ _ _ _ _ _ _ _ _ _ _ _ (y .kept) (c .before .before .before .before .before .before .before .before .before .before .before .bodies .kept .1 .0) (c .before .before .before .before .before .before .before .before .before .before .before .bodies .kept .1 .1 .1 .1 .1 .1 .1 .1 .0) (c .before .before .before .before .before .before .before .before .before .before .before .bodies .kept .1 .1 .1 .1 .1 .1 .1 .1 .1 .0) (c .before .before .before .if2 .left) (y .records) (c .before .before .before .before .before .before .before .before .before .before .before .before .before .before .before .before .before .before .before .before .pre .1 .0), builds-kept _ _ _ _ (c .before .before .before .before .before .before .before .before .before .before .before .before .before .before .before .before .before .before .before .before .pre .1 .0 .ready .bounds) (y .kept) (c .before .before .before .before .before .before .before .before .before .before .before .before .before .before .before .before .before .before .before .before .pre .1 .1), choosing-next _ _ _ _ _ _ _ _ _ _ _ z (c .before .before .before .before .before .before .before .before .before .before .before .before .before .before .before .if1 .left) _ _ _ _ y (c .before .before .before .before .before .before .before .before .before .before .before .before .before .before .before .before .before .before .before .before .pre .1 .0) (c .before .before .before .before .before .before .before .before .before .before .before .bodies .kept .1 .0) (c .before .before .before .if2 .left)))
+bodies-bodies-requires-2 : (t : ℕ) → bodies-in t bodies-lts.Need-bodies-requires-2
+bodies-bodies-requires-2 t c κs =
+    let else2 : bodies-in t bodies-lts.Else2 = search in
+    let bodies-point : bodies-in t bodies-lts.After-bodies = search in
+    let else1 : bodies-in t bodies-lts.Else1 = search in
+    let start : bodies-in t bodies-lts.Start = search in
+    let z = start .pre .1 .2 in
+    let y = bodies-point .bodies .ensures in (
+      omega arith,
+      (
+        begins-kept _ _ _ _ _ _ _ _ _ _ _ _ _ (y .kept) (bodies-point .bodies .kept .1 .0)
+            (bodies-point .bodies .kept .1 .1 .1 .1 .1 .1 .1 .1 .0) (bodies-point .bodies .kept .1 .1 .1 .1 .1 .1 .1 .1 .1 .0)
+            (else2 .if2 .left) (y .records) (start .pre .1 .0),
+        builds-kept _ _ _ _ (start .pre .1 .0 .ready .bounds) (y .kept)
+            (start .pre .1 .1),
+        choosing-next _ _ _ _ _ _ _ _ _ _ _ z (else1 .if1 .left) _ _ _ _ y (start .pre .1 .0)
+            (bodies-point .bodies .kept .1 .0) (else2 .if2 .left),
+      ),
+    )
 
-bodies-same-length-7 : (t : ℕ) → bodies-lts.Need-same-length-7 (
-  attempt-body-below t,
-  attempt-body.Post,
-  bodies-below t,
-  bodies.Post,
-) (bodies-at t) bodies.Post
+bodies-same-length-7 : (t : ℕ) → bodies-in t bodies-lts.Need-same-length-7
 bodies-same-length-7 t c = search needs
 
-bodies-same-length-8 : (t : ℕ) → bodies-lts.Need-same-length-8 (
-  attempt-body-below t,
-  attempt-body.Post,
-  bodies-below t,
-  bodies.Post,
-) (bodies-at t) bodies.Post
+bodies-same-length-8 : (t : ℕ) → bodies-in t bodies-lts.Need-same-length-8
 bodies-same-length-8 t c = search needs
 
-bodies-same-length-9 : (t : ℕ) → bodies-lts.Need-same-length-9 (
-  attempt-body-below t,
-  attempt-body.Post,
-  bodies-below t,
-  bodies.Post,
-) (bodies-at t) bodies.Post
+bodies-same-length-9 : (t : ℕ) → bodies-in t bodies-lts.Need-same-length-9
 bodies-same-length-9 t c = search needs
 
-bodies-returns-3 : (t : ℕ) → bodies-lts.Need-returns-3 (
-  attempt-body-below t,
-  attempt-body.Post,
-  bodies-below t,
-  bodies.Post,
-) (bodies-at t) bodies.Post
-bodies-returns-3 t c = searched-both _ _ _ _ _ _ _ _ _ _ _ (c .before .before .before .before .before .before .before .before .before .before .before .before .before .before .before .before .before .before .before .before .before .before .before .before .before .before .before .pre .1 .2) (c .before .before .before .before .before .before .before .before .before .before .before .before .before .before .before .before .before .before .before .before .before .before .if1 .left) _ _ _ _ (c .before .before .before .before .before .before .before .before .before .before .before .before .before .before .before .before .before .before .bodies .ensures) (c .before .before .before .before .before .before .before .before .before .before .before .before .before .before .before .before .before .before .before .before .before .before .before .before .before .before .before .pre .1 .0) (omega arith) (c .before .before .before .before .before .before .before .before .before .before .if2 .left) _ _ _ _ (c .before .before .before .before .before .before .bodies2 .ensures)
+bodies-returns-3 : (t : ℕ) → bodies-in t bodies-lts.Need-returns-3
+bodies-returns-3 t c =
+    let bodies-point : bodies-in t bodies-lts.After-bodies = search in
+    search (needs, searched-both)
 
-branch-add-if1 : (t : ℕ) → branch-lts.Need-add-if1 (
+abbrev branch-in : ℕ → (branch-lts.Claims → In 4 branch-kinds.ps → Out 4 branch-kinds.ps branch-kinds.r → Type 0) → Type 0
+branch-in t X = X (
   flexible-below t,
   flexible.Post,
   build-below t,
   build.Post,
 ) (branch-at t) branch.Post
-branch-add-if1 t c = omega (arith, c .before .before .before .before .pre .1 .0 .ready .bounds .hard-room, c .before .before .before .before .pre .1 .0 .ready .bounds .top)
 
-branch-slice-read-if1 : (t : ℕ) → branch-lts.Need-slice-read-if1 (
-  flexible-below t,
-  flexible.Post,
-  build-below t,
-  build.Post,
-) (branch-at t) branch.Post
+branch-add-if1 : (t : ℕ) → branch-in t branch-lts.Need-add-if1
+branch-add-if1 t c = omega arith
+
+branch-slice-read-if1 : (t : ℕ) → branch-in t branch-lts.Need-slice-read-if1
 branch-slice-read-if1 t c = search needs
 
-branch-flexible-requires : (t : ℕ) → branch-lts.Need-flexible-requires (
-  flexible-below t,
-  flexible.Post,
-  build-below t,
-  build.Post,
-) (branch-at t) branch.Post
-branch-flexible-requires t c κs = (omega arith, (c .before .before .before .before .before .before .before .before .before .pre .1 .0, record { ready = c .before .before .before .before .before .before .before .before .before .pre .1 .0 .ready; some-hard = c .before .before .before .before .before .before .before .before .before .pre .1 .2; kind = c .before .before .before .if1 .taken }))
+branch-flexible-requires : (t : ℕ) → branch-in t branch-lts.Need-flexible-requires
+branch-flexible-requires t c κs = search needs
 
-branch-same-length : (t : ℕ) → branch-lts.Need-same-length (
-  flexible-below t,
-  flexible.Post,
-  build-below t,
-  build.Post,
-) (branch-at t) branch.Post
+branch-same-length : (t : ℕ) → branch-in t branch-lts.Need-same-length
 branch-same-length t c = search needs
 
-branch-same-length-2 : (t : ℕ) → branch-lts.Need-same-length-2 (
-  flexible-below t,
-  flexible.Post,
-  build-below t,
-  build.Post,
-) (branch-at t) branch.Post
+branch-same-length-2 : (t : ℕ) → branch-in t branch-lts.Need-same-length-2
 branch-same-length-2 t c = search needs
 
-branch-same-length-3 : (t : ℕ) → branch-lts.Need-same-length-3 (
-  flexible-below t,
-  flexible.Post,
-  build-below t,
-  build.Post,
-) (branch-at t) branch.Post
+branch-same-length-3 : (t : ℕ) → branch-in t branch-lts.Need-same-length-3
 branch-same-length-3 t c = search needs
 
-branch-returns : (t : ℕ) → branch-lts.Need-returns (
-  flexible-below t,
-  flexible.Post,
-  build-below t,
-  build.Post,
-) (branch-at t) branch.Post
+branch-returns : (t : ℕ) → branch-in t branch-lts.Need-returns
 branch-returns t c = search needs
 
-branch-build-requires : (t : ℕ) → branch-lts.Need-build-requires (
-  flexible-below t,
-  flexible.Post,
-  build-below t,
-  build.Post,
-) (branch-at t) branch.Post
-branch-build-requires t c κs = (omega arith, (c .before .before .before .before .before .before .before .before .before .pre .1 .0, record { none-easy = c .before .before .before .before .before .before .before .before .before .pre .1 .1; some-hard = c .before .before .before .before .before .before .before .before .before .pre .1 .2; kind = c .before .before .before .if1 .left }))
+branch-build-requires : (t : ℕ) → branch-in t branch-lts.Need-build-requires
+branch-build-requires t c κs = search needs
 
-branch-same-length-4 : (t : ℕ) → branch-lts.Need-same-length-4 (
-  flexible-below t,
-  flexible.Post,
-  build-below t,
-  build.Post,
-) (branch-at t) branch.Post
+branch-same-length-4 : (t : ℕ) → branch-in t branch-lts.Need-same-length-4
 branch-same-length-4 t c = search needs
 
-branch-same-length-5 : (t : ℕ) → branch-lts.Need-same-length-5 (
-  flexible-below t,
-  flexible.Post,
-  build-below t,
-  build.Post,
-) (branch-at t) branch.Post
+branch-same-length-5 : (t : ℕ) → branch-in t branch-lts.Need-same-length-5
 branch-same-length-5 t c = search needs
 
-branch-same-length-6 : (t : ℕ) → branch-lts.Need-same-length-6 (
-  flexible-below t,
-  flexible.Post,
-  build-below t,
-  build.Post,
-) (branch-at t) branch.Post
+branch-same-length-6 : (t : ℕ) → branch-in t branch-lts.Need-same-length-6
 branch-same-length-6 t c = search needs
 
-branch-returns-2 : (t : ℕ) → branch-lts.Need-returns-2 (
-  flexible-below t,
-  flexible.Post,
-  build-below t,
-  build.Post,
-) (branch-at t) branch.Post
+branch-returns-2 : (t : ℕ) → branch-in t branch-lts.Need-returns-2
 branch-returns-2 t c = search needs
 
-build-plan-requires : (t : ℕ) → build-lts.Need-plan-requires (
+abbrev build-in : ℕ → (build-lts.Claims → In 4 build-kinds.ps → Out 4 build-kinds.ps build-kinds.r → Type 0) → Type 0
+build-in t X = X (
   plan-reads.Asked,
   plan-reads.Learnt,
   search-below t,
@@ -717,159 +482,71 @@ build-plan-requires : (t : ℕ) → build-lts.Need-plan-requires (
   bodies-below t,
   bodies.Post,
 ) (build-at t) build.Post
-build-plan-requires t c κs = (c .before .before .before .before .before .pre .1 .0 .ready, c .before .before .before .before .before .pre .1 .1)
 
-build-enum-told : (t : ℕ) → build-lts.Need-enum-told (
-  plan-reads.Asked,
-  plan-reads.Learnt,
-  search-below t,
-  search′.Post,
-  bodies-below t,
-  bodies.Post,
-) (build-at t) build.Post
+build-plan-requires : (t : ℕ) → build-in t build-lts.Need-plan-requires
+build-plan-requires t c κs = search needs
+
+build-enum-told : (t : ℕ) → build-in t build-lts.Need-enum-told
 build-enum-told t c = search needs
 
-build-same-length : (t : ℕ) → build-lts.Need-same-length (
-  plan-reads.Asked,
-  plan-reads.Learnt,
-  search-below t,
-  search′.Post,
-  bodies-below t,
-  bodies.Post,
-) (build-at t) build.Post
+build-same-length : (t : ℕ) → build-in t build-lts.Need-same-length
 build-same-length t c = search needs
 
-build-returns : (t : ℕ) → build-lts.Need-returns (
-  plan-reads.Asked,
-  plan-reads.Learnt,
-  search-below t,
-  search′.Post,
-  bodies-below t,
-  bodies.Post,
-) (build-at t) build.Post
-build-returns t c = searched-failed _ _ _ _ _ _ _ _ _ _ _ (planned-failed _ _ _ _ _ _ (c .before .before .before .before .plan .ensures) (c .enum-told .given .1)) (c .before .before .before .before .before .before .before .before .before .before .pre .1 .0)
+build-returns : (t : ℕ) → build-in t build-lts.Need-returns
+build-returns t c = search (needs, searched-failed, planned-failed)
 
-build-enum-known-planned : (t : ℕ) → build-lts.Need-enum-known-planned (
-  plan-reads.Asked,
-  plan-reads.Learnt,
-  search-below t,
-  search′.Post,
-  bodies-below t,
-  bodies.Post,
-) (build-at t) build.Post
+build-enum-known-planned : (t : ℕ) → build-in t build-lts.Need-enum-known-planned
 build-enum-known-planned t c = search needs
 
-build-search-requires : (t : ℕ) → build-lts.Need-search-requires (
-  plan-reads.Asked,
-  plan-reads.Learnt,
-  search-below t,
-  search′.Post,
-  bodies-below t,
-  bodies.Post,
-) (build-at t) build.Post
-build-search-requires t c κs = let m = planned-next _ _ _ _ _ _ (c .before .before .before .before .before .before .before .before .plan .ensures) _ (c .before .before .before .before .planned .given .1) in (omega (arith, m .falls), begins-move _ _ _ _ _ _ _ _ _ _ _ _ _ m (c .before .before .before .before .before .before .before .before .before .before .before .before .before .before .pre .1 .0))
+build-search-requires : (t : ℕ) → build-in t build-lts.Need-search-requires
+build-search-requires t c κs =
+    let planned : build-in t build-lts.After-planned = search in
+    let plan : build-in t build-lts.After-plan = search in
+    let m = planned-next _ _ _ _ _ _ (plan .plan .ensures) _ (planned .planned .given .1) in
+    search (needs, begins-move)
 
-build-same-length-2 : (t : ℕ) → build-lts.Need-same-length-2 (
-  plan-reads.Asked,
-  plan-reads.Learnt,
-  search-below t,
-  search′.Post,
-  bodies-below t,
-  bodies.Post,
-) (build-at t) build.Post
+build-same-length-2 : (t : ℕ) → build-in t build-lts.Need-same-length-2
 build-same-length-2 t c = search needs
 
-build-same-length-3 : (t : ℕ) → build-lts.Need-same-length-3 (
-  plan-reads.Asked,
-  plan-reads.Learnt,
-  search-below t,
-  search′.Post,
-  bodies-below t,
-  bodies.Post,
-) (build-at t) build.Post
+build-same-length-3 : (t : ℕ) → build-in t build-lts.Need-same-length-3
 build-same-length-3 t c = search needs
 
-build-same-length-4 : (t : ℕ) → build-lts.Need-same-length-4 (
-  plan-reads.Asked,
-  plan-reads.Learnt,
-  search-below t,
-  search′.Post,
-  bodies-below t,
-  bodies.Post,
-) (build-at t) build.Post
+build-same-length-4 : (t : ℕ) → build-in t build-lts.Need-same-length-4
 build-same-length-4 t c = search needs
 
-build-returns-2 : (t : ℕ) → build-lts.Need-returns-2 (
-  plan-reads.Asked,
-  plan-reads.Learnt,
-  search-below t,
-  search′.Post,
-  bodies-below t,
-  bodies.Post,
-) (build-at t) build.Post
-build-returns-2 t c = let m = planned-next _ _ _ _ _ _ (c .before .before .before .before .before .before .before .before .before .before .before .before .before .before .before .plan .ensures) _ (c .before .before .before .before .before .before .before .before .before .before .before .planned .given .1) in searched-move _ _ _ _ _ _ _ _ _ _ _ _ _ _ _ _ _ m (c .before .before .before .before .before .before .search .ensures)
+build-returns-2 : (t : ℕ) → build-in t build-lts.Need-returns-2
+build-returns-2 t c = search (needs, planned-next, searched-move)
 
-build-enum-known-planned-2 : (t : ℕ) → build-lts.Need-enum-known-planned-2 (
-  plan-reads.Asked,
-  plan-reads.Learnt,
-  search-below t,
-  search′.Post,
-  bodies-below t,
-  bodies.Post,
-) (build-at t) build.Post
+build-enum-known-planned-2 : (t : ℕ) → build-in t build-lts.Need-enum-known-planned-2
 build-enum-known-planned-2 t c = search needs
 
-build-bodies-requires : (t : ℕ) → build-lts.Need-bodies-requires (
-  plan-reads.Asked,
-  plan-reads.Learnt,
-  search-below t,
-  search′.Post,
-  bodies-below t,
-  bodies.Post,
-) (build-at t) build.Post
-build-bodies-requires t c κs = let m = planned-bodies _ _ _ _ _ _ (c .before .before .before .before .before .before .before .before .plan .ensures) _ (c .before .before .before .before .planned2 .given .1) in (omega arith, planned-begins _ _ _ _ _ _ _ _ _ _ _ (m .0) (c .before .before .before .before .before .before .before .before .before .before .before .before .before .before .pre .1 .0) (c .before .before .before .before .before .before .before .before .before .before .before .before .before .before .pre .1 .1) (m .1) refl (m .2))
+build-bodies-requires : (t : ℕ) → build-in t build-lts.Need-bodies-requires
+build-bodies-requires t c κs =
+    let planned2 : build-in t build-lts.After-planned2 = search in
+    let plan : build-in t build-lts.After-plan = search in
+    let start : build-in t build-lts.Start = search in
+    let m = planned-bodies _ _ _ _ _ _ (plan .plan .ensures) _ (planned2 .planned2 .given .1) in
+    (omega arith, planned-begins _ _ _ _ _ _ _ _ _ _ _ (m .0) (start .pre .1 .0) (start .pre .1 .1) (m .1) refl (m .2))
 
-build-same-length-5 : (t : ℕ) → build-lts.Need-same-length-5 (
-  plan-reads.Asked,
-  plan-reads.Learnt,
-  search-below t,
-  search′.Post,
-  bodies-below t,
-  bodies.Post,
-) (build-at t) build.Post
+build-same-length-5 : (t : ℕ) → build-in t build-lts.Need-same-length-5
 build-same-length-5 t c = search needs
 
-build-same-length-6 : (t : ℕ) → build-lts.Need-same-length-6 (
-  plan-reads.Asked,
-  plan-reads.Learnt,
-  search-below t,
-  search′.Post,
-  bodies-below t,
-  bodies.Post,
-) (build-at t) build.Post
+build-same-length-6 : (t : ℕ) → build-in t build-lts.Need-same-length-6
 build-same-length-6 t c = search needs
 
-build-same-length-7 : (t : ℕ) → build-lts.Need-same-length-7 (
-  plan-reads.Asked,
-  plan-reads.Learnt,
-  search-below t,
-  search′.Post,
-  bodies-below t,
-  bodies.Post,
-) (build-at t) build.Post
+build-same-length-7 : (t : ℕ) → build-in t build-lts.Need-same-length-7
 build-same-length-7 t c = search needs
 
-build-returns-3 : (t : ℕ) → build-lts.Need-returns-3 (
-  plan-reads.Asked,
-  plan-reads.Learnt,
-  search-below t,
-  search′.Post,
-  bodies-below t,
-  bodies.Post,
-) (build-at t) build.Post
-build-returns-3 t c = let m = planned-bodies _ _ _ _ _ _ (c .before .before .before .before .before .before .before .before .before .before .before .before .before .before .before .plan .ensures) _ (c .before .before .before .before .before .before .before .before .before .before .before .planned2 .given .1) in planned-searched _ _ _ _ _ _ _ _ _ _ _ _ _ _ _ (m .0) (m .2) (c .before .before .before .before .before .before .bodies .ensures)
+build-returns-3 : (t : ℕ) → build-in t build-lts.Need-returns-3
+build-returns-3 t c =
+    let bodies-point : build-in t build-lts.After-bodies = search in
+    let planned2 : build-in t build-lts.After-planned2 = search in
+    let plan : build-in t build-lts.After-plan = search in
+    let m = planned-bodies _ _ _ _ _ _ (plan .plan .ensures) _ (planned2 .planned2 .given .1) in
+    planned-searched _ _ _ _ _ _ _ _ _ _ _ _ _ _ _ (m .0) (m .2) (bodies-point .bodies .ensures)
 
-cheapest-bring-forward-requires : (t : ℕ) → cheapest-lts.Need-bring-forward-requires (
+abbrev cheapest-in : ℕ → (cheapest-lts.Claims → In 4 cheapest-kinds.ps → Out 4 cheapest-kinds.ps cheapest-kinds.r → Type 0) → Type 0
+cheapest-in t X = X (
   bring-forward-reads.Asked,
   bring-forward-reads.Learnt,
   decide-reads.Asked,
@@ -879,319 +556,175 @@ cheapest-bring-forward-requires : (t : ℕ) → cheapest-lts.Need-bring-forward-
   branch-below t,
   branch.Post,
 ) (cheapest-at t) cheapest.Post
-cheapest-bring-forward-requires t c κs = (c .before .before .before .before .before .pre .1 .0 .ready, c .before .before .before .before .before .pre .1 .1, c .before .before .before .before .before .pre .1 .2)
 
-cheapest-decide-requires : (t : ℕ) → cheapest-lts.Need-decide-requires (
-  bring-forward-reads.Asked,
-  bring-forward-reads.Learnt,
-  decide-reads.Asked,
-  decide-reads.Learnt,
-  search-below t,
-  search′.Post,
-  branch-below t,
-  branch.Post,
-) (cheapest-at t) cheapest.Post
-cheapest-decide-requires t c κs = let f = c .before .before .before .bring-forward .ensures in let b = begins-forwarded _ _ _ _ _ _ _ _ _ _ f (c .before .before .before .before .before .before .before .before .before .pre .1 .0) in (b .ready, f .some-hard)
+cheapest-bring-forward-requires : (t : ℕ) → cheapest-in t cheapest-lts.Need-bring-forward-requires
+cheapest-bring-forward-requires t c κs = search needs
 
-cheapest-enum-told : (t : ℕ) → cheapest-lts.Need-enum-told (
-  bring-forward-reads.Asked,
-  bring-forward-reads.Learnt,
-  decide-reads.Asked,
-  decide-reads.Learnt,
-  search-below t,
-  search′.Post,
-  branch-below t,
-  branch.Post,
-) (cheapest-at t) cheapest.Post
+cheapest-decide-requires : (t : ℕ) → cheapest-in t cheapest-lts.Need-decide-requires
+cheapest-decide-requires t c κs =
+    let bring-forward : cheapest-in t cheapest-lts.After-bring-forward = search in
+    let start : cheapest-in t cheapest-lts.Start = search in
+    let f = bring-forward .bring-forward .ensures in
+    let b = begins-forwarded _ _ _ _ _ _ _ _ _ _ f (start .pre .1 .0) in
+    search needs
+
+cheapest-enum-told : (t : ℕ) → cheapest-in t cheapest-lts.Need-enum-told
 cheapest-enum-told t c = search needs
 
-cheapest-same-length : (t : ℕ) → cheapest-lts.Need-same-length (
-  bring-forward-reads.Asked,
-  bring-forward-reads.Learnt,
-  decide-reads.Asked,
-  decide-reads.Learnt,
-  search-below t,
-  search′.Post,
-  branch-below t,
-  branch.Post,
-) (cheapest-at t) cheapest.Post
+cheapest-same-length : (t : ℕ) → cheapest-in t cheapest-lts.Need-same-length
 cheapest-same-length t c = search needs
 
-cheapest-returns : (t : ℕ) → cheapest-lts.Need-returns (
-  bring-forward-reads.Asked,
-  bring-forward-reads.Learnt,
-  decide-reads.Asked,
-  decide-reads.Learnt,
-  search-below t,
-  search′.Post,
-  branch-below t,
-  branch.Post,
-) (cheapest-at t) cheapest.Post
-cheapest-returns t c = let f = c .before .before .before .before .before .before .before .before .bring-forward .ensures in searched-forwarded _ _ _ _ _ _ _ _ _ _ f _ _ _ _ (searched-failed _ _ _ _ _ _ _ _ _ _ _ (decided-failed _ _ _ _ _ _ _ (c .before .before .before .before .decide .ensures) (c .enum-told .given .1)) (begins-forwarded _ _ _ _ _ _ _ _ _ _ f (c .before .before .before .before .before .before .before .before .before .before .before .before .before .before .pre .1 .0)))
+cheapest-returns : (t : ℕ) → cheapest-in t cheapest-lts.Need-returns
+cheapest-returns t c = search (needs, searched-forwarded, searched-failed, decided-failed, begins-forwarded)
 
-cheapest-enum-known-decided : (t : ℕ) → cheapest-lts.Need-enum-known-decided (
-  bring-forward-reads.Asked,
-  bring-forward-reads.Learnt,
-  decide-reads.Asked,
-  decide-reads.Learnt,
-  search-below t,
-  search′.Post,
-  branch-below t,
-  branch.Post,
-) (cheapest-at t) cheapest.Post
+cheapest-enum-known-decided : (t : ℕ) → cheapest-in t cheapest-lts.Need-enum-known-decided
 cheapest-enum-known-decided t c = search needs
 
-cheapest-search-requires : (t : ℕ) → cheapest-lts.Need-search-requires (
-  bring-forward-reads.Asked,
-  bring-forward-reads.Learnt,
-  decide-reads.Asked,
-  decide-reads.Learnt,
-  search-below t,
-  search′.Post,
-  branch-below t,
-  branch.Post,
-) (cheapest-at t) cheapest.Post
-cheapest-search-requires t c κs = let f = c .before .before .before .before .before .before .before .before .before .before .before .before .bring-forward .ensures in let m = decided-next _ _ _ _ _ _ _ (c .before .before .before .before .before .before .before .before .decide .ensures) _ (c .before .before .before .before .decided .given .1) in (omega (arith, m .falls, f .level), begins-move _ _ _ _ _ _ _ _ _ _ _ _ _ m (begins-forwarded _ _ _ _ _ _ _ _ _ _ f (c .before .before .before .before .before .before .before .before .before .before .before .before .before .before .before .before .before .before .pre .1 .0)))
+cheapest-search-requires : (t : ℕ) → cheapest-in t cheapest-lts.Need-search-requires
+cheapest-search-requires t c κs =
+    let decided : cheapest-in t cheapest-lts.After-decided = search in
+    let decide : cheapest-in t cheapest-lts.After-decide = search in
+    let bring-forward : cheapest-in t cheapest-lts.After-bring-forward = search in
+    let start : cheapest-in t cheapest-lts.Start = search in
+    let f = bring-forward .bring-forward .ensures in
+    let m = decided-next _ _ _ _ _ _ _ (decide .decide .ensures) _ (decided .decided .given .1) in (
+      omega (arith, m .falls, f .level),
+      begins-move _ _ _ _ _ _ _ _ _ _ _ _ _ m (begins-forwarded _ _ _ _ _ _ _ _ _ _ f (start .pre .1 .0)),
+    )
 
-cheapest-same-length-2 : (t : ℕ) → cheapest-lts.Need-same-length-2 (
-  bring-forward-reads.Asked,
-  bring-forward-reads.Learnt,
-  decide-reads.Asked,
-  decide-reads.Learnt,
-  search-below t,
-  search′.Post,
-  branch-below t,
-  branch.Post,
-) (cheapest-at t) cheapest.Post
+cheapest-same-length-2 : (t : ℕ) → cheapest-in t cheapest-lts.Need-same-length-2
 cheapest-same-length-2 t c = search needs
 
-cheapest-same-length-3 : (t : ℕ) → cheapest-lts.Need-same-length-3 (
-  bring-forward-reads.Asked,
-  bring-forward-reads.Learnt,
-  decide-reads.Asked,
-  decide-reads.Learnt,
-  search-below t,
-  search′.Post,
-  branch-below t,
-  branch.Post,
-) (cheapest-at t) cheapest.Post
+cheapest-same-length-3 : (t : ℕ) → cheapest-in t cheapest-lts.Need-same-length-3
 cheapest-same-length-3 t c = search needs
 
-cheapest-same-length-4 : (t : ℕ) → cheapest-lts.Need-same-length-4 (
-  bring-forward-reads.Asked,
-  bring-forward-reads.Learnt,
-  decide-reads.Asked,
-  decide-reads.Learnt,
-  search-below t,
-  search′.Post,
-  branch-below t,
-  branch.Post,
-) (cheapest-at t) cheapest.Post
+cheapest-same-length-4 : (t : ℕ) → cheapest-in t cheapest-lts.Need-same-length-4
 cheapest-same-length-4 t c = search needs
 
-cheapest-returns-2 : (t : ℕ) → cheapest-lts.Need-returns-2 (
-  bring-forward-reads.Asked,
-  bring-forward-reads.Learnt,
-  decide-reads.Asked,
-  decide-reads.Learnt,
-  search-below t,
-  search′.Post,
-  branch-below t,
-  branch.Post,
-) (cheapest-at t) cheapest.Post
-cheapest-returns-2 t c = let f = c .before .before .before .before .before .before .before .before .before .before .before .before .before .before .before .before .before .before .before .bring-forward .ensures in let m = decided-next _ _ _ _ _ _ _ (c .before .before .before .before .before .before .before .before .before .before .before .before .before .before .before .decide .ensures) _ (c .before .before .before .before .before .before .before .before .before .before .before .decided .given .1) in searched-forwarded _ _ _ _ _ _ _ _ _ _ f _ _ _ _ (searched-move _ _ _ _ _ _ _ _ _ _ _ _ _ _ _ _ _ m (c .before .before .before .before .before .before .search .ensures))
+cheapest-returns-2 : (t : ℕ) → cheapest-in t cheapest-lts.Need-returns-2
+cheapest-returns-2 t c =
+    let decided : cheapest-in t cheapest-lts.After-decided = search in
+    let decide : cheapest-in t cheapest-lts.After-decide = search in
+    let bring-forward : cheapest-in t cheapest-lts.After-bring-forward = search in
+    let f = bring-forward .bring-forward .ensures in
+    let m = decided-next _ _ _ _ _ _ _ (decide .decide .ensures) _ (decided .decided .given .1) in
+    search (needs, searched-forwarded, searched-move)
 
-cheapest-enum-told-2 : (t : ℕ) → cheapest-lts.Need-enum-told-2 (
-  bring-forward-reads.Asked,
-  bring-forward-reads.Learnt,
-  decide-reads.Asked,
-  decide-reads.Learnt,
-  search-below t,
-  search′.Post,
-  branch-below t,
-  branch.Post,
-) (cheapest-at t) cheapest.Post
+cheapest-enum-told-2 : (t : ℕ) → cheapest-in t cheapest-lts.Need-enum-told-2
 cheapest-enum-told-2 t c = search needs
 
-cheapest-branch-requires : (t : ℕ) → cheapest-lts.Need-branch-requires (
-  bring-forward-reads.Asked,
-  bring-forward-reads.Learnt,
-  decide-reads.Asked,
-  decide-reads.Learnt,
-  search-below t,
-  search′.Post,
-  branch-below t,
-  branch.Post,
-) (cheapest-at t) cheapest.Post
-cheapest-branch-requires t c κs = let f = c .before .before .before .before .before .before .before .before .before .before .before .bring-forward .ensures in let e = decided-open _ _ _ _ _ _ _ (c .before .before .before .before .before .before .before .decide .ensures) (c .before .before .before .enum-told2 .given .1) in (omega (arith, f .level), (begins-open _ _ _ _ _ _ _ _ _ _ e (begins-forwarded _ _ _ _ _ _ _ _ _ _ f (c .before .before .before .before .before .before .before .before .before .before .before .before .before .before .before .before .before .pre .1 .0)), f .none-easy, f .some-hard))
+cheapest-branch-requires : (t : ℕ) → cheapest-in t cheapest-lts.Need-branch-requires
+cheapest-branch-requires t c κs =
+    let enum-told2 : cheapest-in t cheapest-lts.After-enum-told2 = search in
+    let decide : cheapest-in t cheapest-lts.After-decide = search in
+    let bring-forward : cheapest-in t cheapest-lts.After-bring-forward = search in
+    let start : cheapest-in t cheapest-lts.Start = search in
+    let f = bring-forward .bring-forward .ensures in
+    let e = decided-open _ _ _ _ _ _ _ (decide .decide .ensures) (enum-told2 .enum-told2 .given .1) in (
+      omega (arith, f .level),
+      (begins-open _ _ _ _ _ _ _ _ _ _ e (begins-forwarded _ _ _ _ _ _ _ _ _ _ f (start .pre .1 .0)), f .none-easy, f .some-hard),
+    )
 
-cheapest-same-length-5 : (t : ℕ) → cheapest-lts.Need-same-length-5 (
-  bring-forward-reads.Asked,
-  bring-forward-reads.Learnt,
-  decide-reads.Asked,
-  decide-reads.Learnt,
-  search-below t,
-  search′.Post,
-  branch-below t,
-  branch.Post,
-) (cheapest-at t) cheapest.Post
+cheapest-same-length-5 : (t : ℕ) → cheapest-in t cheapest-lts.Need-same-length-5
 cheapest-same-length-5 t c = search needs
 
-cheapest-same-length-6 : (t : ℕ) → cheapest-lts.Need-same-length-6 (
-  bring-forward-reads.Asked,
-  bring-forward-reads.Learnt,
-  decide-reads.Asked,
-  decide-reads.Learnt,
-  search-below t,
-  search′.Post,
-  branch-below t,
-  branch.Post,
-) (cheapest-at t) cheapest.Post
+cheapest-same-length-6 : (t : ℕ) → cheapest-in t cheapest-lts.Need-same-length-6
 cheapest-same-length-6 t c = search needs
 
-cheapest-same-length-7 : (t : ℕ) → cheapest-lts.Need-same-length-7 (
-  bring-forward-reads.Asked,
-  bring-forward-reads.Learnt,
-  decide-reads.Asked,
-  decide-reads.Learnt,
-  search-below t,
-  search′.Post,
-  branch-below t,
-  branch.Post,
-) (cheapest-at t) cheapest.Post
+cheapest-same-length-7 : (t : ℕ) → cheapest-in t cheapest-lts.Need-same-length-7
 cheapest-same-length-7 t c = search needs
 
-cheapest-returns-3 : (t : ℕ) → cheapest-lts.Need-returns-3 (
-  bring-forward-reads.Asked,
-  bring-forward-reads.Learnt,
-  decide-reads.Asked,
-  decide-reads.Learnt,
-  search-below t,
-  search′.Post,
-  branch-below t,
-  branch.Post,
-) (cheapest-at t) cheapest.Post
-cheapest-returns-3 t c = let f = c .before .before .before .before .before .before .before .before .before .before .before .before .before .before .before .before .before .before .bring-forward .ensures in let e = decided-open _ _ _ _ _ _ _ (c .before .before .before .before .before .before .before .before .before .before .before .before .before .before .decide .ensures) (c .before .before .before .before .before .before .before .before .before .before .enum-told2 .given .1) in searched-forwarded _ _ _ _ _ _ _ _ _ _ f _ _ _ _ (searched-open _ _ _ _ _ _ _ _ _ _ e _ _ _ _ _ (c .before .before .before .before .before .before .branch .ensures))
+cheapest-returns-3 : (t : ℕ) → cheapest-in t cheapest-lts.Need-returns-3
+cheapest-returns-3 t c =
+    let enum-told2 : cheapest-in t cheapest-lts.After-enum-told2 = search in
+    let decide : cheapest-in t cheapest-lts.After-decide = search in
+    let bring-forward : cheapest-in t cheapest-lts.After-bring-forward = search in
+    let f = bring-forward .bring-forward .ensures in
+    let e = decided-open _ _ _ _ _ _ _ (decide .decide .ensures) (enum-told2 .enum-told2 .given .1) in
+    search (needs, searched-forwarded, searched-open)
 
 abbrev flexible-Inv-loop : flexible-lts.InvT-loop
-flexible-Inv-loop p work₀ s a limit lines₀ values₀ w found₀ i₀ work lines values found i = Going p work₀ s a limit lines₀ values₀ found₀ (w .count) i work lines values found
+flexible-Inv-loop p work₀ s a limit lines₀ values₀ w found₀ i₀ work lines values found i =
+    Going p work₀ s a limit lines₀ values₀ found₀ (w .count) i work lines values found
 
 abbrev flexible-μ-loop : flexible-lts.MeasureT-loop
 flexible-μ-loop p work₀ s a limit lines₀ values₀ w found₀ i₀ work lines values found i = w .count - i
 
-flexible-ways-requires : (t : ℕ) → flexible-lts.Need-ways-requires (
+abbrev flexible-in :
+    ℕ →
+    (flexible-lts.Claims → In 4 flexible-kinds.ps → Out 4 flexible-kinds.ps flexible-kinds.r → flexible-lts.InvT-loop →
+    flexible-lts.MeasureT-loop → Type 0) →
+    Type 0
+flexible-in t X = X (
   ways-reads.Asked,
   ways-reads.Learnt,
   attempt-below t,
   attempt.Post,
 ) (flexible-at t) flexible.Post flexible-Inv-loop flexible-μ-loop
-flexible-ways-requires t c κs = c .before .before .before .before .before .pre .1 .1
 
-flexible-loop-holds : (t : ℕ) → flexible-lts.Need-loop-holds (
-  ways-reads.Asked,
-  ways-reads.Learnt,
-  attempt-below t,
-  attempt.Post,
-) (flexible-at t) flexible.Post flexible-Inv-loop flexible-μ-loop
-flexible-loop-holds t c = going-start _ _ _ _ _ _ _ _ _ (c .before .before .before .before .before .before .pre .1 .0)
+flexible-ways-requires : (t : ℕ) → flexible-in t flexible-lts.Need-ways-requires
+flexible-ways-requires t c κs = search needs
 
-flexible-same-length : (t : ℕ) → flexible-lts.Need-same-length (
-  ways-reads.Asked,
-  ways-reads.Learnt,
-  attempt-below t,
-  attempt.Post,
-) (flexible-at t) flexible.Post flexible-Inv-loop flexible-μ-loop
+flexible-loop-holds : (t : ℕ) → flexible-in t flexible-lts.Need-loop-holds
+flexible-loop-holds t c = search (needs, going-start)
+
+flexible-same-length : (t : ℕ) → flexible-in t flexible-lts.Need-same-length
 flexible-same-length t c = search needs
 
-flexible-same-length-2 : (t : ℕ) → flexible-lts.Need-same-length-2 (
-  ways-reads.Asked,
-  ways-reads.Learnt,
-  attempt-below t,
-  attempt.Post,
-) (flexible-at t) flexible.Post flexible-Inv-loop flexible-μ-loop
+flexible-same-length-2 : (t : ℕ) → flexible-in t flexible-lts.Need-same-length-2
 flexible-same-length-2 t c = search needs
 
-flexible-same-length-3 : (t : ℕ) → flexible-lts.Need-same-length-3 (
-  ways-reads.Asked,
-  ways-reads.Learnt,
-  attempt-below t,
-  attempt.Post,
-) (flexible-at t) flexible.Post flexible-Inv-loop flexible-μ-loop
+flexible-same-length-3 : (t : ℕ) → flexible-in t flexible-lts.Need-same-length-3
 flexible-same-length-3 t c = search needs
 
-flexible-returns : (t : ℕ) → flexible-lts.Need-returns (
-  ways-reads.Asked,
-  ways-reads.Learnt,
-  attempt-below t,
-  attempt.Post,
-) (flexible-at t) flexible.Post flexible-Inv-loop flexible-μ-loop
-flexible-returns t c = going-stop _ _ _ _ _ _ _ _ _ (c .before .before .before .before .before .before .before .before .before .before .before .pre .1 .0) _ _ _ _ _ (c .before .before .before .before .loop .inv) (c .before .before .before .before .before .ways .ensures .ways) (c .if2 .taken)
+flexible-returns : (t : ℕ) → flexible-in t flexible-lts.Need-returns
+flexible-returns t c = search (needs, going-stop)
 
-flexible-attempt-requires : (t : ℕ) → flexible-lts.Need-attempt-requires (
-  ways-reads.Asked,
-  ways-reads.Learnt,
-  attempt-below t,
-  attempt.Post,
-) (flexible-at t) flexible.Post flexible-Inv-loop flexible-μ-loop
-flexible-attempt-requires t c κs = let x = c .before .before .before .before .before .before .before .before .before .before .before .before .before .before .pre .1 in let g = c .before .before .before .before .before .before .before .loop .inv in let b = begins-going _ _ _ _ _ _ _ _ _ (x .0) _ _ _ _ _ g (c .before .before .before .if2 .left) in (omega arith, (b, matches-kept _ _ _ _ _ (g .kept) (b .ready) (x .1), counted-kept _ _ _ _ _ _ (g .kept) (g .area) (x .0 .ready .bounds) (c .before .before .before .before .before .before .before .before .ways .ensures), c .before .before .before .before .before .if1 .taken))
+flexible-attempt-requires : (t : ℕ) → flexible-in t flexible-lts.Need-attempt-requires
+flexible-attempt-requires t c κs =
+    let else2 : flexible-in t flexible-lts.Else2 = search in
+    let then1 : flexible-in t flexible-lts.Then1 = search in
+    let at-loop : flexible-in t flexible-lts.At-loop = search in
+    let ways : flexible-in t flexible-lts.After-ways = search in
+    let start : flexible-in t flexible-lts.Start = search in
+    let x = start .pre .1 in
+    let g = at-loop .loop .inv in
+    let b = begins-going _ _ _ _ _ _ _ _ _ (x .0) _ _ _ _ _ g (else2 .if2 .left) in (
+      omega arith,
+      (
+        b,
+        matches-kept _ _ _ _ _ (g .kept) (b .ready) (x .1),
+        counted-kept _ _ _ _ _ _ (g .kept) (g .area) (x .0 .ready .bounds)
+            (ways .ways .ensures),
+        then1 .if1 .taken,
+      ),
+    )
 
-flexible-add-i : (t : ℕ) → flexible-lts.Need-add-i (
-  ways-reads.Asked,
-  ways-reads.Learnt,
-  attempt-below t,
-  attempt.Post,
-) (flexible-at t) flexible.Post flexible-Inv-loop flexible-μ-loop
+flexible-add-i : (t : ℕ) → flexible-in t flexible-lts.Need-add-i
 flexible-add-i t c = search needs
 
-flexible-loop-less : (t : ℕ) → flexible-lts.Need-loop-less (
-  ways-reads.Asked,
-  ways-reads.Learnt,
-  attempt-below t,
-  attempt.Post,
-) (flexible-at t) flexible.Post flexible-Inv-loop flexible-μ-loop
+flexible-loop-less : (t : ℕ) → flexible-in t flexible-lts.Need-loop-less
 flexible-loop-less t c = search needs
 
-flexible-loop-again : (t : ℕ) → flexible-lts.Need-loop-again (
-  ways-reads.Asked,
-  ways-reads.Learnt,
-  attempt-below t,
-  attempt.Post,
-) (flexible-at t) flexible.Post flexible-Inv-loop flexible-μ-loop
-flexible-loop-again t c = going-next _ _ _ _ _ _ _ _ _ (c .before .before .before .before .before .before .before .before .before .before .before .before .before .before .before .before .before .before .before .before .before .pre .1 .0) _ _ _ _ _ (c .before .before .before .before .before .before .before .before .before .before .before .before .before .before .loop .inv) _ _ _ _ (c .before .before .before .before .before .before .before .before .before .before .if2 .left) (c .before .before .before .before .before .before .before .before .before .before .before .before .if1 .taken) (omega arith) (omega arith) (omega arith) (c .before .before .before .before .before .before .attempt .ensures)
+flexible-loop-again : (t : ℕ) → flexible-in t flexible-lts.Need-loop-again
+flexible-loop-again t c =
+    let start : flexible-in t flexible-lts.Start = search in
+    search (needs, going-next)
 
-flexible-same-length-4 : (t : ℕ) → flexible-lts.Need-same-length-4 (
-  ways-reads.Asked,
-  ways-reads.Learnt,
-  attempt-below t,
-  attempt.Post,
-) (flexible-at t) flexible.Post flexible-Inv-loop flexible-μ-loop
+flexible-same-length-4 : (t : ℕ) → flexible-in t flexible-lts.Need-same-length-4
 flexible-same-length-4 t c = search needs
 
-flexible-same-length-5 : (t : ℕ) → flexible-lts.Need-same-length-5 (
-  ways-reads.Asked,
-  ways-reads.Learnt,
-  attempt-below t,
-  attempt.Post,
-) (flexible-at t) flexible.Post flexible-Inv-loop flexible-μ-loop
+flexible-same-length-5 : (t : ℕ) → flexible-in t flexible-lts.Need-same-length-5
 flexible-same-length-5 t c = search needs
 
-flexible-same-length-6 : (t : ℕ) → flexible-lts.Need-same-length-6 (
-  ways-reads.Asked,
-  ways-reads.Learnt,
-  attempt-below t,
-  attempt.Post,
-) (flexible-at t) flexible.Post flexible-Inv-loop flexible-μ-loop
+flexible-same-length-6 : (t : ℕ) → flexible-in t flexible-lts.Need-same-length-6
 flexible-same-length-6 t c = search needs
 
-flexible-returns-2 : (t : ℕ) → flexible-lts.Need-returns-2 (
-  ways-reads.Asked,
-  ways-reads.Learnt,
-  attempt-below t,
-  attempt.Post,
-) (flexible-at t) flexible.Post flexible-Inv-loop flexible-μ-loop
-flexible-returns-2 t c = going-end _ _ _ _ _ _ _ _ _ (c .before .before .before .before .before .before .before .before .before .pre .1 .0) _ _ _ _ _ (c .before .before .loop .inv) (c .before .before .before .ways .ensures .ways) (c .if1 .left)
+flexible-returns-2 : (t : ℕ) → flexible-in t flexible-lts.Need-returns-2
+flexible-returns-2 t c = search (needs, going-end)
 
-postponed-force-requires : (t : ℕ) → postponed-lts.Need-force-requires (
+abbrev postponed-in : ℕ → (postponed-lts.Claims → In 4 postponed-kinds.ps → Out 4 postponed-kinds.ps postponed-kinds.r → Type 0) → Type 0
+postponed-in t X = X (
   force-reads.Asked,
   force-reads.Learnt,
   search-below t,
@@ -1199,159 +732,61 @@ postponed-force-requires : (t : ℕ) → postponed-lts.Need-force-requires (
   cheapest-below t,
   cheapest.Post,
 ) (postponed-at t) postponed.Post
-postponed-force-requires t c κs = (c .before .before .before .before .before .pre .1 .0 .ready, c .before .before .before .before .before .pre .1 .1)
 
-postponed-enum-told : (t : ℕ) → postponed-lts.Need-enum-told (
-  force-reads.Asked,
-  force-reads.Learnt,
-  search-below t,
-  search′.Post,
-  cheapest-below t,
-  cheapest.Post,
-) (postponed-at t) postponed.Post
+postponed-force-requires : (t : ℕ) → postponed-in t postponed-lts.Need-force-requires
+postponed-force-requires t c κs = search needs
+
+postponed-enum-told : (t : ℕ) → postponed-in t postponed-lts.Need-enum-told
 postponed-enum-told t c = search needs
 
-postponed-same-length : (t : ℕ) → postponed-lts.Need-same-length (
-  force-reads.Asked,
-  force-reads.Learnt,
-  search-below t,
-  search′.Post,
-  cheapest-below t,
-  cheapest.Post,
-) (postponed-at t) postponed.Post
+postponed-same-length : (t : ℕ) → postponed-in t postponed-lts.Need-same-length
 postponed-same-length t c = search needs
 
-postponed-returns : (t : ℕ) → postponed-lts.Need-returns (
-  force-reads.Asked,
-  force-reads.Learnt,
-  search-below t,
-  search′.Post,
-  cheapest-below t,
-  cheapest.Post,
-) (postponed-at t) postponed.Post
-postponed-returns t c = searched-failed _ _ _ _ _ _ _ _ _ _ _ (decided-failed _ _ _ _ _ _ _ (c .before .before .before .before .force .ensures) (c .enum-told .given .1)) (c .before .before .before .before .before .before .before .before .before .before .pre .1 .0)
+postponed-returns : (t : ℕ) → postponed-in t postponed-lts.Need-returns
+postponed-returns t c = search (needs, searched-failed, decided-failed)
 
-postponed-enum-known-forced : (t : ℕ) → postponed-lts.Need-enum-known-forced (
-  force-reads.Asked,
-  force-reads.Learnt,
-  search-below t,
-  search′.Post,
-  cheapest-below t,
-  cheapest.Post,
-) (postponed-at t) postponed.Post
+postponed-enum-known-forced : (t : ℕ) → postponed-in t postponed-lts.Need-enum-known-forced
 postponed-enum-known-forced t c = search needs
 
-postponed-search-requires : (t : ℕ) → postponed-lts.Need-search-requires (
-  force-reads.Asked,
-  force-reads.Learnt,
-  search-below t,
-  search′.Post,
-  cheapest-below t,
-  cheapest.Post,
-) (postponed-at t) postponed.Post
-postponed-search-requires t c κs = let m = decided-next _ _ _ _ _ _ _ (c .before .before .before .before .before .before .before .before .force .ensures) _ (c .before .before .before .before .forced .given .1) in (omega (arith, m .falls), begins-move _ _ _ _ _ _ _ _ _ _ _ _ _ m (c .before .before .before .before .before .before .before .before .before .before .before .before .before .before .pre .1 .0))
+postponed-search-requires : (t : ℕ) → postponed-in t postponed-lts.Need-search-requires
+postponed-search-requires t c κs =
+    let forced : postponed-in t postponed-lts.After-forced = search in
+    let force : postponed-in t postponed-lts.After-force = search in
+    let m = decided-next _ _ _ _ _ _ _ (force .force .ensures) _ (forced .forced .given .1) in
+    search (needs, begins-move)
 
-postponed-same-length-2 : (t : ℕ) → postponed-lts.Need-same-length-2 (
-  force-reads.Asked,
-  force-reads.Learnt,
-  search-below t,
-  search′.Post,
-  cheapest-below t,
-  cheapest.Post,
-) (postponed-at t) postponed.Post
+postponed-same-length-2 : (t : ℕ) → postponed-in t postponed-lts.Need-same-length-2
 postponed-same-length-2 t c = search needs
 
-postponed-same-length-3 : (t : ℕ) → postponed-lts.Need-same-length-3 (
-  force-reads.Asked,
-  force-reads.Learnt,
-  search-below t,
-  search′.Post,
-  cheapest-below t,
-  cheapest.Post,
-) (postponed-at t) postponed.Post
+postponed-same-length-3 : (t : ℕ) → postponed-in t postponed-lts.Need-same-length-3
 postponed-same-length-3 t c = search needs
 
-postponed-same-length-4 : (t : ℕ) → postponed-lts.Need-same-length-4 (
-  force-reads.Asked,
-  force-reads.Learnt,
-  search-below t,
-  search′.Post,
-  cheapest-below t,
-  cheapest.Post,
-) (postponed-at t) postponed.Post
+postponed-same-length-4 : (t : ℕ) → postponed-in t postponed-lts.Need-same-length-4
 postponed-same-length-4 t c = search needs
 
-postponed-returns-2 : (t : ℕ) → postponed-lts.Need-returns-2 (
-  force-reads.Asked,
-  force-reads.Learnt,
-  search-below t,
-  search′.Post,
-  cheapest-below t,
-  cheapest.Post,
-) (postponed-at t) postponed.Post
-postponed-returns-2 t c = let m = decided-next _ _ _ _ _ _ _ (c .before .before .before .before .before .before .before .before .before .before .before .before .before .before .before .force .ensures) _ (c .before .before .before .before .before .before .before .before .before .before .before .forced .given .1) in searched-move _ _ _ _ _ _ _ _ _ _ _ _ _ _ _ _ _ m (c .before .before .before .before .before .before .search .ensures)
+postponed-returns-2 : (t : ℕ) → postponed-in t postponed-lts.Need-returns-2
+postponed-returns-2 t c = search (needs, decided-next, searched-move)
 
-postponed-enum-told-2 : (t : ℕ) → postponed-lts.Need-enum-told-2 (
-  force-reads.Asked,
-  force-reads.Learnt,
-  search-below t,
-  search′.Post,
-  cheapest-below t,
-  cheapest.Post,
-) (postponed-at t) postponed.Post
+postponed-enum-told-2 : (t : ℕ) → postponed-in t postponed-lts.Need-enum-told-2
 postponed-enum-told-2 t c = search needs
 
-postponed-cheapest-requires : (t : ℕ) → postponed-lts.Need-cheapest-requires (
-  force-reads.Asked,
-  force-reads.Learnt,
-  search-below t,
-  search′.Post,
-  cheapest-below t,
-  cheapest.Post,
-) (postponed-at t) postponed.Post
-postponed-cheapest-requires t c κs = let e = decided-open _ _ _ _ _ _ _ (c .before .before .before .before .before .before .before .force .ensures) (c .before .before .before .enum-told2 .given .1) in (omega arith, (begins-open _ _ _ _ _ _ _ _ _ _ e (c .before .before .before .before .before .before .before .before .before .before .before .before .before .pre .1 .0), c .before .before .before .before .before .before .before .before .before .before .before .before .before .pre .1 .1, c .before .before .before .before .before .before .before .before .before .before .before .before .before .pre .1 .2))
+postponed-cheapest-requires : (t : ℕ) → postponed-in t postponed-lts.Need-cheapest-requires
+postponed-cheapest-requires t c κs = search (needs, decided-open, begins-open)
 
-postponed-same-length-5 : (t : ℕ) → postponed-lts.Need-same-length-5 (
-  force-reads.Asked,
-  force-reads.Learnt,
-  search-below t,
-  search′.Post,
-  cheapest-below t,
-  cheapest.Post,
-) (postponed-at t) postponed.Post
+postponed-same-length-5 : (t : ℕ) → postponed-in t postponed-lts.Need-same-length-5
 postponed-same-length-5 t c = search needs
 
-postponed-same-length-6 : (t : ℕ) → postponed-lts.Need-same-length-6 (
-  force-reads.Asked,
-  force-reads.Learnt,
-  search-below t,
-  search′.Post,
-  cheapest-below t,
-  cheapest.Post,
-) (postponed-at t) postponed.Post
+postponed-same-length-6 : (t : ℕ) → postponed-in t postponed-lts.Need-same-length-6
 postponed-same-length-6 t c = search needs
 
-postponed-same-length-7 : (t : ℕ) → postponed-lts.Need-same-length-7 (
-  force-reads.Asked,
-  force-reads.Learnt,
-  search-below t,
-  search′.Post,
-  cheapest-below t,
-  cheapest.Post,
-) (postponed-at t) postponed.Post
+postponed-same-length-7 : (t : ℕ) → postponed-in t postponed-lts.Need-same-length-7
 postponed-same-length-7 t c = search needs
 
-postponed-returns-3 : (t : ℕ) → postponed-lts.Need-returns-3 (
-  force-reads.Asked,
-  force-reads.Learnt,
-  search-below t,
-  search′.Post,
-  cheapest-below t,
-  cheapest.Post,
-) (postponed-at t) postponed.Post
-postponed-returns-3 t c = let e = decided-open _ _ _ _ _ _ _ (c .before .before .before .before .before .before .before .before .before .before .before .before .before .before .force .ensures) (c .before .before .before .before .before .before .before .before .before .before .enum-told2 .given .1) in searched-open _ _ _ _ _ _ _ _ _ _ e _ _ _ _ _ (c .before .before .before .before .before .before .cheapest .ensures)
+postponed-returns-3 : (t : ℕ) → postponed-in t postponed-lts.Need-returns-3
+postponed-returns-3 t c = search (needs, decided-open, searched-open)
 
-search-advance-requires : (t : ℕ) → search-lts.Need-advance-requires (
+abbrev search-in : ℕ → (search-lts.Claims → In 4 search-kinds.ps → Out 4 search-kinds.ps search-kinds.r → Type 0) → Type 0
+search-in t X = X (
   advance-below t,
   advance.Post,
   postponed-below t,
@@ -1359,147 +794,51 @@ search-advance-requires : (t : ℕ) → search-lts.Need-advance-requires (
   found-reads.Asked,
   found-reads.Learnt,
 ) (search-at t) search′.Post
-search-advance-requires t c κs = (omega arith, (c .before .before .before .before .before .before .before .before .before .pre .1, omega (arith, c .before .before .before .if1 .taken)))
 
-search-same-length : (t : ℕ) → search-lts.Need-same-length (
-  advance-below t,
-  advance.Post,
-  postponed-below t,
-  postponed.Post,
-  found-reads.Asked,
-  found-reads.Learnt,
-) (search-at t) search′.Post
+search-advance-requires : (t : ℕ) → search-in t search-lts.Need-advance-requires
+search-advance-requires t c κs = (omega arith, search needs)
+
+search-same-length : (t : ℕ) → search-in t search-lts.Need-same-length
 search-same-length t c = search needs
 
-search-same-length-2 : (t : ℕ) → search-lts.Need-same-length-2 (
-  advance-below t,
-  advance.Post,
-  postponed-below t,
-  postponed.Post,
-  found-reads.Asked,
-  found-reads.Learnt,
-) (search-at t) search′.Post
+search-same-length-2 : (t : ℕ) → search-in t search-lts.Need-same-length-2
 search-same-length-2 t c = search needs
 
-search-same-length-3 : (t : ℕ) → search-lts.Need-same-length-3 (
-  advance-below t,
-  advance.Post,
-  postponed-below t,
-  postponed.Post,
-  found-reads.Asked,
-  found-reads.Learnt,
-) (search-at t) search′.Post
+search-same-length-3 : (t : ℕ) → search-in t search-lts.Need-same-length-3
 search-same-length-3 t c = search needs
 
-search-returns : (t : ℕ) → search-lts.Need-returns (
-  advance-below t,
-  advance.Post,
-  postponed-below t,
-  postponed.Post,
-  found-reads.Asked,
-  found-reads.Learnt,
-) (search-at t) search′.Post
+search-returns : (t : ℕ) → search-in t search-lts.Need-returns
 search-returns t c = search needs
 
-search-postponed-requires : (t : ℕ) → search-lts.Need-postponed-requires (
-  advance-below t,
-  advance.Post,
-  postponed-below t,
-  postponed.Post,
-  found-reads.Asked,
-  found-reads.Learnt,
-) (search-at t) search′.Post
-search-postponed-requires t c κs = (omega arith, (c .before .before .before .before .before .before .before .before .before .before .before .pre .1, omega (arith, c .before .before .before .before .before .if1 .left), omega (arith, c .before .before .before .if2 .taken)))
+search-postponed-requires : (t : ℕ) → search-in t search-lts.Need-postponed-requires
+search-postponed-requires t c κs = (omega arith, search needs)
 
-search-same-length-4 : (t : ℕ) → search-lts.Need-same-length-4 (
-  advance-below t,
-  advance.Post,
-  postponed-below t,
-  postponed.Post,
-  found-reads.Asked,
-  found-reads.Learnt,
-) (search-at t) search′.Post
+search-same-length-4 : (t : ℕ) → search-in t search-lts.Need-same-length-4
 search-same-length-4 t c = search needs
 
-search-same-length-5 : (t : ℕ) → search-lts.Need-same-length-5 (
-  advance-below t,
-  advance.Post,
-  postponed-below t,
-  postponed.Post,
-  found-reads.Asked,
-  found-reads.Learnt,
-) (search-at t) search′.Post
+search-same-length-5 : (t : ℕ) → search-in t search-lts.Need-same-length-5
 search-same-length-5 t c = search needs
 
-search-same-length-6 : (t : ℕ) → search-lts.Need-same-length-6 (
-  advance-below t,
-  advance.Post,
-  postponed-below t,
-  postponed.Post,
-  found-reads.Asked,
-  found-reads.Learnt,
-) (search-at t) search′.Post
+search-same-length-6 : (t : ℕ) → search-in t search-lts.Need-same-length-6
 search-same-length-6 t c = search needs
 
-search-returns-2 : (t : ℕ) → search-lts.Need-returns-2 (
-  advance-below t,
-  advance.Post,
-  postponed-below t,
-  postponed.Post,
-  found-reads.Asked,
-  found-reads.Learnt,
-) (search-at t) search′.Post
+search-returns-2 : (t : ℕ) → search-in t search-lts.Need-returns-2
 search-returns-2 t c = search needs
 
-search-found-requires : (t : ℕ) → search-lts.Need-found-requires (
-  advance-below t,
-  advance.Post,
-  postponed-below t,
-  postponed.Post,
-  found-reads.Asked,
-  found-reads.Learnt,
-) (search-at t) search′.Post
-search-found-requires t c κs = finds _ _ _ _ _ _ _ _ (c .before .before .before .before .before .before .before .before .before .before .before .pre .1)
+search-found-requires : (t : ℕ) → search-in t search-lts.Need-found-requires
+search-found-requires t c κs = search (needs, finds)
 
-search-same-length-7 : (t : ℕ) → search-lts.Need-same-length-7 (
-  advance-below t,
-  advance.Post,
-  postponed-below t,
-  postponed.Post,
-  found-reads.Asked,
-  found-reads.Learnt,
-) (search-at t) search′.Post
+search-same-length-7 : (t : ℕ) → search-in t search-lts.Need-same-length-7
 search-same-length-7 t c = search needs
 
-search-same-length-8 : (t : ℕ) → search-lts.Need-same-length-8 (
-  advance-below t,
-  advance.Post,
-  postponed-below t,
-  postponed.Post,
-  found-reads.Asked,
-  found-reads.Learnt,
-) (search-at t) search′.Post
+search-same-length-8 : (t : ℕ) → search-in t search-lts.Need-same-length-8
 search-same-length-8 t c = search needs
 
-search-same-length-9 : (t : ℕ) → search-lts.Need-same-length-9 (
-  advance-below t,
-  advance.Post,
-  postponed-below t,
-  postponed.Post,
-  found-reads.Asked,
-  found-reads.Learnt,
-) (search-at t) search′.Post
+search-same-length-9 : (t : ℕ) → search-in t search-lts.Need-same-length-9
 search-same-length-9 t c = search needs
 
-search-returns-3 : (t : ℕ) → search-lts.Need-returns-3 (
-  advance-below t,
-  advance.Post,
-  postponed-below t,
-  postponed.Post,
-  found-reads.Asked,
-  found-reads.Learnt,
-) (search-at t) search′.Post
-search-returns-3 t c = searched-found _ _ _ _ _ _ _ _ (c .before .before .before .before .before .before .before .before .before .before .before .before .before .before .before .before .pre .1) _ _ _ (omega (arith, c .before .before .before .before .before .before .before .before .before .before .if1 .left)) (omega (arith, c .before .before .before .before .before .before .before .before .if2 .left)) (c .before .before .before .before .found .ensures)
+search-returns-3 : (t : ℕ) → search-in t search-lts.Need-returns-3
+search-returns-3 t c = search (needs, searched-found)
 
 pub +advance+attempt+attempt-body+bodies+branch+build+cheapest+flexible+postponed+search-spec :
     {M : Type 1} → statement M

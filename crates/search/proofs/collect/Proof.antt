@@ -7,16 +7,21 @@ use Rattle.search.proofs.collect.Statement.{statement}
 use Rattle.search.proofs.collect.Tie as tie
 
 copy-into-requires : tie.Need-copy-into-requires
-copy-into-requires c κs = omega (arith, recipe-short _ _ _ _ _ _ (c .before .before .before .before .before .before .pre), c .before .before .before .before .before .before .pre .area)
+copy-into-requires c κs = omega (arith, recipe-short)
 
 put-item-requires : tie.Need-put-item-requires
-put-item-requires c κs = (omega (arith, recipe-short _ _ _ _ _ _ (c .before .before .before .before .before .before .before .before .before .before .pre), c .before .before .before .before .before .before .before .before .before .before .pre .area, c .before .before .before .copy-into .kept .1 .0), record { part = omega arith; target = omega arith; next = omega arith; argument = omega arith })
+put-item-requires c κs =
+    let copy-into : tie.After-copy-into = search in
+    let start : tie.Start = search in (
+      omega (arith, recipe-short _ _ _ _ _ _ (start .pre), start .pre .area, copy-into .copy-into .kept .1 .0),
+      record { part = omega arith; target = omega arith; next = omega arith; argument = omega arith },
+    )
 
 add-t17 : tie.Need-add-t17
 add-t17 c = search needs
 
 search-requires : tie.Need-search-requires
-search-requires c κs = begins _ _ _ _ _ _ (c .before .before .before .before .before .before .before .before .before .before .before .before .before .before .before .before .pre) _ _ (c .before .before .before .before .before .before .before .before .before .copy-into .ensures) (c .before .before .before .before .before .put-item .ensures)
+search-requires c κs = search (needs, begins)
 
 same-length : tie.Need-same-length
 same-length c = search needs
@@ -28,7 +33,7 @@ same-length-3 : tie.Need-same-length-3
 same-length-3 c = search needs
 
 returns : tie.Need-returns
-returns c = answers _ _ _ _ _ _ (c .before .before .before .before .before .before .before .before .before .before .before .before .before .before .before .before .before .before .before .before .before .before .before .pre) _ _ (c .before .before .before .before .before .before .before .before .before .before .before .before .before .before .before .before .copy-into .ensures) (c .before .before .before .before .before .before .before .before .before .before .before .before .put-item .ensures) _ _ _ _ (c .before .before .before .before .before .before .search .ensures)
+returns c = search (needs, answers)
 
 pub collect-spec : {M : Type 1} → statement M
 collect-spec =

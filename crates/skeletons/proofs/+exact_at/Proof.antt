@@ -1,14 +1,13 @@
--- `skeletons::exact_at` meets its contract. Each branch is one law of walks, with holes split by the term's kind; the measure is what is left
--- of the table. Assumes nothing.
+-- `skeletons::exact_at` meets its contract. Each branch is one law of walks, with holes split by the term's kind; the measure is what is
+-- left of the table. Assumes nothing.
 use Prim.Native.Nat.{_-_}
 use lib.ListN.{length}
-use native.Mathlib.Omega.{arith}
 use Rattle.records.proofs.Parts.{whole-head, whole-body, whole-argument}
 use Rattle.records.proofs.Tests.{walked-ends, walked-app, walked-stop, walked-lam, walked-leaf, walked-no}
 use Rattle.skeletons.proofs.Tests.{exact-two, exact-under, hole-inexact, leaf-exact}
 use borrow.Author.Needs.{needs}
 use Prim.Native.Nat.{ℕ, _<_}
-use borrow.Fn.Kinds.{In}
+use borrow.Fn.Kinds.{In, Out}
 use borrow.Fn.PlainCycle.{Measures, is, falls, and}
 use Rattle.skeletons.proofs.exact_at.Reads as exact-at
 use Rattle.skeletons.proofs.exact_at.Kinds as exact-at-kinds
@@ -26,82 +25,59 @@ abbrev exact-at-below : ℕ → In 1 exact-at-kinds.ps
 exact-at-below t =
     and 1 exact-at-kinds.ps (falls 1 exact-at-kinds.ps _<_ μ-exact-at t) exact-at.Pre
 
-exact-at-shared-slice-read-kind : (t : ℕ) → exact-at-lts.Need-shared-slice-read-kind (
+-- `exact-at-in t X`: the place or the need X of `exact_at`, whose calls within the cycle have a measure below t.
+abbrev exact-at-in : ℕ → (exact-at-lts.Claims → In 1 exact-at-kinds.ps → Out 1 exact-at-kinds.ps exact-at-kinds.r → Type 0) → Type 0
+exact-at-in t X = X (
   exact-at-below t,
   exact-at.Post,
 ) (exact-at-at t) exact-at.Post
+
+exact-at-shared-slice-read-kind : (t : ℕ) → exact-at-in t exact-at-lts.Need-shared-slice-read-kind
 exact-at-shared-slice-read-kind t c = search needs
 
-exact-at-add-exact-at :
-    (t : ℕ) →
-    exact-at-lts.Need-add-exact-at (exact-at-below t, exact-at.Post) (exact-at-at t) exact-at.Post
+exact-at-add-exact-at : (t : ℕ) → exact-at-in t exact-at-lts.Need-add-exact-at
 exact-at-add-exact-at t c = search needs
 
-exact-at-exact-at-requires : (t : ℕ) → exact-at-lts.Need-exact-at-requires (
-  exact-at-below t,
-  exact-at.Post,
-) (exact-at-at t) exact-at.Post
-exact-at-exact-at-requires t c κs = (omega arith, whole-head _ _ (c .before .before .before .before .pre .1) (c .if1 .taken))
+exact-at-exact-at-requires : (t : ℕ) → exact-at-in t exact-at-lts.Need-exact-at-requires
+exact-at-exact-at-requires t c κs = search (needs, whole-head)
 
-exact-at-enum-known-head : (t : ℕ) → exact-at-lts.Need-enum-known-head (
-  exact-at-below t,
-  exact-at.Post,
-) (exact-at-at t) exact-at.Post
+exact-at-enum-known-head : (t : ℕ) → exact-at-in t exact-at-lts.Need-enum-known-head
 exact-at-enum-known-head t c = search needs
 
-exact-at-enum-told :
-    (t : ℕ) →
-    exact-at-lts.Need-enum-told (exact-at-below t, exact-at.Post) (exact-at-at t) exact-at.Post
+exact-at-enum-told : (t : ℕ) → exact-at-in t exact-at-lts.Need-enum-told
 exact-at-enum-told t c = search needs
 
-exact-at-returns :
-    (t : ℕ) →
-    exact-at-lts.Need-returns (exact-at-below t, exact-at.Post) (exact-at-at t) exact-at.Post
-exact-at-returns t c = walked-stop _ _ _ _ _ _ (c .before .before .before .if1 .taken) exact-two (c .enum-told .given .1) (c .before .before .exact-at .ensures)
+exact-at-returns : (t : ℕ) → exact-at-in t exact-at-lts.Need-returns
+exact-at-returns t c =
+    walked-stop _ _ _ _ _ _ (c .before .before .before .if1 .taken) exact-two (c .enum-told .given .1)
+    (c .before .before .exact-at .ensures)
 
-exact-at-exact-at-requires-2 : (t : ℕ) → exact-at-lts.Need-exact-at-requires-2 (
-  exact-at-below t,
-  exact-at.Post,
-) (exact-at-at t) exact-at.Post
-exact-at-exact-at-requires-2 t c κs = let e = walked-ends _ _ _ _ _ (c .before .head .given .1) (c .before .before .before .exact-at .ensures) in
-    (omega (arith, e .more, e .within), whole-argument _ _ _ (c .before .before .before .before .before .before .before .before .pre .1) (c .before .before .before .before .if1 .taken) e)
+exact-at-exact-at-requires-2 : (t : ℕ) → exact-at-in t exact-at-lts.Need-exact-at-requires-2
+exact-at-exact-at-requires-2 t c κs =
+    let exact-at-point : exact-at-in t exact-at-lts.After-exact-at = search in
+    let e = walked-ends _ _ _ _ _ (c .before .head .given .1) (exact-at-point .exact-at .ensures) in
+    search (needs, whole-argument)
 
-exact-at-returns-2 :
-    (t : ℕ) →
-    exact-at-lts.Need-returns-2 (exact-at-below t, exact-at.Post) (exact-at-at t) exact-at.Post
-exact-at-returns-2 t c = walked-app _ _ _ _ _ _ _ _ (c .before .before .before .before .before .if1 .taken) exact-two (c .before .before .head .given .1) (c .before .before .before .before .exact-at .ensures) (c .exact-at2 .ensures)
+exact-at-returns-2 : (t : ℕ) → exact-at-in t exact-at-lts.Need-returns-2
+exact-at-returns-2 t c = search (needs, walked-app, exact-two)
 
-exact-at-add-exact-at-2 : (t : ℕ) → exact-at-lts.Need-add-exact-at-2 (
-  exact-at-below t,
-  exact-at.Post,
-) (exact-at-at t) exact-at.Post
+exact-at-add-exact-at-2 : (t : ℕ) → exact-at-in t exact-at-lts.Need-add-exact-at-2
 exact-at-add-exact-at-2 t c = search needs
 
-exact-at-exact-at-requires-3 : (t : ℕ) → exact-at-lts.Need-exact-at-requires-3 (
-  exact-at-below t,
-  exact-at.Post,
-) (exact-at-at t) exact-at.Post
-exact-at-exact-at-requires-3 t c κs = (omega arith, whole-body _ _ (c .before .before .before .before .before .before .pre .1) (c .if2 .taken))
+exact-at-exact-at-requires-3 : (t : ℕ) → exact-at-in t exact-at-lts.Need-exact-at-requires-3
+exact-at-exact-at-requires-3 t c κs = search (needs, whole-body)
 
-exact-at-returns-3 :
-    (t : ℕ) →
-    exact-at-lts.Need-returns-3 (exact-at-below t, exact-at.Post) (exact-at-at t) exact-at.Post
-exact-at-returns-3 t c = walked-lam _ _ _ _ _ (c .before .if2 .taken) exact-under (c .exact-at3 .ensures)
+exact-at-returns-3 : (t : ℕ) → exact-at-in t exact-at-lts.Need-returns-3
+exact-at-returns-3 t c = search (needs, walked-lam, exact-under)
 
-exact-at-returns-4 :
-    (t : ℕ) →
-    exact-at-lts.Need-returns-4 (exact-at-below t, exact-at.Post) (exact-at-at t) exact-at.Post
+exact-at-returns-4 : (t : ℕ) → exact-at-in t exact-at-lts.Need-returns-4
 exact-at-returns-4 t c = walked-no _ _ _ (hole-inexact _ _ (c .if3 .taken))
 
-exact-at-add-t12 :
-    (t : ℕ) →
-    exact-at-lts.Need-add-t12 (exact-at-below t, exact-at.Post) (exact-at-at t) exact-at.Post
+exact-at-add-t12 : (t : ℕ) → exact-at-in t exact-at-lts.Need-add-t12
 exact-at-add-t12 t c = search needs
 
-exact-at-returns-5 :
-    (t : ℕ) →
-    exact-at-lts.Need-returns-5 (exact-at-below t, exact-at.Post) (exact-at-at t) exact-at.Post
-exact-at-returns-5 t c = walked-leaf _ _ _ (c .before .before .before .before .before .before .before .before .pre .1) (c .before .before .before .before .if1 .left) (c .before .before .if2 .left) (leaf-exact _ _ (c .before .before .before .before .if1 .left) (c .before .before .if2 .left) (c .if3 .left))
+exact-at-returns-5 : (t : ℕ) → exact-at-in t exact-at-lts.Need-returns-5
+exact-at-returns-5 t c = search (needs, walked-leaf, leaf-exact)
 
 pub +exact-at-spec : {M : Type 1} → statement M
 +exact-at-spec =

@@ -1,12 +1,14 @@
--- `skeleton`, `skeleton_application` and `skeleton_abstraction` of `skeletons` meet their contracts. The skeleton of a part follows from those of
--- its own parts, whose tables are shorter; the measure is the table's length. Assumes nothing.
+-- `skeleton`, `skeleton_application` and `skeleton_abstraction` of `skeletons` meet their contracts. The skeleton of a part follows from
+-- those of its own parts, whose tables are shorter; the measure is the table's length. Assumes nothing.
 use Prim.Native.Nat.{_+_, _*_}
 use lib.ListN.{length}
 use native.Mathlib.Omega.{arith}
-use Rattle.skeletons.proofs.Outlines.{outlinable-head, outlinable-argument, outlinable-body, outlinable-tree, result-within, head-no-hole, parts-applied, outlined-application, part-abstracted, outlined-abstraction, variable-known, outlined-variable, leaf-length, outlined-leaf}
+use Rattle.skeletons.proofs.Outlines.{outlinable-head, outlinable-argument, outlinable-body, result-within}
+use Rattle.skeletons.proofs.Outlines.{head-no-hole, parts-applied, outlined-application, part-abstracted, outlined-abstraction}
+use Rattle.skeletons.proofs.Outlines.{variable-known, outlined-variable, leaf-length, outlined-leaf}
 use borrow.Author.Needs.{needs}
 use Prim.Native.Nat.{ℕ, _<_}
-use borrow.Fn.Kinds.{In}
+use borrow.Fn.Kinds.{In, Out}
 use borrow.Fn.PlainCycle.{Measures, is, falls, and}
 use Rattle.skeletons.proofs.skeleton.Reads as skeleton
 use Rattle.skeletons.proofs.skeleton.Kinds as skeleton-kinds
@@ -25,7 +27,7 @@ use Rattle.skeletons.proofs.abstract_over.Reads as abstract-over-reads
 use Rattle.skeletons.proofs.apply.Reads as apply-reads
 use Rattle.skeletons.proofs.hole_for.Reads as hole-for-reads
 use Rattle.skeletons.proofs.skeleton_variable.Reads as skeleton-variable-reads
-use Rattle.sweeping.proofs.copy_into.Reads as copy-into-reads
+use Rattle.copying.proofs.copy_into.Reads as copy-into-reads
 use Rattle.skeletons.proofs.+skeleton+skeleton_abstraction+skeleton_application.{statement}
 use Rattle.skeletons.proofs.+skeleton+skeleton_abstraction+skeleton_application.Tie.{close}
 
@@ -77,7 +79,9 @@ skeleton-application-below t =
     (falls 3 skeleton-application-kinds.ps _<_ μ-skeleton-application t)
     skeleton-application.Pre
 
-skeleton-shared-slice-read-kind : (t : ℕ) → skeleton-lts.Need-shared-slice-read-kind (
+-- `skeleton-in t X`: the place or the need X of `skeleton`, whose calls within the cycle have a measure below t.
+abbrev skeleton-in : ℕ → (skeleton-lts.Claims → In 3 skeleton-kinds.ps → Out 3 skeleton-kinds.ps skeleton-kinds.r → Type 0) → Type 0
+skeleton-in t X = X (
   skeleton-application-below t,
   skeleton-application.Post,
   skeleton-abstraction-below t,
@@ -89,135 +93,47 @@ skeleton-shared-slice-read-kind : (t : ℕ) → skeleton-lts.Need-shared-slice-r
   copy-into-reads.Asked,
   copy-into-reads.Learnt,
 ) (skeleton-at t) skeleton.Post
+
+skeleton-shared-slice-read-kind : (t : ℕ) → skeleton-in t skeleton-lts.Need-shared-slice-read-kind
 skeleton-shared-slice-read-kind t c = search needs
 
-skeleton-skeleton-application-requires : (t : ℕ) → skeleton-lts.Need-skeleton-application-requires (
-  skeleton-application-below t,
-  skeleton-application.Post,
-  skeleton-abstraction-below t,
-  skeleton-abstraction.Post,
-  number-at-reads.Asked,
-  number-at-reads.Learnt,
-  skeleton-variable-reads.Asked,
-  skeleton-variable-reads.Learnt,
-  copy-into-reads.Asked,
-  copy-into-reads.Learnt,
-) (skeleton-at t) skeleton.Post
-skeleton-skeleton-application-requires t c κs = (omega arith, (c .before .before .before .before .before .before .pre .1, c .before .if1 .taken))
+skeleton-skeleton-application-requires : (t : ℕ) → skeleton-in t skeleton-lts.Need-skeleton-application-requires
+skeleton-skeleton-application-requires t c κs = search needs
 
-skeleton-returns : (t : ℕ) → skeleton-lts.Need-returns (
-  skeleton-application-below t,
-  skeleton-application.Post,
-  skeleton-abstraction-below t,
-  skeleton-abstraction.Post,
-  number-at-reads.Asked,
-  number-at-reads.Learnt,
-  skeleton-variable-reads.Asked,
-  skeleton-variable-reads.Learnt,
-  copy-into-reads.Asked,
-  copy-into-reads.Learnt,
-) (skeleton-at t) skeleton.Post
+skeleton-returns : (t : ℕ) → skeleton-in t skeleton-lts.Need-returns
 skeleton-returns t c = c .skeleton-application .ensures
 
-skeleton-skeleton-abstraction-requires : (t : ℕ) → skeleton-lts.Need-skeleton-abstraction-requires (
-  skeleton-application-below t,
-  skeleton-application.Post,
-  skeleton-abstraction-below t,
-  skeleton-abstraction.Post,
-  number-at-reads.Asked,
-  number-at-reads.Learnt,
-  skeleton-variable-reads.Asked,
-  skeleton-variable-reads.Learnt,
-  copy-into-reads.Asked,
-  copy-into-reads.Learnt,
-) (skeleton-at t) skeleton.Post
-skeleton-skeleton-abstraction-requires t c κs = (omega arith, (c .before .before .before .before .before .before .before .before .pre .1, c .before .if2 .taken))
+skeleton-skeleton-abstraction-requires : (t : ℕ) → skeleton-in t skeleton-lts.Need-skeleton-abstraction-requires
+skeleton-skeleton-abstraction-requires t c κs = search needs
 
-skeleton-returns-2 : (t : ℕ) → skeleton-lts.Need-returns-2 (
-  skeleton-application-below t,
-  skeleton-application.Post,
-  skeleton-abstraction-below t,
-  skeleton-abstraction.Post,
-  number-at-reads.Asked,
-  number-at-reads.Learnt,
-  skeleton-variable-reads.Asked,
-  skeleton-variable-reads.Learnt,
-  copy-into-reads.Asked,
-  copy-into-reads.Learnt,
-) (skeleton-at t) skeleton.Post
+skeleton-returns-2 : (t : ℕ) → skeleton-in t skeleton-lts.Need-returns-2
 skeleton-returns-2 t c = c .skeleton-abstraction .ensures
 
-skeleton-number-at-requires : (t : ℕ) → skeleton-lts.Need-number-at-requires (
-  skeleton-application-below t,
-  skeleton-application.Post,
-  skeleton-abstraction-below t,
-  skeleton-abstraction.Post,
-  number-at-reads.Asked,
-  number-at-reads.Learnt,
-  skeleton-variable-reads.Asked,
-  skeleton-variable-reads.Learnt,
-  copy-into-reads.Asked,
-  copy-into-reads.Learnt,
-) (skeleton-at t) skeleton.Post
+skeleton-number-at-requires : (t : ℕ) → skeleton-in t skeleton-lts.Need-number-at-requires
 skeleton-number-at-requires t c κs = search needs
 
-skeleton-skeleton-variable-requires : (t : ℕ) → skeleton-lts.Need-skeleton-variable-requires (
-  skeleton-application-below t,
-  skeleton-application.Post,
-  skeleton-abstraction-below t,
-  skeleton-abstraction.Post,
-  number-at-reads.Asked,
-  number-at-reads.Learnt,
-  skeleton-variable-reads.Asked,
-  skeleton-variable-reads.Learnt,
-  copy-into-reads.Asked,
-  copy-into-reads.Learnt,
-) (skeleton-at t) skeleton.Post
-skeleton-skeleton-variable-requires t c κs = variable-known _ _ _ _ (c .before .before .if3 .taken) (c .before .number-at .ensures .0) (c .before .before .before .before .before .before .before .before .before .before .before .pre .1)
+skeleton-skeleton-variable-requires : (t : ℕ) → skeleton-in t skeleton-lts.Need-skeleton-variable-requires
+skeleton-skeleton-variable-requires t c κs = search (needs, variable-known)
 
-skeleton-returns-3 : (t : ℕ) → skeleton-lts.Need-returns-3 (
-  skeleton-application-below t,
-  skeleton-application.Post,
-  skeleton-abstraction-below t,
-  skeleton-abstraction.Post,
-  number-at-reads.Asked,
-  number-at-reads.Learnt,
-  skeleton-variable-reads.Asked,
-  skeleton-variable-reads.Learnt,
-  copy-into-reads.Asked,
-  copy-into-reads.Learnt,
-) (skeleton-at t) skeleton.Post
-skeleton-returns-3 t c = outlined-variable _ _ _ _ (c .before .before .before .if3 .taken) (c .before .before .number-at .ensures .0) _ _ _ (c .skeleton-variable .ensures)
+skeleton-returns-3 : (t : ℕ) → skeleton-in t skeleton-lts.Need-returns-3
+skeleton-returns-3 t c = search (needs, outlined-variable)
 
-skeleton-copy-into-requires : (t : ℕ) → skeleton-lts.Need-copy-into-requires (
-  skeleton-application-below t,
-  skeleton-application.Post,
-  skeleton-abstraction-below t,
-  skeleton-abstraction.Post,
-  number-at-reads.Asked,
-  number-at-reads.Learnt,
-  skeleton-variable-reads.Asked,
-  skeleton-variable-reads.Learnt,
-  copy-into-reads.Asked,
-  copy-into-reads.Learnt,
-) (skeleton-at t) skeleton.Post
-skeleton-copy-into-requires t c κs = omega (arith, leaf-length _ _ _ (c .before .before .before .before .before .if1 .left) (c .before .before .before .if2 .left) (c .before .before .before .before .before .before .before .before .before .before .pre .1))
+skeleton-copy-into-requires : (t : ℕ) → skeleton-in t skeleton-lts.Need-copy-into-requires
+skeleton-copy-into-requires t c κs =
+    let else2 : skeleton-in t skeleton-lts.Else2 = search in
+    let else1 : skeleton-in t skeleton-lts.Else1 = search in
+    let start : skeleton-in t skeleton-lts.Start = search in
+    omega (arith, leaf-length _ _ _ (else1 .if1 .left) (else2 .if2 .left) (start .pre .1))
 
-skeleton-returns-4 : (t : ℕ) → skeleton-lts.Need-returns-4 (
-  skeleton-application-below t,
-  skeleton-application.Post,
-  skeleton-abstraction-below t,
-  skeleton-abstraction.Post,
-  number-at-reads.Asked,
-  number-at-reads.Learnt,
-  skeleton-variable-reads.Asked,
-  skeleton-variable-reads.Learnt,
-  copy-into-reads.Asked,
-  copy-into-reads.Learnt,
-) (skeleton-at t) skeleton.Post
-skeleton-returns-4 t c = outlined-leaf _ _ _ (c .before .before .before .before .before .before .if1 .left) (c .before .before .before .before .if2 .left) _ _ (c .before .before .if3 .left) (c .copy-into .ensures)
+skeleton-returns-4 : (t : ℕ) → skeleton-in t skeleton-lts.Need-returns-4
+skeleton-returns-4 t c = search (needs, outlined-leaf)
 
-skeleton-abstraction-body-of-requires : (t : ℕ) → skeleton-abstraction-lts.Need-body-of-requires (
+abbrev skeleton-abstraction-in :
+    ℕ →
+    (skeleton-abstraction-lts.Claims → In 3 skeleton-abstraction-kinds.ps → Out 3 skeleton-abstraction-kinds.ps
+    skeleton-abstraction-kinds.r → Type 0) →
+    Type 0
+skeleton-abstraction-in t X = X (
   body-of-reads.Asked,
   body-of-reads.Learnt,
   skeleton-below t,
@@ -225,82 +141,37 @@ skeleton-abstraction-body-of-requires : (t : ℕ) → skeleton-abstraction-lts.N
   abstract-over-reads.Asked,
   abstract-over-reads.Learnt,
 ) (skeleton-abstraction-at t) skeleton-abstraction.Post
-skeleton-abstraction-body-of-requires t c κs = (outlinable-tree _ _ _ (c .before .before .pre .1 .0), c .before .before .pre .1 .1)
 
-skeleton-abstraction-skeleton-requires : (t : ℕ) → skeleton-abstraction-lts.Need-skeleton-requires (
-  body-of-reads.Asked,
-  body-of-reads.Learnt,
-  skeleton-below t,
-  skeleton.Post,
-  abstract-over-reads.Asked,
-  abstract-over-reads.Learnt,
-) (skeleton-abstraction-at t) skeleton-abstraction.Post
-skeleton-abstraction-skeleton-requires t c κs = (omega (arith, c .before .body-of .ensures .0 .shorter), outlinable-body _ _ _ _ (c .before .before .before .before .pre .1 .0) (c .before .before .before .before .pre .1 .1) (c .before .body-of .ensures .1))
+skeleton-abstraction-body-of-requires : (t : ℕ) → skeleton-abstraction-in t skeleton-abstraction-lts.Need-body-of-requires
+skeleton-abstraction-body-of-requires t c κs = search needs
 
-skeleton-abstraction-mul-n : (t : ℕ) → skeleton-abstraction-lts.Need-mul-n (
-  body-of-reads.Asked,
-  body-of-reads.Learnt,
-  skeleton-below t,
-  skeleton.Post,
-  abstract-over-reads.Asked,
-  abstract-over-reads.Learnt,
-) (skeleton-abstraction-at t) skeleton-abstraction.Post
+skeleton-abstraction-skeleton-requires : (t : ℕ) → skeleton-abstraction-in t skeleton-abstraction-lts.Need-skeleton-requires
+skeleton-abstraction-skeleton-requires t c κs = search (needs, outlinable-body)
+
+skeleton-abstraction-mul-n : (t : ℕ) → skeleton-abstraction-in t skeleton-abstraction-lts.Need-mul-n
 skeleton-abstraction-mul-n t c = search needs
 
-skeleton-abstraction-sub-abstract-over : (t : ℕ) → skeleton-abstraction-lts.Need-sub-abstract-over (
-  body-of-reads.Asked,
-  body-of-reads.Learnt,
-  skeleton-below t,
-  skeleton.Post,
-  abstract-over-reads.Asked,
-  abstract-over-reads.Learnt,
-) (skeleton-abstraction-at t) skeleton-abstraction.Post
+skeleton-abstraction-sub-abstract-over : (t : ℕ) → skeleton-abstraction-in t skeleton-abstraction-lts.Need-sub-abstract-over
 skeleton-abstraction-sub-abstract-over t c = search needs
 
-skeleton-abstraction-part-abstract-over-start :
-    (t : ℕ) → skeleton-abstraction-lts.Need-part-abstract-over-start (
-      body-of-reads.Asked,
-      body-of-reads.Learnt,
-      skeleton-below t,
-      skeleton.Post,
-      abstract-over-reads.Asked,
-      abstract-over-reads.Learnt,
-    ) (skeleton-abstraction-at t) skeleton-abstraction.Post
+skeleton-abstraction-part-abstract-over-start : (t : ℕ) → skeleton-abstraction-in t skeleton-abstraction-lts.Need-part-abstract-over-start
 skeleton-abstraction-part-abstract-over-start t c = search needs
 
-skeleton-abstraction-part-abstract-over-end :
-    (t : ℕ) → skeleton-abstraction-lts.Need-part-abstract-over-end (
-      body-of-reads.Asked,
-      body-of-reads.Learnt,
-      skeleton-below t,
-      skeleton.Post,
-      abstract-over-reads.Asked,
-      abstract-over-reads.Learnt,
-    ) (skeleton-abstraction-at t) skeleton-abstraction.Post
-skeleton-abstraction-part-abstract-over-end t c = result-within _ _ _ _ _ _ (c .before .skeleton .ensures) (omega arith) (outlinable-body _ _ _ _ (c .before .before .before .before .before .before .pre .1 .0) (c .before .before .before .before .before .before .pre .1 .1) (c .before .before .before .body-of .ensures .1))
+skeleton-abstraction-part-abstract-over-end : (t : ℕ) → skeleton-abstraction-in t skeleton-abstraction-lts.Need-part-abstract-over-end
+skeleton-abstraction-part-abstract-over-end t c = search (needs, result-within, outlinable-body)
 
-skeleton-abstraction-abstract-over-requires :
-    (t : ℕ) → skeleton-abstraction-lts.Need-abstract-over-requires (
-      body-of-reads.Asked,
-      body-of-reads.Learnt,
-      skeleton-below t,
-      skeleton.Post,
-      abstract-over-reads.Asked,
-      abstract-over-reads.Learnt,
-    ) (skeleton-abstraction-at t) skeleton-abstraction.Post
-skeleton-abstraction-abstract-over-requires t c κs = part-abstracted _ _ _ (c .before .before .before .before .before .before .before .before .pre .1 .1) _ (c .before .before .before .before .before .body-of .ensures .1) _ _ _ (c .before .before .before .skeleton .ensures) (omega arith) (c .before .before .before .before .before .before .before .before .pre .1 .0)
+skeleton-abstraction-abstract-over-requires : (t : ℕ) → skeleton-abstraction-in t skeleton-abstraction-lts.Need-abstract-over-requires
+skeleton-abstraction-abstract-over-requires t c κs = search (needs, part-abstracted)
 
-skeleton-abstraction-returns : (t : ℕ) → skeleton-abstraction-lts.Need-returns (
-  body-of-reads.Asked,
-  body-of-reads.Learnt,
-  skeleton-below t,
-  skeleton.Post,
-  abstract-over-reads.Asked,
-  abstract-over-reads.Learnt,
-) (skeleton-abstraction-at t) skeleton-abstraction.Post
-skeleton-abstraction-returns t c = outlined-abstraction _ _ _ (c .before .before .before .before .before .before .before .before .before .pre .1 .1) _ (c .before .before .before .before .before .before .body-of .ensures .1) _ _ _ (c .before .before .before .before .skeleton .ensures) (omega arith) _ _ _ (c .abstract-over .ensures)
+skeleton-abstraction-returns : (t : ℕ) → skeleton-abstraction-in t skeleton-abstraction-lts.Need-returns
+skeleton-abstraction-returns t c = search (needs, outlined-abstraction)
 
-skeleton-application-head-of-requires : (t : ℕ) → skeleton-application-lts.Need-head-of-requires (
+abbrev skeleton-application-in :
+    ℕ →
+    (skeleton-application-lts.Claims → In 3 skeleton-application-kinds.ps → Out 3 skeleton-application-kinds.ps
+    skeleton-application-kinds.r → Type 0) →
+    Type 0
+skeleton-application-in t X = X (
   head-of-reads.Asked,
   head-of-reads.Learnt,
   skeleton-below t,
@@ -312,234 +183,57 @@ skeleton-application-head-of-requires : (t : ℕ) → skeleton-application-lts.N
   apply-reads.Asked,
   apply-reads.Learnt,
 ) (skeleton-application-at t) skeleton-application.Post
-skeleton-application-head-of-requires t c κs = (outlinable-tree _ _ _ (c .before .before .pre .1 .0), c .before .before .pre .1 .1)
 
-skeleton-application-skeleton-requires : (t : ℕ) → skeleton-application-lts.Need-skeleton-requires (
-  head-of-reads.Asked,
-  head-of-reads.Learnt,
-  skeleton-below t,
-  skeleton.Post,
-  hole-for-reads.Asked,
-  hole-for-reads.Learnt,
-  argument-of-reads.Asked,
-  argument-of-reads.Learnt,
-  apply-reads.Asked,
-  apply-reads.Learnt,
-) (skeleton-application-at t) skeleton-application.Post
-skeleton-application-skeleton-requires t c κs = (omega (arith, c .before .head-of .ensures .0 .shorter), outlinable-head _ _ _ _ (c .before .before .before .before .pre .1 .0) (c .before .before .before .before .pre .1 .1) (c .before .head-of .ensures .1))
+skeleton-application-head-of-requires : (t : ℕ) → skeleton-application-in t skeleton-application-lts.Need-head-of-requires
+skeleton-application-head-of-requires t c κs = search needs
 
-skeleton-application-array-read-if1 : (t : ℕ) → skeleton-application-lts.Need-array-read-if1 (
-  head-of-reads.Asked,
-  head-of-reads.Learnt,
-  skeleton-below t,
-  skeleton.Post,
-  hole-for-reads.Asked,
-  hole-for-reads.Learnt,
-  argument-of-reads.Asked,
-  argument-of-reads.Learnt,
-  apply-reads.Asked,
-  apply-reads.Learnt,
-) (skeleton-application-at t) skeleton-application.Post
+skeleton-application-skeleton-requires : (t : ℕ) → skeleton-application-in t skeleton-application-lts.Need-skeleton-requires
+skeleton-application-skeleton-requires t c κs = search (needs, outlinable-head)
+
+skeleton-application-array-read-if1 : (t : ℕ) → skeleton-application-in t skeleton-application-lts.Need-array-read-if1
 skeleton-application-array-read-if1 t c = search needs
 
-skeleton-application-hole-for-requires : (t : ℕ) → skeleton-application-lts.Need-hole-for-requires (
-  head-of-reads.Asked,
-  head-of-reads.Learnt,
-  skeleton-below t,
-  skeleton.Post,
-  hole-for-reads.Asked,
-  hole-for-reads.Learnt,
-  argument-of-reads.Asked,
-  argument-of-reads.Learnt,
-  apply-reads.Asked,
-  apply-reads.Learnt,
-) (skeleton-application-at t) skeleton-application.Post
-skeleton-application-hole-for-requires t c κs = (outlinable-tree _ _ _ (c .before .before .before .before .before .before .before .before .pre .1 .0), c .before .before .before .before .before .before .before .before .pre .1 .0 .most)
+skeleton-application-hole-for-requires : (t : ℕ) → skeleton-application-in t skeleton-application-lts.Need-hole-for-requires
+skeleton-application-hole-for-requires t c κs = search needs
 
-skeleton-application-returns : (t : ℕ) → skeleton-application-lts.Need-returns (
-  head-of-reads.Asked,
-  head-of-reads.Learnt,
-  skeleton-below t,
-  skeleton.Post,
-  hole-for-reads.Asked,
-  hole-for-reads.Learnt,
-  argument-of-reads.Asked,
-  argument-of-reads.Learnt,
-  apply-reads.Asked,
-  apply-reads.Learnt,
-) (skeleton-application-at t) skeleton-application.Post
+skeleton-application-returns : (t : ℕ) → skeleton-application-in t skeleton-application-lts.Need-returns
 skeleton-application-returns t c = c .hole-for .ensures _ _
 
-skeleton-application-argument-of-requires :
-    (t : ℕ) → skeleton-application-lts.Need-argument-of-requires (
-      head-of-reads.Asked,
-      head-of-reads.Learnt,
-      skeleton-below t,
-      skeleton.Post,
-      hole-for-reads.Asked,
-      hole-for-reads.Learnt,
-      argument-of-reads.Asked,
-      argument-of-reads.Learnt,
-      apply-reads.Asked,
-      apply-reads.Learnt,
-    ) (skeleton-application-at t) skeleton-application.Post
-skeleton-application-argument-of-requires t c κs = (outlinable-tree _ _ _ (c .before .before .before .before .before .before .before .pre .1 .0), c .before .before .before .before .before .before .before .pre .1 .1)
+skeleton-application-argument-of-requires : (t : ℕ) → skeleton-application-in t skeleton-application-lts.Need-argument-of-requires
+skeleton-application-argument-of-requires t c κs = search needs
 
-skeleton-application-skeleton-requires-2 :
-    (t : ℕ) → skeleton-application-lts.Need-skeleton-requires-2 (
-      head-of-reads.Asked,
-      head-of-reads.Learnt,
-      skeleton-below t,
-      skeleton.Post,
-      hole-for-reads.Asked,
-      hole-for-reads.Learnt,
-      argument-of-reads.Asked,
-      argument-of-reads.Learnt,
-      apply-reads.Asked,
-      apply-reads.Learnt,
-    ) (skeleton-application-at t) skeleton-application.Post
-skeleton-application-skeleton-requires-2 t c κs = (omega (arith, c .before .argument-of .ensures .0 .shorter), outlinable-argument _ _ _ _ (c .before .before .before .before .before .before .before .before .before .pre .1 .0) (c .before .before .before .before .before .before .before .before .before .pre .1 .1) (c .before .argument-of .ensures .1))
+skeleton-application-skeleton-requires-2 : (t : ℕ) → skeleton-application-in t skeleton-application-lts.Need-skeleton-requires-2
+skeleton-application-skeleton-requires-2 t c κs = search (needs, outlinable-argument)
 
-skeleton-application-mul-n : (t : ℕ) → skeleton-application-lts.Need-mul-n (
-  head-of-reads.Asked,
-  head-of-reads.Learnt,
-  skeleton-below t,
-  skeleton.Post,
-  hole-for-reads.Asked,
-  hole-for-reads.Learnt,
-  argument-of-reads.Asked,
-  argument-of-reads.Learnt,
-  apply-reads.Asked,
-  apply-reads.Learnt,
-) (skeleton-application-at t) skeleton-application.Post
+skeleton-application-mul-n : (t : ℕ) → skeleton-application-in t skeleton-application-lts.Need-mul-n
 skeleton-application-mul-n t c = search needs
 
-skeleton-application-mul-m : (t : ℕ) → skeleton-application-lts.Need-mul-m (
-  head-of-reads.Asked,
-  head-of-reads.Learnt,
-  skeleton-below t,
-  skeleton.Post,
-  hole-for-reads.Asked,
-  hole-for-reads.Learnt,
-  argument-of-reads.Asked,
-  argument-of-reads.Learnt,
-  apply-reads.Asked,
-  apply-reads.Learnt,
-) (skeleton-application-at t) skeleton-application.Post
+skeleton-application-mul-m : (t : ℕ) → skeleton-application-in t skeleton-application-lts.Need-mul-m
 skeleton-application-mul-m t c = search needs
 
-skeleton-application-sub-apply : (t : ℕ) → skeleton-application-lts.Need-sub-apply (
-  head-of-reads.Asked,
-  head-of-reads.Learnt,
-  skeleton-below t,
-  skeleton.Post,
-  hole-for-reads.Asked,
-  hole-for-reads.Learnt,
-  argument-of-reads.Asked,
-  argument-of-reads.Learnt,
-  apply-reads.Asked,
-  apply-reads.Learnt,
-) (skeleton-application-at t) skeleton-application.Post
+skeleton-application-sub-apply : (t : ℕ) → skeleton-application-in t skeleton-application-lts.Need-sub-apply
 skeleton-application-sub-apply t c = search needs
 
-skeleton-application-part-apply-start : (t : ℕ) → skeleton-application-lts.Need-part-apply-start (
-  head-of-reads.Asked,
-  head-of-reads.Learnt,
-  skeleton-below t,
-  skeleton.Post,
-  hole-for-reads.Asked,
-  hole-for-reads.Learnt,
-  argument-of-reads.Asked,
-  argument-of-reads.Learnt,
-  apply-reads.Asked,
-  apply-reads.Learnt,
-) (skeleton-application-at t) skeleton-application.Post
+skeleton-application-part-apply-start : (t : ℕ) → skeleton-application-in t skeleton-application-lts.Need-part-apply-start
 skeleton-application-part-apply-start t c = search needs
 
-skeleton-application-part-apply-end : (t : ℕ) → skeleton-application-lts.Need-part-apply-end (
-  head-of-reads.Asked,
-  head-of-reads.Learnt,
-  skeleton-below t,
-  skeleton.Post,
-  hole-for-reads.Asked,
-  hole-for-reads.Learnt,
-  argument-of-reads.Asked,
-  argument-of-reads.Learnt,
-  apply-reads.Asked,
-  apply-reads.Learnt,
-) (skeleton-application-at t) skeleton-application.Post
-skeleton-application-part-apply-end t c = result-within _ _ _ _ _ _ (c .before .before .before .before .before .before .skeleton .ensures) (omega arith) (outlinable-head _ _ _ _ (c .before .before .before .before .before .before .before .before .before .before .before .pre .1 .0) (c .before .before .before .before .before .before .before .before .before .before .before .pre .1 .1) (c .before .before .before .before .before .before .before .before .head-of .ensures .1))
+skeleton-application-part-apply-end : (t : ℕ) → skeleton-application-in t skeleton-application-lts.Need-part-apply-end
+skeleton-application-part-apply-end t c = search (needs, result-within, outlinable-head)
 
-skeleton-application-sub-apply-2 : (t : ℕ) → skeleton-application-lts.Need-sub-apply-2 (
-  head-of-reads.Asked,
-  head-of-reads.Learnt,
-  skeleton-below t,
-  skeleton.Post,
-  hole-for-reads.Asked,
-  hole-for-reads.Learnt,
-  argument-of-reads.Asked,
-  argument-of-reads.Learnt,
-  apply-reads.Asked,
-  apply-reads.Learnt,
-) (skeleton-application-at t) skeleton-application.Post
+skeleton-application-sub-apply-2 : (t : ℕ) → skeleton-application-in t skeleton-application-lts.Need-sub-apply-2
 skeleton-application-sub-apply-2 t c = search needs
 
-skeleton-application-part-apply-start-2 :
-    (t : ℕ) → skeleton-application-lts.Need-part-apply-start-2 (
-      head-of-reads.Asked,
-      head-of-reads.Learnt,
-      skeleton-below t,
-      skeleton.Post,
-      hole-for-reads.Asked,
-      hole-for-reads.Learnt,
-      argument-of-reads.Asked,
-      argument-of-reads.Learnt,
-      apply-reads.Asked,
-      apply-reads.Learnt,
-    ) (skeleton-application-at t) skeleton-application.Post
+skeleton-application-part-apply-start-2 : (t : ℕ) → skeleton-application-in t skeleton-application-lts.Need-part-apply-start-2
 skeleton-application-part-apply-start-2 t c = search needs
 
-skeleton-application-part-apply-end-2 : (t : ℕ) → skeleton-application-lts.Need-part-apply-end-2 (
-  head-of-reads.Asked,
-  head-of-reads.Learnt,
-  skeleton-below t,
-  skeleton.Post,
-  hole-for-reads.Asked,
-  hole-for-reads.Learnt,
-  argument-of-reads.Asked,
-  argument-of-reads.Learnt,
-  apply-reads.Asked,
-  apply-reads.Learnt,
-) (skeleton-application-at t) skeleton-application.Post
-skeleton-application-part-apply-end-2 t c = result-within _ _ _ _ _ _ (c .before .before .before .skeleton2 .ensures) (omega arith) (outlinable-argument _ _ _ _ (c .before .before .before .before .before .before .before .before .before .before .before .before .before .pre .1 .0) (c .before .before .before .before .before .before .before .before .before .before .before .before .before .pre .1 .1) (c .before .before .before .before .before .argument-of .ensures .1))
+skeleton-application-part-apply-end-2 : (t : ℕ) → skeleton-application-in t skeleton-application-lts.Need-part-apply-end-2
+skeleton-application-part-apply-end-2 t c = search (needs, result-within, outlinable-argument)
 
-skeleton-application-apply-requires : (t : ℕ) → skeleton-application-lts.Need-apply-requires (
-  head-of-reads.Asked,
-  head-of-reads.Learnt,
-  skeleton-below t,
-  skeleton.Post,
-  hole-for-reads.Asked,
-  hole-for-reads.Learnt,
-  argument-of-reads.Asked,
-  argument-of-reads.Learnt,
-  apply-reads.Asked,
-  apply-reads.Learnt,
-) (skeleton-application-at t) skeleton-application.Post
-skeleton-application-apply-requires t c κs = (parts-applied _ _ _ (c .before .before .before .before .before .before .before .before .before .before .before .before .before .before .before .pre .1 .1) _ (c .before .before .before .before .before .before .before .before .before .before .before .before .head-of .ensures .1) _ _ _ (c .before .before .before .before .before .before .before .before .before .before .skeleton .ensures) (omega arith) _ (c .before .before .before .before .before .before .before .argument-of .ensures .1) _ _ _ (c .before .before .before .before .before .skeleton2 .ensures) (omega arith) (c .before .before .before .before .before .before .before .before .before .before .before .before .before .before .before .pre .1 .0), head-no-hole _ _ _ (c .before .before .before .before .before .before .before .before .before .before .before .before .before .before .before .pre .1 .1) _ (c .before .before .before .before .before .before .before .before .before .before .before .before .head-of .ensures .1) _ _ _ (c .before .before .before .before .before .before .before .before .before .before .skeleton .ensures) (omega arith) (c .before .before .before .before .before .before .before .before .before .before .before .before .before .before .before .pre .1 .0) (c .before .before .before .before .before .before .before .before .if1 .left))
+skeleton-application-apply-requires : (t : ℕ) → skeleton-application-in t skeleton-application-lts.Need-apply-requires
+skeleton-application-apply-requires t c κs = search (needs, parts-applied, head-no-hole)
 
-skeleton-application-returns-2 : (t : ℕ) → skeleton-application-lts.Need-returns-2 (
-  head-of-reads.Asked,
-  head-of-reads.Learnt,
-  skeleton-below t,
-  skeleton.Post,
-  hole-for-reads.Asked,
-  hole-for-reads.Learnt,
-  argument-of-reads.Asked,
-  argument-of-reads.Learnt,
-  apply-reads.Asked,
-  apply-reads.Learnt,
-) (skeleton-application-at t) skeleton-application.Post
-skeleton-application-returns-2 t c = outlined-application _ _ _ (c .before .before .before .before .before .before .before .before .before .before .before .before .before .before .before .before .pre .1 .1) _ (c .before .before .before .before .before .before .before .before .before .before .before .before .before .head-of .ensures .1) _ _ _ (c .before .before .before .before .before .before .before .before .before .before .before .skeleton .ensures) (omega arith) _ (c .before .before .before .before .before .before .before .before .argument-of .ensures .1) _ _ _ (c .before .before .before .before .before .before .skeleton2 .ensures) (omega arith) _ _ _ (c .apply .ensures)
+skeleton-application-returns-2 : (t : ℕ) → skeleton-application-in t skeleton-application-lts.Need-returns-2
+skeleton-application-returns-2 t c = search (needs, outlined-application)
 
 pub +skeleton+skeleton-abstraction+skeleton-application-spec : {M : Type 1} → statement M
 +skeleton+skeleton-abstraction+skeleton-application-spec =

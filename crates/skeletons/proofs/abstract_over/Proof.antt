@@ -1,11 +1,12 @@
--- `skeletons::abstract_over` meets its contract, by whether the body is unsure and whether the contracted abstraction is too long. Assumes nothing.
-use Rattle.skeletons.proofs.Contractions.{abstracted-tree, abstracts-unsure, abstracts-hole, abstracts-contracted}
+-- `skeletons::abstract_over` meets its contract, by whether the body is unsure and whether the contracted abstraction is too long. Assumes
+-- nothing.
+use Rattle.skeletons.proofs.Contractions.{abstracts-unsure, abstracts-hole, abstracts-contracted}
 use borrow.Author.Needs.{needs}
 use Rattle.skeletons.proofs.abstract_over.Statement.{statement}
 use Rattle.skeletons.proofs.abstract_over.Tie as tie
 
 is-unsure-requires : tie.Need-is-unsure-requires
-is-unsure-requires c κs = abstracted-tree _ (c .before .pre)
+is-unsure-requires c κs = search needs
 
 hole-requires : tie.Need-hole-requires
 hole-requires c κs = search needs
@@ -26,10 +27,10 @@ hole-requires-2 : tie.Need-hole-requires-2
 hole-requires-2 c κs = search needs
 
 returns-2 : tie.Need-returns-2
-returns-2 c = abstracts-hole _ _ _ _ (c .before .before .before .before .contract-abstraction .ensures) (c .before .before .enum-told .given .1) _ _ (c .hole2 .ensures)
+returns-2 c = search (needs, abstracts-hole)
 
 returns-3 : tie.Need-returns-3
-returns-3 c = abstracts-contracted _ _ _ _ (c .before .before .before .contract-abstraction .ensures) (c .before .before .before .before .before .before .before .before .pre) _ (c .before .before .before .before .before .before .is-unsure .ensures) (c .before .before .before .before .before .if1 .left) _ (c .before .length .given .1)
+returns-3 c = search (needs, abstracts-contracted)
 
 pub abstract-over-spec : {M : Type 1} → statement M
 abstract-over-spec =

@@ -17,10 +17,10 @@ hole-requires : tie.Need-hole-requires
 hole-requires c κs = search needs
 
 returns : tie.Need-returns
-returns c = applies-hole _ _ _ _ _ (c .before .before .before .before .contract-application .ensures) (c .before .before .enum-told .given .1) _ _ (c .hole .ensures)
+returns c = search (needs, applies-hole)
 
 returns-2 : tie.Need-returns-2
-returns-2 c = applies-contracted _ _ _ _ _ (c .before .before .before .contract-application .ensures) (c .before .before .before .before .before .before .before .pre .0) (c .before .before .before .before .before .before .before .pre .1) _ (c .before .length .given .1)
+returns-2 c = search (needs, applies-contracted)
 
 pub apply-spec : {M : Type 1} → statement M
 apply-spec =

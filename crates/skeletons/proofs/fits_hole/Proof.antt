@@ -1,5 +1,5 @@
--- `skeletons::fits_hole` meets its contract: any term may stand in hole 0, and in any other hole a closed one. By the hole's number and how the
--- walk over the term ends. Assumes nothing.
+-- `skeletons::fits_hole` meets its contract: any term may stand in hole 0, and in any other hole a closed one. By the hole's number and how
+-- the walk over the term ends. Assumes nothing.
 use Rattle.skeletons.proofs.Comparison.{compared-any, compared-closed, compared-loose}
 use borrow.Author.Needs.{needs}
 use Rattle.skeletons.proofs.fits_hole.Statement.{statement}
@@ -15,7 +15,7 @@ add-t10 : tie.Need-add-t10
 add-t10 c = search needs
 
 returns : tie.Need-returns
-returns c = compared-any _ _ _ _ (c .before .before .before .before .before .pre .1) _ _ (c .before .before .number-at .ensures .0) (c .before .if1 .taken) (c .before .before .before .before .before .pre .0 .skeleton) (c .end-at .ensures)
+returns c = search (needs, compared-any)
 
 ask-at-requires : tie.Need-ask-at-requires
 ask-at-requires c κs = search needs
@@ -30,10 +30,10 @@ enum-told : tie.Need-enum-told
 enum-told c = search needs
 
 returns-2 : tie.Need-returns-2
-returns-2 c = compared-closed _ _ _ _ (c .before .before .before .before .before .before .before .before .pre .1) _ (c .before .before .before .ask-at .ensures) _ (c .before .closed .given .1) (c .before .before .before .before .before .before .before .before .pre .0 .skeleton)
+returns-2 c = search (needs, compared-closed)
 
 returns-3 : tie.Need-returns-3
-returns-3 c = compared-loose _ _ _ _ (c .before .before .before .before .before .before .before .pre .1) _ (c .before .before .ask-at .ensures) (c .enum-told .given .1) _ (c .before .before .before .before .number-at .ensures .0) (c .before .before .before .if1 .left)
+returns-3 c = search (needs, compared-loose)
 
 pub fits-hole-spec : {M : Type 1} → statement M
 fits-hole-spec =

@@ -12,7 +12,7 @@ hole-requires : tie.Need-hole-requires
 hole-requires c κs = search needs
 
 returns : tie.Need-returns
-returns c = λ values a. outlined-closed values a _ _ _ (c .hole .ensures) _ _ (c .before .before .before .is-closed .ensures) (c .before .before .if1 .taken)
+returns c = search (needs, outlined-closed)
 
 hole-requires-2 : tie.Need-hole-requires-2
 hole-requires-2 c κs = search needs

@@ -6,7 +6,7 @@ use Rattle.skeletons.proofs.is_exact.Statement.{statement}
 use Rattle.skeletons.proofs.is_exact.Tie as tie
 
 exact-at-requires : tie.Need-exact-at-requires
-exact-at-requires c κs = tree-whole _ (c .before .pre)
+exact-at-requires c κs = search (needs, tree-whole)
 
 enum-told : tie.Need-enum-told
 enum-told c = search needs
@@ -15,10 +15,10 @@ enum-told-2 : tie.Need-enum-told-2
 enum-told-2 c = search needs
 
 returns : tie.Need-returns
-returns c = exact-yes _ _ (c .before .before .exact-at .ensures) _ (c .enum-told .given .1)
+returns c = search (needs, exact-yes)
 
 returns-2 : tie.Need-returns-2
-returns-2 c = exact-not _ _ (c .before .before .exact-at .ensures) (c .enum-told2 .given .1)
+returns-2 c = search (needs, exact-not)
 
 pub is-exact-spec : {M : Type 1} → statement M
 is-exact-spec = tie.close (tie.spec exact-at-requires enum-told enum-told-2 returns returns-2)

@@ -1,13 +1,12 @@
 -- `skeletons::may_build` meets its contract: the skeleton is applied to the argument's term, and what it gives is compared with the target.
 -- By the laws of an applied skeleton. Assumes nothing.
-use native.Mathlib.Omega.{arith}
 use Rattle.skeletons.proofs.Applying.{argument-whole, applied, built-within, built-comparable, built-answer}
 use borrow.Author.Needs.{needs}
 use Rattle.skeletons.proofs.may_build.Statement.{statement}
 use Rattle.skeletons.proofs.may_build.Tie as tie
 
 end-at-requires : tie.Need-end-at-requires
-end-at-requires c κs = argument-whole _ _ _ _ (c .before .before .pre .0)
+end-at-requires c κs = search (needs, argument-whole)
 
 sub-apply : tie.Need-sub-apply
 sub-apply c = search needs
@@ -19,7 +18,7 @@ part-apply-end : tie.Need-part-apply-end
 part-apply-end c = search needs
 
 apply-requires : tie.Need-apply-requires
-apply-requires c κs = (applied _ _ _ _ (c .before .before .before .before .before .pre .0) _ (c .before .before .end-at .ensures), c .before .before .before .before .before .pre .1)
+apply-requires c κs = search (needs, applied)
 
 mul-n : tie.Need-mul-n
 mul-n c = search needs
@@ -31,13 +30,13 @@ part-may-be-start : tie.Need-part-may-be-start
 part-may-be-start c = search needs
 
 part-may-be-end : tie.Need-part-may-be-end
-part-may-be-end c = built-within _ _ _ _ (c .before .before .before .before .before .before .before .pre .0) _ (c .before .before .before .before .end-at .ensures) _ _ _ (c .before .apply .ensures) (omega arith)
+part-may-be-end c = search (needs, built-within)
 
 may-be-requires : tie.Need-may-be-requires
-may-be-requires c κs = built-comparable _ _ _ _ (c .before .before .before .before .before .before .before .before .pre .0) _ (c .before .before .before .before .before .end-at .ensures) _ _ _ (c .before .before .apply .ensures) (omega arith)
+may-be-requires c κs = search (needs, built-comparable)
 
 returns : tie.Need-returns
-returns c = built-answer _ _ _ _ (c .before .before .before .before .before .before .before .before .before .pre .0) _ (c .before .before .before .before .before .before .end-at .ensures) _ _ _ (c .before .before .before .apply .ensures) (omega arith) _ (c .may-be .ensures)
+returns c = search (needs, built-answer)
 
 pub may-build-spec : {M : Type 1} → statement M
 may-build-spec =

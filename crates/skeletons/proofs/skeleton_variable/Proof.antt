@@ -1,5 +1,5 @@
--- `skeletons::skeleton_variable` meets its contract: the span's records are the value's table, and a hole is right for an open variable. Assumes
--- nothing.
+-- `skeletons::skeleton_variable` meets its contract: the span's records are the value's table, and a hole is right for an open variable.
+-- Assumes nothing.
 use native.Mathlib.Omega.{arith}
 use Rattle.skeletons.proofs.Outlines.{entered-hole, value-held, value-bytes, entered-value}
 use borrow.Author.Needs.{needs}
@@ -22,16 +22,21 @@ enum-known-e : tie.Need-enum-known-e
 enum-known-e c = search needs
 
 value-of-requires : tie.Need-value-of-requires
-value-of-requires c κs = value-held _ _ _ _ (c .before .e2 .given .1) (c .before .before .before .before .before .pre) .within
+value-of-requires c κs =
+    let start : tie.Start = search in
+    value-held _ _ _ _ (c .before .e2 .given .1) (start .pre) .within
 
 copy-into-requires : tie.Need-copy-into-requires
-copy-into-requires c κs = omega (arith, value-bytes _ _ _ _ (c .before .before .before .e2 .given .1) (c .before .before .before .before .before .before .before .pre) _ (c .before .value-of .ensures))
+copy-into-requires c κs =
+    let e2 : tie.After-e2 = search in
+    let start : tie.Start = search in
+    omega (arith, value-bytes _ _ _ _ (e2 .e2 .given .1) (start .pre) _ (c .before .value-of .ensures))
 
 returns : tie.Need-returns
 returns c = entered-hole _ _ _ _ _ (c .hole .ensures) _
 
 returns-2 : tie.Need-returns-2
-returns-2 c = entered-value _ _ _ _ (c .before .before .before .before .e2 .given .1) (c .before .before .before .before .before .before .before .before .pre) _ _ _ (c .before .before .value-of .ensures) (c .copy-into .ensures)
+returns-2 c = search (needs, entered-value)
 
 pub skeleton-variable-spec : {M : Type 1} → statement M
 skeleton-variable-spec =

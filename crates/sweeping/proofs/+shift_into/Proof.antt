@@ -1,12 +1,14 @@
--- `sweeping::shift_into` meets its contract. Each record is written as its term's shifted one, and a part's bytes follow its record's; the measure is what is left of the table. Assumes nothing.
+-- `sweeping::shift_into` meets its contract. Each record is written as its term's shifted one, and a part's bytes follow its record's; the
+-- measure is what is left of the table. Assumes nothing.
 use mathlib.Core.Path.{_∙_}
 use Prim.Native.Nat.{_-_}
 use lib.ListN.{length}
 use native.Mathlib.Omega.{arith}
-use Rattle.sweeping.proofs.Writers.{shifts, source-head, source-body, source-argument, source-in, wrote-application, wrote-abstraction}
+use Rattle.sweeping.proofs.Writers.{shifts, source-head, source-body, source-argument, source-in, wrote-application}
+use Rattle.sweeping.proofs.Writers.{wrote-abstraction}
 use borrow.Author.Needs.{needs}
 use Prim.Native.Nat.{ℕ, _<_}
-use borrow.Fn.Kinds.{In}
+use borrow.Fn.Kinds.{In, Out}
 use borrow.Fn.PlainCycle.{Measures, is, falls, and}
 use Rattle.sweeping.proofs.shift_into.Reads as shift-into
 use Rattle.sweeping.proofs.shift_into.Kinds as shift-into-kinds
@@ -27,7 +29,12 @@ abbrev shift-into-below : ℕ → In 2 shift-into-kinds.ps
 shift-into-below t =
     and 2 shift-into-kinds.ps (falls 2 shift-into-kinds.ps _<_ μ-shift-into t) shift-into.Pre
 
-shift-into-shared-slice-read-kind : (t : ℕ) → shift-into-lts.Need-shared-slice-read-kind (
+-- `shift-into-in t X`: the place or the need X of `shift_into`, whose calls within the cycle have a measure below t.
+abbrev shift-into-in :
+    ℕ →
+    (shift-into-lts.Claims → In 2 shift-into-kinds.ps → Out 2 shift-into-kinds.ps shift-into-kinds.r → Type 0) →
+    Type 0
+shift-into-in t X = X (
   put-record-reads.Asked,
   put-record-reads.Learnt,
   shift-into-below t,
@@ -35,178 +42,82 @@ shift-into-shared-slice-read-kind : (t : ℕ) → shift-into-lts.Need-shared-sli
   shift-leaf-into-reads.Asked,
   shift-leaf-into-reads.Learnt,
 ) (shift-into-at t) shift-into.Post
+
+shift-into-shared-slice-read-kind : (t : ℕ) → shift-into-in t shift-into-lts.Need-shared-slice-read-kind
 shift-into-shared-slice-read-kind t c = search needs
 
-shift-into-put-record-requires : (t : ℕ) → shift-into-lts.Need-put-record-requires (
-  put-record-reads.Asked,
-  put-record-reads.Learnt,
-  shift-into-below t,
-  shift-into.Post,
-  shift-leaf-into-reads.Asked,
-  shift-leaf-into-reads.Learnt,
-) (shift-into-at t) shift-into.Post
+shift-into-put-record-requires : (t : ℕ) → shift-into-in t shift-into-lts.Need-put-record-requires
 shift-into-put-record-requires t c κs = search needs
 
-shift-into-add-shift-into : (t : ℕ) → shift-into-lts.Need-add-shift-into (
-  put-record-reads.Asked,
-  put-record-reads.Learnt,
-  shift-into-below t,
-  shift-into.Post,
-  shift-leaf-into-reads.Asked,
-  shift-leaf-into-reads.Learnt,
-) (shift-into-at t) shift-into.Post
+shift-into-add-shift-into : (t : ℕ) → shift-into-in t shift-into-lts.Need-add-shift-into
 shift-into-add-shift-into t c = search needs
 
-shift-into-add-shift-into-2 : (t : ℕ) → shift-into-lts.Need-add-shift-into-2 (
-  put-record-reads.Asked,
-  put-record-reads.Learnt,
-  shift-into-below t,
-  shift-into.Post,
-  shift-leaf-into-reads.Asked,
-  shift-leaf-into-reads.Learnt,
-) (shift-into-at t) shift-into.Post
+shift-into-add-shift-into-2 : (t : ℕ) → shift-into-in t shift-into-lts.Need-add-shift-into-2
 shift-into-add-shift-into-2 t c = search needs
 
-shift-into-shift-into-requires : (t : ℕ) → shift-into-lts.Need-shift-into-requires (
-  put-record-reads.Asked,
-  put-record-reads.Learnt,
-  shift-into-below t,
-  shift-into.Post,
-  shift-leaf-into-reads.Asked,
-  shift-leaf-into-reads.Learnt,
-) (shift-into-at t) shift-into.Post
-shift-into-shift-into-requires t c κs = (omega arith, source-in _ _ _ _ _ _ _ (c .before .before .before .put-record .kept .0) (source-head _ (shifts _) _ _ _ _ _ (c .before .before .before .before .before .before .before .before .before .before .pre .1) (c .before .before .before .before .before .if1 .taken)))
+shift-into-shift-into-requires : (t : ℕ) → shift-into-in t shift-into-lts.Need-shift-into-requires
+shift-into-shift-into-requires t c κs =
+    let put-record : shift-into-in t shift-into-lts.After-put-record = search in
+    let then1 : shift-into-in t shift-into-lts.Then1 = search in
+    let start : shift-into-in t shift-into-lts.Start = search in (
+      omega arith,
+      source-in _ _ _ _ _ _ _ (put-record .put-record .kept .0) (source-head _ (shifts _) _ _ _ _ _ (start .pre .1) (then1 .if1 .taken)),
+    )
 
-shift-into-shift-into-requires-2 : (t : ℕ) → shift-into-lts.Need-shift-into-requires-2 (
-  put-record-reads.Asked,
-  put-record-reads.Learnt,
-  shift-into-below t,
-  shift-into.Post,
-  shift-leaf-into-reads.Asked,
-  shift-leaf-into-reads.Learnt,
-) (shift-into-at t) shift-into.Post
-shift-into-shift-into-requires-2 t c κs = let w = c .before .before .before .shift-into .ensures in
-    (omega (arith, w .ends .more, w .ends .within), source-in _ _ _ _ _ _ _ (c .before .before .before .shift-into .kept .1 .1 .1 .1 .0 ∙ c .before .before .before .before .before .before .before .put-record .kept .0) (source-argument _ (shifts _) _ _ _ _ _ (c .before .before .before .before .before .before .before .before .before .before .before .before .before .before .pre .1) _ _ _ _ (c .before .before .before .before .before .before .before .before .before .if1 .taken) w))
+shift-into-shift-into-requires-2 : (t : ℕ) → shift-into-in t shift-into-lts.Need-shift-into-requires-2
+shift-into-shift-into-requires-2 t c κs =
+    let shift-into-point : shift-into-in t shift-into-lts.After-shift-into = search in
+    let put-record : shift-into-in t shift-into-lts.After-put-record = search in
+    let then1 : shift-into-in t shift-into-lts.Then1 = search in
+    let start : shift-into-in t shift-into-lts.Start = search in
+    let w = shift-into-point .shift-into .ensures in (
+      omega (arith, w .ends .more, w .ends .within),
+      source-in _ _ _ _ _ _ _ (shift-into-point .shift-into .kept .1 .1 .1 .1 .0 ∙ put-record .put-record .kept .0)
+          (source-argument _ (shifts _) _ _ _ _ _ (start .pre .1) _ _ _ _ (then1 .if1 .taken) w),
+    )
 
-shift-into-same-length : (t : ℕ) → shift-into-lts.Need-same-length (
-  put-record-reads.Asked,
-  put-record-reads.Learnt,
-  shift-into-below t,
-  shift-into.Post,
-  shift-leaf-into-reads.Asked,
-  shift-leaf-into-reads.Learnt,
-) (shift-into-at t) shift-into.Post
-shift-into-same-length t c = c .before .before .shift-into2 .kept .1 .1 .1 .1 .0 ∙ c .before .before .before .before .before .before .shift-into .kept .1 .1 .1 .1 .0 ∙ c .before .before .before .before .before .before .before .before .before .before .put-record .kept .0
+shift-into-same-length : (t : ℕ) → shift-into-in t shift-into-lts.Need-same-length
+shift-into-same-length t c = search needs
 
-shift-into-returns : (t : ℕ) → shift-into-lts.Need-returns (
-  put-record-reads.Asked,
-  put-record-reads.Learnt,
-  shift-into-below t,
-  shift-into.Post,
-  shift-leaf-into-reads.Asked,
-  shift-leaf-into-reads.Learnt,
-) (shift-into-at t) shift-into.Post
-shift-into-returns t c = wrote-application _ (shifts _) _ _ _ _ _ _ _ _ _ _ _ _ (c .before .before .before .before .before .before .before .before .before .before .before .before .if1 .taken) (c .before .before .before .before .before .before .before .before .before .before .put-record .ensures) (c .before .before .before .before .before .before .shift-into .ensures) (c .before .before .shift-into2 .ensures)
+shift-into-returns : (t : ℕ) → shift-into-in t shift-into-lts.Need-returns
+shift-into-returns t c = search (needs, wrote-application, shifts)
 
-shift-into-put-record-requires-2 : (t : ℕ) → shift-into-lts.Need-put-record-requires-2 (
-  put-record-reads.Asked,
-  put-record-reads.Learnt,
-  shift-into-below t,
-  shift-into.Post,
-  shift-leaf-into-reads.Asked,
-  shift-leaf-into-reads.Learnt,
-) (shift-into-at t) shift-into.Post
+shift-into-put-record-requires-2 : (t : ℕ) → shift-into-in t shift-into-lts.Need-put-record-requires-2
 shift-into-put-record-requires-2 t c κs = search needs
 
-shift-into-add-shift-into-3 : (t : ℕ) → shift-into-lts.Need-add-shift-into-3 (
-  put-record-reads.Asked,
-  put-record-reads.Learnt,
-  shift-into-below t,
-  shift-into.Post,
-  shift-leaf-into-reads.Asked,
-  shift-leaf-into-reads.Learnt,
-) (shift-into-at t) shift-into.Post
+shift-into-add-shift-into-3 : (t : ℕ) → shift-into-in t shift-into-lts.Need-add-shift-into-3
 shift-into-add-shift-into-3 t c = search needs
 
-shift-into-add-shift-into-4 : (t : ℕ) → shift-into-lts.Need-add-shift-into-4 (
-  put-record-reads.Asked,
-  put-record-reads.Learnt,
-  shift-into-below t,
-  shift-into.Post,
-  shift-leaf-into-reads.Asked,
-  shift-leaf-into-reads.Learnt,
-) (shift-into-at t) shift-into.Post
+shift-into-add-shift-into-4 : (t : ℕ) → shift-into-in t shift-into-lts.Need-add-shift-into-4
 shift-into-add-shift-into-4 t c = search needs
 
-shift-into-add-shift-into-5 : (t : ℕ) → shift-into-lts.Need-add-shift-into-5 (
-  put-record-reads.Asked,
-  put-record-reads.Learnt,
-  shift-into-below t,
-  shift-into.Post,
-  shift-leaf-into-reads.Asked,
-  shift-leaf-into-reads.Learnt,
-) (shift-into-at t) shift-into.Post
+shift-into-add-shift-into-5 : (t : ℕ) → shift-into-in t shift-into-lts.Need-add-shift-into-5
 shift-into-add-shift-into-5 t c = search needs
 
-shift-into-shift-into-requires-3 : (t : ℕ) → shift-into-lts.Need-shift-into-requires-3 (
-  put-record-reads.Asked,
-  put-record-reads.Learnt,
-  shift-into-below t,
-  shift-into.Post,
-  shift-leaf-into-reads.Asked,
-  shift-leaf-into-reads.Learnt,
-) (shift-into-at t) shift-into.Post
-shift-into-shift-into-requires-3 t c κs = (omega arith, source-in _ _ _ _ _ _ _ (c .before .before .before .put-record2 .kept .0) (source-body _ (shifts _) _ _ _ _ _ (c .before .before .before .before .before .before .before .before .before .before .before .before .pre .1) (c .before .before .before .before .before .if2 .taken)))
+shift-into-shift-into-requires-3 : (t : ℕ) → shift-into-in t shift-into-lts.Need-shift-into-requires-3
+shift-into-shift-into-requires-3 t c κs =
+    let put-record2 : shift-into-in t shift-into-lts.After-put-record2 = search in
+    let then2 : shift-into-in t shift-into-lts.Then2 = search in
+    let start : shift-into-in t shift-into-lts.Start = search in (
+      omega arith,
+      source-in _ _ _ _ _ _ _ (put-record2 .put-record2 .kept .0)
+          (source-body _ (shifts _) _ _ _ _ _ (start .pre .1) (then2 .if2 .taken)),
+    )
 
-shift-into-same-length-2 : (t : ℕ) → shift-into-lts.Need-same-length-2 (
-  put-record-reads.Asked,
-  put-record-reads.Learnt,
-  shift-into-below t,
-  shift-into.Post,
-  shift-leaf-into-reads.Asked,
-  shift-leaf-into-reads.Learnt,
-) (shift-into-at t) shift-into.Post
-shift-into-same-length-2 t c = c .before .before .shift-into3 .kept .1 .1 .1 .1 .0 ∙ c .before .before .before .before .before .before .put-record2 .kept .0
+shift-into-same-length-2 : (t : ℕ) → shift-into-in t shift-into-lts.Need-same-length-2
+shift-into-same-length-2 t c = search needs
 
-shift-into-returns-2 : (t : ℕ) → shift-into-lts.Need-returns-2 (
-  put-record-reads.Asked,
-  put-record-reads.Learnt,
-  shift-into-below t,
-  shift-into.Post,
-  shift-leaf-into-reads.Asked,
-  shift-leaf-into-reads.Learnt,
-) (shift-into-at t) shift-into.Post
-shift-into-returns-2 t c = wrote-abstraction _ (shifts _) _ _ _ _ _ _ _ _ _ (c .before .before .before .before .before .before .before .before .if2 .taken) (c .before .before .before .before .before .before .put-record2 .ensures) (c .before .before .shift-into3 .ensures)
+shift-into-returns-2 : (t : ℕ) → shift-into-in t shift-into-lts.Need-returns-2
+shift-into-returns-2 t c = search (needs, wrote-abstraction, shifts)
 
-shift-into-shift-leaf-into-requires : (t : ℕ) → shift-into-lts.Need-shift-leaf-into-requires (
-  put-record-reads.Asked,
-  put-record-reads.Learnt,
-  shift-into-below t,
-  shift-into.Post,
-  shift-leaf-into-reads.Asked,
-  shift-leaf-into-reads.Learnt,
-) (shift-into-at t) shift-into.Post
-shift-into-shift-leaf-into-requires t c κs = (c .before .before .before .before .before .before .before .before .pre .1, record { no-application = c .before .before .before .if1 .left; no-abstraction = c .before .if2 .left })
+shift-into-shift-leaf-into-requires : (t : ℕ) → shift-into-in t shift-into-lts.Need-shift-leaf-into-requires
+shift-into-shift-leaf-into-requires t c κs = search needs
 
-shift-into-same-length-3 : (t : ℕ) → shift-into-lts.Need-same-length-3 (
-  put-record-reads.Asked,
-  put-record-reads.Learnt,
-  shift-into-below t,
-  shift-into.Post,
-  shift-leaf-into-reads.Asked,
-  shift-leaf-into-reads.Learnt,
-) (shift-into-at t) shift-into.Post
-shift-into-same-length-3 t c = c .before .before .shift-leaf-into .kept .1 .1 .1 .1 .0
+shift-into-same-length-3 : (t : ℕ) → shift-into-in t shift-into-lts.Need-same-length-3
+shift-into-same-length-3 t c = search needs
 
-shift-into-returns-3 : (t : ℕ) → shift-into-lts.Need-returns-3 (
-  put-record-reads.Asked,
-  put-record-reads.Learnt,
-  shift-into-below t,
-  shift-into.Post,
-  shift-leaf-into-reads.Asked,
-  shift-leaf-into-reads.Learnt,
-) (shift-into-at t) shift-into.Post
-shift-into-returns-3 t c = c .before .before .shift-leaf-into .ensures
+shift-into-returns-3 : (t : ℕ) → shift-into-in t shift-into-lts.Need-returns-3
+shift-into-returns-3 t c = search needs
 
 pub +shift-into-spec : {M : Type 1} → statement M
 +shift-into-spec = close μ-shift-into λ t. shift-into-lts.spec (

@@ -1,11 +1,14 @@
--- `sweep_part`, `sweep_application` and `sweep_abstraction` of `sweeping` meet their contracts. The sweep of a term follows from those of its parts, whose tables are shorter; the measure is the table's length. Assumes nothing.
+-- `sweep_part`, `sweep_application` and `sweep_abstraction` of `sweeping` meet their contracts. The sweep of a term follows from those of
+-- its parts, whose tables are shorter; the measure is the table's length. Assumes nothing.
 use Prim.Native.Nat.{_+_, _*_}
 use lib.ListN.{length}
 use native.Mathlib.Omega.{arith}
-use Rattle.sweeping.proofs.Sweeps.{ready-head, ready-argument, ready-body, ready-tree, ready-value, result-few, result-within, head-long, argument-long, parts-applied, sweeps-application, body-long, part-abstracted, sweeps-abstraction, sweeps-variable, leaf-length, sweeps-leaf}
+use Rattle.sweeping.proofs.Sweeps.{ready-head, ready-argument, ready-body, ready-value, result-few, result-within}
+use Rattle.sweeping.proofs.Sweeps.{head-long, argument-long, parts-applied, sweeps-application, body-long, part-abstracted}
+use Rattle.sweeping.proofs.Sweeps.{sweeps-abstraction, sweeps-variable, leaf-length, sweeps-leaf}
 use borrow.Author.Needs.{needs}
 use Prim.Native.Nat.{ℕ, _<_}
-use borrow.Fn.Kinds.{In}
+use borrow.Fn.Kinds.{In, Out}
 use borrow.Fn.PlainCycle.{Measures, is, falls, and}
 use Rattle.sweeping.proofs.sweep_abstraction.Reads as sweep-abstraction
 use Rattle.sweeping.proofs.sweep_abstraction.Kinds as sweep-abstraction-kinds
@@ -22,7 +25,7 @@ use Rattle.records.proofs.head_of.Reads as head-of-reads
 use Rattle.records.proofs.number_at.Reads as number-at-reads
 use Rattle.sweeping.proofs.contract_abstraction.Reads as contract-abstraction-reads
 use Rattle.sweeping.proofs.contract_application.Reads as contract-application-reads
-use Rattle.sweeping.proofs.copy_into.Reads as copy-into-reads
+use Rattle.copying.proofs.copy_into.Reads as copy-into-reads
 use Rattle.sweeping.proofs.write_value.Reads as write-value-reads
 use Rattle.sweeping.proofs.+sweep_abstraction+sweep_application+sweep_part.{statement}
 use Rattle.sweeping.proofs.+sweep_abstraction+sweep_application+sweep_part.Tie.{close}
@@ -76,7 +79,13 @@ abbrev sweep-part-below : ℕ → In 3 sweep-part-kinds.ps
 sweep-part-below t =
     and 3 sweep-part-kinds.ps (falls 3 sweep-part-kinds.ps _<_ μ-sweep-part t) sweep-part.Pre
 
-sweep-abstraction-body-of-requires : (t : ℕ) → sweep-abstraction-lts.Need-body-of-requires (
+-- `sweep-abstraction-in t X`: the place or the need X of `sweep_abstraction`, whose calls within the cycle have a measure below t.
+abbrev sweep-abstraction-in :
+    ℕ →
+    (sweep-abstraction-lts.Claims → In 3 sweep-abstraction-kinds.ps → Out 3 sweep-abstraction-kinds.ps sweep-abstraction-kinds.r → Type 0)
+    →
+    Type 0
+sweep-abstraction-in t X = X (
   body-of-reads.Asked,
   body-of-reads.Learnt,
   sweep-part-below t,
@@ -84,113 +93,55 @@ sweep-abstraction-body-of-requires : (t : ℕ) → sweep-abstraction-lts.Need-bo
   contract-abstraction-reads.Asked,
   contract-abstraction-reads.Learnt,
 ) (sweep-abstraction-at t) sweep-abstraction.Post
-sweep-abstraction-body-of-requires t c κs = (ready-tree _ _ _ (c .before .before .pre .1 .0), c .before .before .pre .1 .1)
 
-sweep-abstraction-sweep-part-requires : (t : ℕ) → sweep-abstraction-lts.Need-sweep-part-requires (
-  body-of-reads.Asked,
-  body-of-reads.Learnt,
-  sweep-part-below t,
-  sweep-part.Post,
-  contract-abstraction-reads.Asked,
-  contract-abstraction-reads.Learnt,
-) (sweep-abstraction-at t) sweep-abstraction.Post
-sweep-abstraction-sweep-part-requires t c κs = (omega (arith, c .before .body-of .ensures .0 .shorter), ready-body _ _ _ _ (c .before .before .before .before .pre .1 .0) (c .before .before .before .before .pre .1 .1) (c .before .body-of .ensures .1))
+sweep-abstraction-body-of-requires : (t : ℕ) → sweep-abstraction-in t sweep-abstraction-lts.Need-body-of-requires
+sweep-abstraction-body-of-requires t c κs = search needs
 
-sweep-abstraction-enum-known-swept : (t : ℕ) → sweep-abstraction-lts.Need-enum-known-swept (
-  body-of-reads.Asked,
-  body-of-reads.Learnt,
-  sweep-part-below t,
-  sweep-part.Post,
-  contract-abstraction-reads.Asked,
-  contract-abstraction-reads.Learnt,
-) (sweep-abstraction-at t) sweep-abstraction.Post
+sweep-abstraction-sweep-part-requires : (t : ℕ) → sweep-abstraction-in t sweep-abstraction-lts.Need-sweep-part-requires
+sweep-abstraction-sweep-part-requires t c κs = search (needs, ready-body)
+
+sweep-abstraction-enum-known-swept : (t : ℕ) → sweep-abstraction-in t sweep-abstraction-lts.Need-enum-known-swept
 sweep-abstraction-enum-known-swept t c = search needs
 
-sweep-abstraction-enum-told : (t : ℕ) → sweep-abstraction-lts.Need-enum-told (
-  body-of-reads.Asked,
-  body-of-reads.Learnt,
-  sweep-part-below t,
-  sweep-part.Post,
-  contract-abstraction-reads.Asked,
-  contract-abstraction-reads.Learnt,
-) (sweep-abstraction-at t) sweep-abstraction.Post
+sweep-abstraction-enum-told : (t : ℕ) → sweep-abstraction-in t sweep-abstraction-lts.Need-enum-told
 sweep-abstraction-enum-told t c = search needs
 
-sweep-abstraction-returns : (t : ℕ) → sweep-abstraction-lts.Need-returns (
-  body-of-reads.Asked,
-  body-of-reads.Learnt,
-  sweep-part-below t,
-  sweep-part.Post,
-  contract-abstraction-reads.Asked,
-  contract-abstraction-reads.Learnt,
-) (sweep-abstraction-at t) sweep-abstraction.Post
-sweep-abstraction-returns t c = body-long _ _ _ (c .before .before .before .before .before .before .before .pre .1 .1) _ (c .before .before .before .before .body-of .ensures .1) _ _ _ (c .before .before .sweep-part .ensures) _ (c .enum-told .given .1)
+sweep-abstraction-returns : (t : ℕ) → sweep-abstraction-in t sweep-abstraction-lts.Need-returns
+sweep-abstraction-returns t c = search (needs, body-long)
 
-sweep-abstraction-mul-n : (t : ℕ) → sweep-abstraction-lts.Need-mul-n (
-  body-of-reads.Asked,
-  body-of-reads.Learnt,
-  sweep-part-below t,
-  sweep-part.Post,
-  contract-abstraction-reads.Asked,
-  contract-abstraction-reads.Learnt,
-) (sweep-abstraction-at t) sweep-abstraction.Post
-sweep-abstraction-mul-n t c = omega (arith, result-few _ _ _ _ _ _ _ (c .before .before .before .sweep-part .ensures) (c .before .swept .given .1) (omega arith) (ready-body _ _ _ _ (c .before .before .before .before .before .before .before .before .pre .1 .0) (c .before .before .before .before .before .before .before .before .pre .1 .1) (c .before .before .before .before .before .body-of .ensures .1)))
+sweep-abstraction-mul-n : (t : ℕ) → sweep-abstraction-in t sweep-abstraction-lts.Need-mul-n
+sweep-abstraction-mul-n t c =
+    let sweep-part-point : sweep-abstraction-in t sweep-abstraction-lts.After-sweep-part = search in
+    let body-of : sweep-abstraction-in t sweep-abstraction-lts.After-body-of = search in
+    let start : sweep-abstraction-in t sweep-abstraction-lts.Start = search in
+    omega (
+      arith,
+      result-few _ _ _ _ _ _ _ (sweep-part-point .sweep-part .ensures) (c .before .swept .given .1) (omega arith)
+          (ready-body _ _ _ _ (start .pre .1 .0) (start .pre .1 .1) (body-of .body-of .ensures .1)),
+    )
 
-sweep-abstraction-sub-contract-abstraction :
-    (t : ℕ) → sweep-abstraction-lts.Need-sub-contract-abstraction (
-      body-of-reads.Asked,
-      body-of-reads.Learnt,
-      sweep-part-below t,
-      sweep-part.Post,
-      contract-abstraction-reads.Asked,
-      contract-abstraction-reads.Learnt,
-    ) (sweep-abstraction-at t) sweep-abstraction.Post
+sweep-abstraction-sub-contract-abstraction : (t : ℕ) → sweep-abstraction-in t sweep-abstraction-lts.Need-sub-contract-abstraction
 sweep-abstraction-sub-contract-abstraction t c = search needs
 
-sweep-abstraction-part-contract-abstraction-start :
-    (t : ℕ) → sweep-abstraction-lts.Need-part-contract-abstraction-start (
-      body-of-reads.Asked,
-      body-of-reads.Learnt,
-      sweep-part-below t,
-      sweep-part.Post,
-      contract-abstraction-reads.Asked,
-      contract-abstraction-reads.Learnt,
-    ) (sweep-abstraction-at t) sweep-abstraction.Post
+sweep-abstraction-part-contract-abstraction-start : (t : ℕ)
+    → sweep-abstraction-in t sweep-abstraction-lts.Need-part-contract-abstraction-start
 sweep-abstraction-part-contract-abstraction-start t c = search needs
 
-sweep-abstraction-part-contract-abstraction-end :
-    (t : ℕ) → sweep-abstraction-lts.Need-part-contract-abstraction-end (
-      body-of-reads.Asked,
-      body-of-reads.Learnt,
-      sweep-part-below t,
-      sweep-part.Post,
-      contract-abstraction-reads.Asked,
-      contract-abstraction-reads.Learnt,
-    ) (sweep-abstraction-at t) sweep-abstraction.Post
-sweep-abstraction-part-contract-abstraction-end t c = result-within _ _ _ _ _ _ _ (c .before .before .before .before .sweep-part .ensures) (c .before .before .swept .given .1) (omega arith) (ready-body _ _ _ _ (c .before .before .before .before .before .before .before .before .before .pre .1 .0) (c .before .before .before .before .before .before .before .before .before .pre .1 .1) (c .before .before .before .before .before .before .body-of .ensures .1))
+sweep-abstraction-part-contract-abstraction-end : (t : ℕ) → sweep-abstraction-in t sweep-abstraction-lts.Need-part-contract-abstraction-end
+sweep-abstraction-part-contract-abstraction-end t c = search (needs, result-within, ready-body)
 
-sweep-abstraction-contract-abstraction-requires :
-    (t : ℕ) → sweep-abstraction-lts.Need-contract-abstraction-requires (
-      body-of-reads.Asked,
-      body-of-reads.Learnt,
-      sweep-part-below t,
-      sweep-part.Post,
-      contract-abstraction-reads.Asked,
-      contract-abstraction-reads.Learnt,
-    ) (sweep-abstraction-at t) sweep-abstraction.Post
-sweep-abstraction-contract-abstraction-requires t c κs = part-abstracted _ _ _ (c .before .before .before .before .before .before .before .before .before .before .before .pre .1 .1) _ (c .before .before .before .before .before .before .before .before .body-of .ensures .1) _ _ _ (c .before .before .before .before .before .before .sweep-part .ensures) _ (c .before .before .before .before .swept .given .1) (omega arith) (c .before .before .before .before .before .before .before .before .before .before .before .pre .1 .0)
+sweep-abstraction-contract-abstraction-requires : (t : ℕ) → sweep-abstraction-in t sweep-abstraction-lts.Need-contract-abstraction-requires
+sweep-abstraction-contract-abstraction-requires t c κs = search (needs, part-abstracted)
 
-sweep-abstraction-returns-2 : (t : ℕ) → sweep-abstraction-lts.Need-returns-2 (
-  body-of-reads.Asked,
-  body-of-reads.Learnt,
-  sweep-part-below t,
-  sweep-part.Post,
-  contract-abstraction-reads.Asked,
-  contract-abstraction-reads.Learnt,
-) (sweep-abstraction-at t) sweep-abstraction.Post
-sweep-abstraction-returns-2 t c = sweeps-abstraction _ _ _ (c .before .before .before .before .before .before .before .before .before .before .before .before .pre .1 .1) _ (c .before .before .before .before .before .before .before .before .before .body-of .ensures .1) _ _ _ (c .before .before .before .before .before .before .before .sweep-part .ensures) _ (c .before .before .before .before .before .swept .given .1) (omega arith) _ _ _ (c .contract-abstraction .ensures)
+sweep-abstraction-returns-2 : (t : ℕ) → sweep-abstraction-in t sweep-abstraction-lts.Need-returns-2
+sweep-abstraction-returns-2 t c = search (needs, sweeps-abstraction)
 
-sweep-application-head-of-requires : (t : ℕ) → sweep-application-lts.Need-head-of-requires (
+abbrev sweep-application-in :
+    ℕ →
+    (sweep-application-lts.Claims → In 3 sweep-application-kinds.ps → Out 3 sweep-application-kinds.ps sweep-application-kinds.r → Type 0)
+    →
+    Type 0
+sweep-application-in t X = X (
   head-of-reads.Asked,
   head-of-reads.Learnt,
   sweep-part-below t,
@@ -200,245 +151,92 @@ sweep-application-head-of-requires : (t : ℕ) → sweep-application-lts.Need-he
   contract-application-reads.Asked,
   contract-application-reads.Learnt,
 ) (sweep-application-at t) sweep-application.Post
-sweep-application-head-of-requires t c κs = (ready-tree _ _ _ (c .before .before .pre .1 .0), c .before .before .pre .1 .1)
 
-sweep-application-sweep-part-requires : (t : ℕ) → sweep-application-lts.Need-sweep-part-requires (
-  head-of-reads.Asked,
-  head-of-reads.Learnt,
-  sweep-part-below t,
-  sweep-part.Post,
-  argument-of-reads.Asked,
-  argument-of-reads.Learnt,
-  contract-application-reads.Asked,
-  contract-application-reads.Learnt,
-) (sweep-application-at t) sweep-application.Post
-sweep-application-sweep-part-requires t c κs = (omega (arith, c .before .head-of .ensures .0 .shorter), ready-head _ _ _ _ (c .before .before .before .before .pre .1 .0) (c .before .before .before .before .pre .1 .1) (c .before .head-of .ensures .1))
+sweep-application-head-of-requires : (t : ℕ) → sweep-application-in t sweep-application-lts.Need-head-of-requires
+sweep-application-head-of-requires t c κs = search needs
 
-sweep-application-enum-known-first : (t : ℕ) → sweep-application-lts.Need-enum-known-first (
-  head-of-reads.Asked,
-  head-of-reads.Learnt,
-  sweep-part-below t,
-  sweep-part.Post,
-  argument-of-reads.Asked,
-  argument-of-reads.Learnt,
-  contract-application-reads.Asked,
-  contract-application-reads.Learnt,
-) (sweep-application-at t) sweep-application.Post
+sweep-application-sweep-part-requires : (t : ℕ) → sweep-application-in t sweep-application-lts.Need-sweep-part-requires
+sweep-application-sweep-part-requires t c κs = search (needs, ready-head)
+
+sweep-application-enum-known-first : (t : ℕ) → sweep-application-in t sweep-application-lts.Need-enum-known-first
 sweep-application-enum-known-first t c = search needs
 
-sweep-application-enum-told : (t : ℕ) → sweep-application-lts.Need-enum-told (
-  head-of-reads.Asked,
-  head-of-reads.Learnt,
-  sweep-part-below t,
-  sweep-part.Post,
-  argument-of-reads.Asked,
-  argument-of-reads.Learnt,
-  contract-application-reads.Asked,
-  contract-application-reads.Learnt,
-) (sweep-application-at t) sweep-application.Post
+sweep-application-enum-told : (t : ℕ) → sweep-application-in t sweep-application-lts.Need-enum-told
 sweep-application-enum-told t c = search needs
 
-sweep-application-returns : (t : ℕ) → sweep-application-lts.Need-returns (
-  head-of-reads.Asked,
-  head-of-reads.Learnt,
-  sweep-part-below t,
-  sweep-part.Post,
-  argument-of-reads.Asked,
-  argument-of-reads.Learnt,
-  contract-application-reads.Asked,
-  contract-application-reads.Learnt,
-) (sweep-application-at t) sweep-application.Post
-sweep-application-returns t c = head-long _ _ _ (c .before .before .before .before .before .before .before .pre .1 .1) _ (c .before .before .before .before .head-of .ensures .1) _ _ _ (c .before .before .sweep-part .ensures) _ (c .enum-told .given .1)
+sweep-application-returns : (t : ℕ) → sweep-application-in t sweep-application-lts.Need-returns
+sweep-application-returns t c = search (needs, head-long)
 
-sweep-application-argument-of-requires : (t : ℕ) → sweep-application-lts.Need-argument-of-requires (
-  head-of-reads.Asked,
-  head-of-reads.Learnt,
-  sweep-part-below t,
-  sweep-part.Post,
-  argument-of-reads.Asked,
-  argument-of-reads.Learnt,
-  contract-application-reads.Asked,
-  contract-application-reads.Learnt,
-) (sweep-application-at t) sweep-application.Post
-sweep-application-argument-of-requires t c κs = (ready-tree _ _ _ (c .before .before .before .before .before .before .before .before .pre .1 .0), c .before .before .before .before .before .before .before .before .pre .1 .1)
+sweep-application-argument-of-requires : (t : ℕ) → sweep-application-in t sweep-application-lts.Need-argument-of-requires
+sweep-application-argument-of-requires t c κs = search needs
 
-sweep-application-sweep-part-requires-2 :
-    (t : ℕ) → sweep-application-lts.Need-sweep-part-requires-2 (
-      head-of-reads.Asked,
-      head-of-reads.Learnt,
-      sweep-part-below t,
-      sweep-part.Post,
-      argument-of-reads.Asked,
-      argument-of-reads.Learnt,
-      contract-application-reads.Asked,
-      contract-application-reads.Learnt,
-    ) (sweep-application-at t) sweep-application.Post
-sweep-application-sweep-part-requires-2 t c κs = (omega (arith, c .before .argument-of .ensures .0 .shorter), ready-argument _ _ _ _ (c .before .before .before .before .before .before .before .before .before .before .pre .1 .0) (c .before .before .before .before .before .before .before .before .before .before .pre .1 .1) (c .before .argument-of .ensures .1))
+sweep-application-sweep-part-requires-2 : (t : ℕ) → sweep-application-in t sweep-application-lts.Need-sweep-part-requires-2
+sweep-application-sweep-part-requires-2 t c κs = search (needs, ready-argument)
 
-sweep-application-enum-known-second : (t : ℕ) → sweep-application-lts.Need-enum-known-second (
-  head-of-reads.Asked,
-  head-of-reads.Learnt,
-  sweep-part-below t,
-  sweep-part.Post,
-  argument-of-reads.Asked,
-  argument-of-reads.Learnt,
-  contract-application-reads.Asked,
-  contract-application-reads.Learnt,
-) (sweep-application-at t) sweep-application.Post
+sweep-application-enum-known-second : (t : ℕ) → sweep-application-in t sweep-application-lts.Need-enum-known-second
 sweep-application-enum-known-second t c = search needs
 
-sweep-application-enum-told-2 : (t : ℕ) → sweep-application-lts.Need-enum-told-2 (
-  head-of-reads.Asked,
-  head-of-reads.Learnt,
-  sweep-part-below t,
-  sweep-part.Post,
-  argument-of-reads.Asked,
-  argument-of-reads.Learnt,
-  contract-application-reads.Asked,
-  contract-application-reads.Learnt,
-) (sweep-application-at t) sweep-application.Post
+sweep-application-enum-told-2 : (t : ℕ) → sweep-application-in t sweep-application-lts.Need-enum-told-2
 sweep-application-enum-told-2 t c = search needs
 
-sweep-application-returns-2 : (t : ℕ) → sweep-application-lts.Need-returns-2 (
-  head-of-reads.Asked,
-  head-of-reads.Learnt,
-  sweep-part-below t,
-  sweep-part.Post,
-  argument-of-reads.Asked,
-  argument-of-reads.Learnt,
-  contract-application-reads.Asked,
-  contract-application-reads.Learnt,
-) (sweep-application-at t) sweep-application.Post
-sweep-application-returns-2 t c = argument-long _ _ _ (c .before .before .before .before .before .before .before .before .before .before .before .before .before .pre .1 .1) _ (c .before .before .before .before .before .before .before .before .before .before .head-of .ensures .1) _ _ _ (c .before .before .before .before .before .before .before .before .sweep-part .ensures) _ (c .before .before .before .before .argument-of .ensures .1) _ _ _ (c .before .before .sweep-part2 .ensures) _ (c .enum-told2 .given .1)
+sweep-application-returns-2 : (t : ℕ) → sweep-application-in t sweep-application-lts.Need-returns-2
+sweep-application-returns-2 t c = search (needs, argument-long)
 
-sweep-application-mul-n : (t : ℕ) → sweep-application-lts.Need-mul-n (
-  head-of-reads.Asked,
-  head-of-reads.Learnt,
-  sweep-part-below t,
-  sweep-part.Post,
-  argument-of-reads.Asked,
-  argument-of-reads.Learnt,
-  contract-application-reads.Asked,
-  contract-application-reads.Learnt,
-) (sweep-application-at t) sweep-application.Post
-sweep-application-mul-n t c = omega (arith, result-few _ _ _ _ _ _ _ (c .before .before .before .before .before .before .before .before .before .sweep-part .ensures) (c .before .before .before .before .before .before .before .first .given .1) (omega arith) (ready-head _ _ _ _ (c .before .before .before .before .before .before .before .before .before .before .before .before .before .before .pre .1 .0) (c .before .before .before .before .before .before .before .before .before .before .before .before .before .before .pre .1 .1) (c .before .before .before .before .before .before .before .before .before .before .before .head-of .ensures .1)))
+sweep-application-mul-n : (t : ℕ) → sweep-application-in t sweep-application-lts.Need-mul-n
+sweep-application-mul-n t c =
+    let first : sweep-application-in t sweep-application-lts.After-first = search in
+    let sweep-part-point : sweep-application-in t sweep-application-lts.After-sweep-part = search in
+    let head-of : sweep-application-in t sweep-application-lts.After-head-of = search in
+    let start : sweep-application-in t sweep-application-lts.Start = search in
+    omega (
+      arith,
+      result-few _ _ _ _ _ _ _ (sweep-part-point .sweep-part .ensures) (first .first .given .1) (omega arith)
+          (ready-head _ _ _ _ (start .pre .1 .0) (start .pre .1 .1) (head-of .head-of .ensures .1)),
+    )
 
-sweep-application-mul-m : (t : ℕ) → sweep-application-lts.Need-mul-m (
-  head-of-reads.Asked,
-  head-of-reads.Learnt,
-  sweep-part-below t,
-  sweep-part.Post,
-  argument-of-reads.Asked,
-  argument-of-reads.Learnt,
-  contract-application-reads.Asked,
-  contract-application-reads.Learnt,
-) (sweep-application-at t) sweep-application.Post
-sweep-application-mul-m t c = omega (arith, result-few _ _ _ _ _ _ _ (c .before .before .before .sweep-part2 .ensures) (c .before .second .given .1) (omega arith) (ready-argument _ _ _ _ (c .before .before .before .before .before .before .before .before .before .before .before .before .before .before .pre .1 .0) (c .before .before .before .before .before .before .before .before .before .before .before .before .before .before .pre .1 .1) (c .before .before .before .before .before .argument-of .ensures .1)))
+sweep-application-mul-m : (t : ℕ) → sweep-application-in t sweep-application-lts.Need-mul-m
+sweep-application-mul-m t c =
+    let sweep-part2 : sweep-application-in t sweep-application-lts.After-sweep-part2 = search in
+    let argument-of : sweep-application-in t sweep-application-lts.After-argument-of = search in
+    let start : sweep-application-in t sweep-application-lts.Start = search in
+    omega (
+      arith,
+      result-few _ _ _ _ _ _ _ (sweep-part2 .sweep-part2 .ensures) (c .before .second .given .1) (omega arith)
+          (ready-argument _ _ _ _ (start .pre .1 .0) (start .pre .1 .1) (argument-of .argument-of .ensures .1)),
+    )
 
-sweep-application-sub-contract-application :
-    (t : ℕ) → sweep-application-lts.Need-sub-contract-application (
-      head-of-reads.Asked,
-      head-of-reads.Learnt,
-      sweep-part-below t,
-      sweep-part.Post,
-      argument-of-reads.Asked,
-      argument-of-reads.Learnt,
-      contract-application-reads.Asked,
-      contract-application-reads.Learnt,
-    ) (sweep-application-at t) sweep-application.Post
+sweep-application-sub-contract-application : (t : ℕ) → sweep-application-in t sweep-application-lts.Need-sub-contract-application
 sweep-application-sub-contract-application t c = search needs
 
-sweep-application-part-contract-application-start :
-    (t : ℕ) → sweep-application-lts.Need-part-contract-application-start (
-      head-of-reads.Asked,
-      head-of-reads.Learnt,
-      sweep-part-below t,
-      sweep-part.Post,
-      argument-of-reads.Asked,
-      argument-of-reads.Learnt,
-      contract-application-reads.Asked,
-      contract-application-reads.Learnt,
-    ) (sweep-application-at t) sweep-application.Post
+sweep-application-part-contract-application-start : (t : ℕ)
+    → sweep-application-in t sweep-application-lts.Need-part-contract-application-start
 sweep-application-part-contract-application-start t c = search needs
 
-sweep-application-part-contract-application-end :
-    (t : ℕ) → sweep-application-lts.Need-part-contract-application-end (
-      head-of-reads.Asked,
-      head-of-reads.Learnt,
-      sweep-part-below t,
-      sweep-part.Post,
-      argument-of-reads.Asked,
-      argument-of-reads.Learnt,
-      contract-application-reads.Asked,
-      contract-application-reads.Learnt,
-    ) (sweep-application-at t) sweep-application.Post
-sweep-application-part-contract-application-end t c = result-within _ _ _ _ _ _ _ (c .before .before .before .before .before .before .before .before .before .before .sweep-part .ensures) (c .before .before .before .before .before .before .before .before .first .given .1) (omega arith) (ready-head _ _ _ _ (c .before .before .before .before .before .before .before .before .before .before .before .before .before .before .before .pre .1 .0) (c .before .before .before .before .before .before .before .before .before .before .before .before .before .before .before .pre .1 .1) (c .before .before .before .before .before .before .before .before .before .before .before .before .head-of .ensures .1))
+sweep-application-part-contract-application-end : (t : ℕ) → sweep-application-in t sweep-application-lts.Need-part-contract-application-end
+sweep-application-part-contract-application-end t c = search (needs, result-within, ready-head)
 
-sweep-application-sub-contract-application-2 :
-    (t : ℕ) → sweep-application-lts.Need-sub-contract-application-2 (
-      head-of-reads.Asked,
-      head-of-reads.Learnt,
-      sweep-part-below t,
-      sweep-part.Post,
-      argument-of-reads.Asked,
-      argument-of-reads.Learnt,
-      contract-application-reads.Asked,
-      contract-application-reads.Learnt,
-    ) (sweep-application-at t) sweep-application.Post
+sweep-application-sub-contract-application-2 : (t : ℕ) → sweep-application-in t sweep-application-lts.Need-sub-contract-application-2
 sweep-application-sub-contract-application-2 t c = search needs
 
-sweep-application-part-contract-application-start-2 :
-    (t : ℕ) → sweep-application-lts.Need-part-contract-application-start-2 (
-      head-of-reads.Asked,
-      head-of-reads.Learnt,
-      sweep-part-below t,
-      sweep-part.Post,
-      argument-of-reads.Asked,
-      argument-of-reads.Learnt,
-      contract-application-reads.Asked,
-      contract-application-reads.Learnt,
-    ) (sweep-application-at t) sweep-application.Post
+sweep-application-part-contract-application-start-2 : (t : ℕ)
+    → sweep-application-in t sweep-application-lts.Need-part-contract-application-start-2
 sweep-application-part-contract-application-start-2 t c = search needs
 
-sweep-application-part-contract-application-end-2 :
-    (t : ℕ) → sweep-application-lts.Need-part-contract-application-end-2 (
-      head-of-reads.Asked,
-      head-of-reads.Learnt,
-      sweep-part-below t,
-      sweep-part.Post,
-      argument-of-reads.Asked,
-      argument-of-reads.Learnt,
-      contract-application-reads.Asked,
-      contract-application-reads.Learnt,
-    ) (sweep-application-at t) sweep-application.Post
-sweep-application-part-contract-application-end-2 t c = result-within _ _ _ _ _ _ _ (c .before .before .before .before .before .before .sweep-part2 .ensures) (c .before .before .before .before .second .given .1) (omega arith) (ready-argument _ _ _ _ (c .before .before .before .before .before .before .before .before .before .before .before .before .before .before .before .before .before .pre .1 .0) (c .before .before .before .before .before .before .before .before .before .before .before .before .before .before .before .before .before .pre .1 .1) (c .before .before .before .before .before .before .before .before .argument-of .ensures .1))
+sweep-application-part-contract-application-end-2 : (t : ℕ)
+    → sweep-application-in t sweep-application-lts.Need-part-contract-application-end-2
+sweep-application-part-contract-application-end-2 t c = search (needs, result-within, ready-argument)
 
-sweep-application-contract-application-requires :
-    (t : ℕ) → sweep-application-lts.Need-contract-application-requires (
-      head-of-reads.Asked,
-      head-of-reads.Learnt,
-      sweep-part-below t,
-      sweep-part.Post,
-      argument-of-reads.Asked,
-      argument-of-reads.Learnt,
-      contract-application-reads.Asked,
-      contract-application-reads.Learnt,
-    ) (sweep-application-at t) sweep-application.Post
-sweep-application-contract-application-requires t c κs = parts-applied _ _ _ (c .before .before .before .before .before .before .before .before .before .before .before .before .before .before .before .before .before .before .before .pre .1 .1) _ (c .before .before .before .before .before .before .before .before .before .before .before .before .before .before .before .before .head-of .ensures .1) _ _ _ (c .before .before .before .before .before .before .before .before .before .before .before .before .before .before .sweep-part .ensures) _ (c .before .before .before .before .before .before .before .before .before .before .argument-of .ensures .1) _ _ _ (c .before .before .before .before .before .before .before .before .sweep-part2 .ensures) _ _ (c .before .before .before .before .before .before .before .before .before .before .before .before .first .given .1) (c .before .before .before .before .before .before .second .given .1) (omega arith) (omega arith) (c .before .before .before .before .before .before .before .before .before .before .before .before .before .before .before .before .before .before .before .pre .1 .0)
+sweep-application-contract-application-requires : (t : ℕ) → sweep-application-in t sweep-application-lts.Need-contract-application-requires
+sweep-application-contract-application-requires t c κs = search (needs, parts-applied)
 
-sweep-application-returns-3 : (t : ℕ) → sweep-application-lts.Need-returns-3 (
-  head-of-reads.Asked,
-  head-of-reads.Learnt,
-  sweep-part-below t,
-  sweep-part.Post,
-  argument-of-reads.Asked,
-  argument-of-reads.Learnt,
-  contract-application-reads.Asked,
-  contract-application-reads.Learnt,
-) (sweep-application-at t) sweep-application.Post
-sweep-application-returns-3 t c = sweeps-application _ _ _ (c .before .before .before .before .before .before .before .before .before .before .before .before .before .before .before .before .before .before .before .before .pre .1 .1) _ (c .before .before .before .before .before .before .before .before .before .before .before .before .before .before .before .before .before .head-of .ensures .1) _ _ _ (c .before .before .before .before .before .before .before .before .before .before .before .before .before .before .before .sweep-part .ensures) _ (c .before .before .before .before .before .before .before .before .before .before .before .argument-of .ensures .1) _ _ _ (c .before .before .before .before .before .before .before .before .before .sweep-part2 .ensures) _ _ (c .before .before .before .before .before .before .before .before .before .before .before .before .before .first .given .1) (c .before .before .before .before .before .before .before .second .given .1) (omega arith) (omega arith) _ _ _ (c .contract-application .ensures)
+sweep-application-returns-3 : (t : ℕ) → sweep-application-in t sweep-application-lts.Need-returns-3
+sweep-application-returns-3 t c = search (needs, sweeps-application)
 
-sweep-part-shared-slice-read-kind : (t : ℕ) → sweep-part-lts.Need-shared-slice-read-kind (
+abbrev sweep-part-in :
+    ℕ →
+    (sweep-part-lts.Claims → In 3 sweep-part-kinds.ps → Out 3 sweep-part-kinds.ps sweep-part-kinds.r → Type 0) →
+    Type 0
+sweep-part-in t X = X (
   sweep-application-below t,
   sweep-application.Post,
   sweep-abstraction-below t,
@@ -450,133 +248,40 @@ sweep-part-shared-slice-read-kind : (t : ℕ) → sweep-part-lts.Need-shared-sli
   copy-into-reads.Asked,
   copy-into-reads.Learnt,
 ) (sweep-part-at t) sweep-part.Post
+
+sweep-part-shared-slice-read-kind : (t : ℕ) → sweep-part-in t sweep-part-lts.Need-shared-slice-read-kind
 sweep-part-shared-slice-read-kind t c = search needs
 
-sweep-part-sweep-application-requires : (t : ℕ) → sweep-part-lts.Need-sweep-application-requires (
-  sweep-application-below t,
-  sweep-application.Post,
-  sweep-abstraction-below t,
-  sweep-abstraction.Post,
-  number-at-reads.Asked,
-  number-at-reads.Learnt,
-  write-value-reads.Asked,
-  write-value-reads.Learnt,
-  copy-into-reads.Asked,
-  copy-into-reads.Learnt,
-) (sweep-part-at t) sweep-part.Post
-sweep-part-sweep-application-requires t c κs = (omega arith, (c .before .before .before .before .before .before .pre .1, c .before .if1 .taken))
+sweep-part-sweep-application-requires : (t : ℕ) → sweep-part-in t sweep-part-lts.Need-sweep-application-requires
+sweep-part-sweep-application-requires t c κs = search needs
 
-sweep-part-returns : (t : ℕ) → sweep-part-lts.Need-returns (
-  sweep-application-below t,
-  sweep-application.Post,
-  sweep-abstraction-below t,
-  sweep-abstraction.Post,
-  number-at-reads.Asked,
-  number-at-reads.Learnt,
-  write-value-reads.Asked,
-  write-value-reads.Learnt,
-  copy-into-reads.Asked,
-  copy-into-reads.Learnt,
-) (sweep-part-at t) sweep-part.Post
+sweep-part-returns : (t : ℕ) → sweep-part-in t sweep-part-lts.Need-returns
 sweep-part-returns t c = c .sweep-application .ensures
 
-sweep-part-sweep-abstraction-requires : (t : ℕ) → sweep-part-lts.Need-sweep-abstraction-requires (
-  sweep-application-below t,
-  sweep-application.Post,
-  sweep-abstraction-below t,
-  sweep-abstraction.Post,
-  number-at-reads.Asked,
-  number-at-reads.Learnt,
-  write-value-reads.Asked,
-  write-value-reads.Learnt,
-  copy-into-reads.Asked,
-  copy-into-reads.Learnt,
-) (sweep-part-at t) sweep-part.Post
-sweep-part-sweep-abstraction-requires t c κs = (omega arith, (c .before .before .before .before .before .before .before .before .pre .1, c .before .if2 .taken))
+sweep-part-sweep-abstraction-requires : (t : ℕ) → sweep-part-in t sweep-part-lts.Need-sweep-abstraction-requires
+sweep-part-sweep-abstraction-requires t c κs = search needs
 
-sweep-part-returns-2 : (t : ℕ) → sweep-part-lts.Need-returns-2 (
-  sweep-application-below t,
-  sweep-application.Post,
-  sweep-abstraction-below t,
-  sweep-abstraction.Post,
-  number-at-reads.Asked,
-  number-at-reads.Learnt,
-  write-value-reads.Asked,
-  write-value-reads.Learnt,
-  copy-into-reads.Asked,
-  copy-into-reads.Learnt,
-) (sweep-part-at t) sweep-part.Post
+sweep-part-returns-2 : (t : ℕ) → sweep-part-in t sweep-part-lts.Need-returns-2
 sweep-part-returns-2 t c = c .sweep-abstraction .ensures
 
-sweep-part-number-at-requires : (t : ℕ) → sweep-part-lts.Need-number-at-requires (
-  sweep-application-below t,
-  sweep-application.Post,
-  sweep-abstraction-below t,
-  sweep-abstraction.Post,
-  number-at-reads.Asked,
-  number-at-reads.Learnt,
-  write-value-reads.Asked,
-  write-value-reads.Learnt,
-  copy-into-reads.Asked,
-  copy-into-reads.Learnt,
-) (sweep-part-at t) sweep-part.Post
+sweep-part-number-at-requires : (t : ℕ) → sweep-part-in t sweep-part-lts.Need-number-at-requires
 sweep-part-number-at-requires t c κs = search needs
 
-sweep-part-write-value-requires : (t : ℕ) → sweep-part-lts.Need-write-value-requires (
-  sweep-application-below t,
-  sweep-application.Post,
-  sweep-abstraction-below t,
-  sweep-abstraction.Post,
-  number-at-reads.Asked,
-  number-at-reads.Learnt,
-  write-value-reads.Asked,
-  write-value-reads.Learnt,
-  copy-into-reads.Asked,
-  copy-into-reads.Learnt,
-) (sweep-part-at t) sweep-part.Post
-sweep-part-write-value-requires t c κs = ready-value _ _ _ _ (c .before .before .before .before .before .before .before .before .before .before .before .pre .1) (c .before .before .if3 .taken) (c .before .number-at .ensures .0)
+sweep-part-write-value-requires : (t : ℕ) → sweep-part-in t sweep-part-lts.Need-write-value-requires
+sweep-part-write-value-requires t c κs = search (needs, ready-value)
 
-sweep-part-returns-3 : (t : ℕ) → sweep-part-lts.Need-returns-3 (
-  sweep-application-below t,
-  sweep-application.Post,
-  sweep-abstraction-below t,
-  sweep-abstraction.Post,
-  number-at-reads.Asked,
-  number-at-reads.Learnt,
-  write-value-reads.Asked,
-  write-value-reads.Learnt,
-  copy-into-reads.Asked,
-  copy-into-reads.Learnt,
-) (sweep-part-at t) sweep-part.Post
-sweep-part-returns-3 t c = sweeps-variable _ _ _ _ _ _ _ (c .before .before .before .if3 .taken) (c .before .before .number-at .ensures .0) (c .write-value .ensures)
+sweep-part-returns-3 : (t : ℕ) → sweep-part-in t sweep-part-lts.Need-returns-3
+sweep-part-returns-3 t c = search (needs, sweeps-variable)
 
-sweep-part-copy-into-requires : (t : ℕ) → sweep-part-lts.Need-copy-into-requires (
-  sweep-application-below t,
-  sweep-application.Post,
-  sweep-abstraction-below t,
-  sweep-abstraction.Post,
-  number-at-reads.Asked,
-  number-at-reads.Learnt,
-  write-value-reads.Asked,
-  write-value-reads.Learnt,
-  copy-into-reads.Asked,
-  copy-into-reads.Learnt,
-) (sweep-part-at t) sweep-part.Post
-sweep-part-copy-into-requires t c κs = omega (arith, leaf-length _ _ _ (c .before .before .before .before .before .if1 .left) (c .before .before .before .if2 .left) (c .before .before .before .before .before .before .before .before .before .before .pre .1))
+sweep-part-copy-into-requires : (t : ℕ) → sweep-part-in t sweep-part-lts.Need-copy-into-requires
+sweep-part-copy-into-requires t c κs =
+    let else2 : sweep-part-in t sweep-part-lts.Else2 = search in
+    let else1 : sweep-part-in t sweep-part-lts.Else1 = search in
+    let start : sweep-part-in t sweep-part-lts.Start = search in
+    omega (arith, leaf-length _ _ _ (else1 .if1 .left) (else2 .if2 .left) (start .pre .1))
 
-sweep-part-returns-4 : (t : ℕ) → sweep-part-lts.Need-returns-4 (
-  sweep-application-below t,
-  sweep-application.Post,
-  sweep-abstraction-below t,
-  sweep-abstraction.Post,
-  number-at-reads.Asked,
-  number-at-reads.Learnt,
-  write-value-reads.Asked,
-  write-value-reads.Learnt,
-  copy-into-reads.Asked,
-  copy-into-reads.Learnt,
-) (sweep-part-at t) sweep-part.Post
-sweep-part-returns-4 t c = sweeps-leaf _ _ _ (c .before .before .before .before .before .before .if1 .left) (c .before .before .before .before .if2 .left) _ _ (c .before .before .if3 .left) (c .copy-into .ensures)
+sweep-part-returns-4 : (t : ℕ) → sweep-part-in t sweep-part-lts.Need-returns-4
+sweep-part-returns-4 t c = search (needs, sweeps-leaf)
 
 pub +sweep-abstraction+sweep-application+sweep-part-spec : {M : Type 1} → statement M
 +sweep-abstraction+sweep-application+sweep-part-spec =

@@ -20,7 +20,7 @@ add-n-2 : tie.Need-add-n-2
 add-n-2 c = search needs
 
 returns-2 : tie.Need-returns-2
-returns-2 c = applied-too-long _ _ _ (c .before .if1 .left) (c .if2 .taken)
+returns-2 c = search (needs, applied-too-long)
 
 put-record-requires : tie.Need-put-record-requires
 put-record-requires c κs = search needs
@@ -35,7 +35,7 @@ copy-into-requires-2 : tie.Need-copy-into-requires-2
 copy-into-requires-2 c κs = search needs
 
 returns-3 : tie.Need-returns-3
-returns-3 c = applied-written _ _ _ (c .before .before .before .before .before .before .before .if1 .left) _ _ _ (c .before .before .before .before .before .before .if2 .left) (c .before .before .before .before .put-record .ensures) (c .before .before .copy-into .ensures) (c .copy-into2 .ensures)
+returns-3 c = search (needs, applied-written)
 
 pub contract-application-spec : {M : Type 1} → statement M
 contract-application-spec =

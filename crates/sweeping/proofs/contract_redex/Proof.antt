@@ -1,4 +1,5 @@
--- `sweeping::contract_redex` meets its contract: the size of the substituted body is known from its uses before it is written. Assumes nothing.
+-- `sweeping::contract_redex` meets its contract: the size of the substituted body is known from its uses before it is written. Assumes
+-- nothing.
 use native.Mathlib.Omega.{arith}
 use Rattle.sweeping.proofs.Contraction.{redex-whole, uses-bytes, redex-too-long, redex-substitution, redex-written}
 use borrow.Author.Needs.{needs}
@@ -6,7 +7,7 @@ use Rattle.sweeping.proofs.contract_redex.Statement.{statement}
 use Rattle.sweeping.proofs.contract_redex.Tie as tie
 
 count-uses-requires : tie.Need-count-uses-requires
-count-uses-requires c κs = (redex-whole _ (c .before .before .pre .0 .head) (c .before .before .pre .0 .head-bytes) (c .before .before .pre .1), omega (arith, c .before .before .pre .0 .head-most))
+count-uses-requires c κs = search (needs, redex-whole)
 
 sub-bytes : tie.Need-sub-bytes
 sub-bytes c = search needs
@@ -15,19 +16,40 @@ sub-bytes-2 : tie.Need-sub-bytes-2
 sub-bytes-2 c = search needs
 
 mul-bytes : tie.Need-mul-bytes
-mul-bytes c = omega (arith, uses-bytes _ _ _ _ (c .before .count-uses .ensures .few) (c .before .count-uses .ensures .ends .within) (c .before .before .before .before .pre .0 .head-most) (c .before .before .before .before .pre .0 .argument-most))
+mul-bytes c =
+    let start : tie.Start = search in
+    omega (
+      arith,
+      uses-bytes _ _ _ _ (c .before .count-uses .ensures .few) (c .before .count-uses .ensures .ends .within)
+          (start .pre .0 .head-most) (start .pre .0 .argument-most),
+    )
 
 add-bytes : tie.Need-add-bytes
-add-bytes c = omega (arith, c .before .before .before .before .pre .0 .head-most, uses-bytes _ _ _ _ (c .before .count-uses .ensures .few) (c .before .count-uses .ensures .ends .within) (c .before .before .before .before .pre .0 .head-most) (c .before .before .before .before .pre .0 .argument-most))
+add-bytes c =
+    let start : tie.Start = search in
+    omega (
+      arith,
+      start .pre .0 .head-most,
+      uses-bytes _ _ _ _ (c .before .count-uses .ensures .few)
+          (c .before .count-uses .ensures .ends .within) (start .pre .0 .head-most) (start .pre .0 .argument-most),
+    )
 
 returns : tie.Need-returns
-returns c = redex-too-long _ _ (c .before .before .before .before .before .pre .1) _ _ (c .before .before .count-uses .ensures) _ (c .if1 .taken)
+returns c = search (needs, redex-too-long)
 
 substitute-into-requires : tie.Need-substitute-into-requires
-substitute-into-requires c κs = redex-substitution _ _ (c .before .before .before .before .before .before .pre .1) _ _ (c .before .before .before .count-uses .ensures) _ (c .before .before .before .before .before .before .pre .0) (omega (arith, c .before .if1 .left)) (c .before .if1 .left)
+substitute-into-requires c κs =
+    let count-uses : tie.After-count-uses = search in
+    let start : tie.Start = search in
+    redex-substitution _ _ (start .pre .1) _ _ (count-uses .count-uses .ensures) _ (start .pre .0) (omega (arith, c .before .if1 .left))
+    (c .before .if1 .left)
 
 returns-2 : tie.Need-returns-2
-returns-2 c = redex-written _ _ (c .before .before .before .before .before .before .before .pre .1) _ _ (c .before .before .before .before .count-uses .ensures) _ _ _ _ (c .before .before .if1 .left) (c .substitute-into .ensures)
+returns-2 c =
+    let else1 : tie.Else1 = search in
+    let count-uses : tie.After-count-uses = search in
+    let start : tie.Start = search in
+    redex-written _ _ (start .pre .1) _ _ (count-uses .count-uses .ensures) _ _ _ _ (else1 .if1 .left) (c .substitute-into .ensures)
 
 pub contract-redex-spec : {M : Type 1} → statement M
 contract-redex-spec =

@@ -1,6 +1,7 @@
 -- `sweeping::contracts` meets its contract: each test is one of the conditions of the sweep's second rule. Assumes nothing.
 use native.Mathlib.Omega.{arith}
-use Rattle.sweeping.proofs.Contraction.{no-application, body-whole, argument-whole, head-abstraction, argument-no-local, argument-outer, counted-uses}
+use Rattle.sweeping.proofs.Contraction.{no-application, body-whole, argument-whole, head-abstraction, argument-no-local}
+use Rattle.sweeping.proofs.Contraction.{argument-outer, counted-uses}
 use borrow.Author.Needs.{needs}
 use Rattle.sweeping.proofs.contracts.Statement.{statement}
 use Rattle.sweeping.proofs.contracts.Tie as tie
@@ -12,28 +13,37 @@ returns : tie.Need-returns
 returns c = no-application _ (c .if1 .taken)
 
 shared-slice-read-if2 : tie.Need-shared-slice-read-if2
-shared-slice-read-if2 c = omega (arith, body-whole _ (c .before .if1 .left) (c .before .before .before .before .before .pre) .least)
+shared-slice-read-if2 c =
+    let start : tie.Start = search in
+    omega (arith, body-whole _ (c .before .if1 .left) (start .pre) .least)
 
 returns-2 : tie.Need-returns-2
-returns-2 c = head-abstraction _ (c .before .before .before .if1 .left) (c .if2 .taken)
+returns-2 c = search (needs, head-abstraction)
 
 count-uses-requires : tie.Need-count-uses-requires
-count-uses-requires c κs = (body-whole _ (c .before .before .before .if1 .left) (c .before .before .before .before .before .before .before .pre), omega (arith, c .before .before .before .before .before .before .before .pre .most))
+count-uses-requires c κs = search (needs, body-whole)
 
 shared-slice-read-if3 : tie.Need-shared-slice-read-if3
-shared-slice-read-if3 c = omega (arith, argument-whole _ (c .before .before .before .before .before .if1 .left) _ _ (c .before .count-uses .ensures) (c .before .before .before .before .before .before .before .before .before .pre) .least)
+shared-slice-read-if3 c =
+    let else1 : tie.Else1 = search in
+    let start : tie.Start = search in
+    omega (arith, argument-whole _ (else1 .if1 .left) _ _ (c .before .count-uses .ensures) (start .pre) .least)
 
 returns-3 : tie.Need-returns-3
-returns-3 c = argument-no-local _ (c .before .before .before .before .before .before .before .if1 .left) _ _ (c .before .before .before .count-uses .ensures) (c .if3 .taken)
+returns-3 c = search (needs, argument-no-local)
 
 number-at-requires : tie.Need-number-at-requires
-number-at-requires c κs = omega (arith, argument-whole _ (c .before .before .before .before .before .before .before .if1 .left) _ _ (c .before .before .before .count-uses .ensures) (c .before .before .before .before .before .before .before .before .before .before .before .pre) .least)
+number-at-requires c κs =
+    let count-uses : tie.After-count-uses = search in
+    let else1 : tie.Else1 = search in
+    let start : tie.Start = search in
+    omega (arith, argument-whole _ (else1 .if1 .left) _ _ (count-uses .count-uses .ensures) (start .pre) .least)
 
 returns-4 : tie.Need-returns-4
-returns-4 c = argument-outer _ (c .before .before .before .before .before .before .before .before .before .if1 .left) _ _ (c .before .before .before .before .before .count-uses .ensures) (c .before .before .if3 .left) _ (c .before .number-at .ensures .0) (c .if4 .taken)
+returns-4 c = search (needs, argument-outer)
 
 returns-5 : tie.Need-returns-5
-returns-5 c = counted-uses _ (c .before .before .before .before .before .before .before .before .before .before .if1 .left) _ _ (c .before .before .before .before .before .before .count-uses .ensures) (c .before .before .before .if3 .left) _ (c .before .before .number-at .ensures .0) (c .before .if4 .left) (c .before .before .before .before .before .before .before .if2 .left)
+returns-5 c = search (needs, counted-uses)
 
 pub contracts-spec : {M : Type 1} → statement M
 contracts-spec =

@@ -1,5 +1,5 @@
--- `sweeping::shift_leaf_into` meets its contract. A local is written with its shifted number, and any other record as it is. Assumes nothing.
-use native.Mathlib.Omega.{arith}
+-- `sweeping::shift_leaf_into` meets its contract. A local is written with its shifted number, and any other record as it is. Assumes
+-- nothing.
 use Rattle.sweeping.proofs.Writers.{shifts, source-whole, source-local, wrote-local, wrote-other}
 use borrow.Author.Needs.{needs}
 use Rattle.sweeping.proofs.shift_leaf_into.Statement.{statement}
@@ -15,7 +15,10 @@ number-at-requires : tie.Need-number-at-requires
 number-at-requires c κs = search needs
 
 shifted-requires : tie.Need-shifted-requires
-shifted-requires c κs = source-local _ (shifts _) _ _ _ _ _ (c .before .before .before .before .before .before .before .pre .0) _ (c .before .if1 .taken) (c .before .before .before .number-at .ensures .0)
+shifted-requires c κs =
+    let number-at : tie.After-number-at = search in
+    let start : tie.Start = search in
+    source-local _ (shifts _) _ _ _ _ _ (start .pre .0) _ (c .before .if1 .taken) (number-at .number-at .ensures .0)
 
 put-record-requires : tie.Need-put-record-requires
 put-record-requires c κs = search needs
@@ -30,7 +33,7 @@ same-length : tie.Need-same-length
 same-length c = search needs
 
 returns : tie.Need-returns
-returns c = wrote-local _ (shifts _) _ _ _ _ _ _ _ _ _ (source-whole _ (shifts _) _ _ _ _ _ (c .before .before .before .before .before .before .before .before .before .before .before .pre .0)) (c .before .before .before .before .before .if1 .taken) (c .before .before .before .before .before .before .before .number-at .ensures .0) (c .before .before .before .shifted .ensures .0) (c .before .before .put-record .ensures) (omega arith)
+returns c = search (needs, wrote-local, shifts, source-whole)
 
 put-record-requires-2 : tie.Need-put-record-requires-2
 put-record-requires-2 c κs = search needs
@@ -45,7 +48,7 @@ same-length-2 : tie.Need-same-length-2
 same-length-2 c = search needs
 
 returns-2 : tie.Need-returns-2
-returns-2 c = wrote-other _ (shifts _) _ _ _ _ _ _ _ (source-whole _ (shifts _) _ _ _ _ _ (c .before .before .before .before .before .before .before .before .before .before .pre .0)) (record { no-application = c .before .before .before .before .before .before .before .before .before .before .pre .1 .no-application; no-abstraction = c .before .before .before .before .before .before .before .before .before .before .pre .1 .no-abstraction; no-local = c .before .before .before .before .if1 .left }) (c .before .before .before .before .before .before .number-at .ensures .0) (c .before .before .put-record2 .ensures)
+returns-2 c = search (needs, wrote-other, shifts, source-whole)
 
 pub shift-leaf-into-spec : {M : Type 1} → statement M
 shift-leaf-into-spec =

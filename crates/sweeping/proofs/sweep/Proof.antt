@@ -5,7 +5,7 @@ use Rattle.sweeping.proofs.sweep.Statement.{statement}
 use Rattle.sweeping.proofs.sweep.Tie as tie
 
 sweep-part-requires : tie.Need-sweep-part-requires
-sweep-part-requires c κs = ready-fillable _ _ _ (c .before .before .before .pre)
+sweep-part-requires c κs = search (needs, ready-fillable)
 
 returns : tie.Need-returns
 returns c = search needs

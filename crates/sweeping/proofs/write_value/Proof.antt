@@ -9,10 +9,10 @@ use Rattle.sweeping.proofs.write_value.Statement.{statement}
 use Rattle.sweeping.proofs.write_value.Tie as tie
 
 mul-e : tie.Need-mul-e
-mul-e c = omega (arith, given-below _ _ _ _ (c .before .pre .given))
+mul-e c = omega (arith, given-below)
 
 array-copy-out-e : tie.Need-array-copy-out-e
-array-copy-out-e c = omega (arith, given-below _ _ _ _ (c .before .pre .given))
+array-copy-out-e c = omega (arith, given-below)
 
 enum-told : tie.Need-enum-told
 enum-told c = search needs
@@ -21,16 +21,22 @@ enum-known-e : tie.Need-enum-known-e
 enum-known-e c = search needs
 
 value-of-requires : tie.Need-value-of-requires
-value-of-requires c κs = held _ _ _ _ (c .before .before .before .before .before .pre .given) _ (c .before .e2 .given .1) .within
+value-of-requires c κs =
+    let start : tie.Start = search in
+    held _ _ _ _ (start .pre .given) _ (c .before .e2 .given .1) .within
 
 copy-into-requires : tie.Need-copy-into-requires
-copy-into-requires c κs = let h = held _ _ _ _ (c .before .before .before .before .before .before .before .pre .given) _ (c .before .before .before .e2 .given .1) in omega (arith, h .most, h .exact, ap length (c .before .value-of .ensures) ∙ ap length (h .bytes) ∙ encode-length (c .before .before .before .before .before .before .before .pre .value))
+copy-into-requires c κs =
+    let e2 : tie.After-e2 = search in
+    let start : tie.Start = search in
+    let h = held _ _ _ _ (start .pre .given) _ (e2 .e2 .given .1) in
+    omega (arith, h .most, h .exact, ap length (c .before .value-of .ensures) ∙ ap length (h .bytes) ∙ encode-length (start .pre .value))
 
 returns : tie.Need-returns
 returns c = λ v g. open-not _ _ _ _ g (c .enum-told .given .1)
 
 returns-2 : tie.Need-returns-2
-returns-2 c = λ v g. value-written _ _ _ _ _ _ (held _ _ _ _ g _ (c .before .before .before .before .e2 .given .1)) (c .before .before .value-of .ensures) (c .copy-into .ensures)
+returns-2 c = search (needs, value-written, held)
 
 pub write-value-spec : {M : Type 1} → statement M
 write-value-spec =

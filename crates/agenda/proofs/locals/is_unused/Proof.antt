@@ -1,5 +1,5 @@
--- `agenda::locals::is_unused` meets its contract. The walk over the part came to its end exactly if the part does not use the local. Assumes nothing.
-use native.Mathlib.Omega.{arith}
+-- `agenda::locals::is_unused` meets its contract. The walk over the part came to its end exactly if the part does not use the local.
+-- Assumes nothing.
 use Rattle.agenda.proofs.Lacking.{not-unused, is-unused}
 use borrow.Author.Needs.{needs}
 use Rattle.agenda.proofs.locals.is_unused.Statement.{statement}
@@ -18,7 +18,7 @@ enum-told-2 : tie.Need-enum-told-2
 enum-told-2 c = search needs
 
 returns-2 : tie.Need-returns-2
-returns-2 c = is-unused _ _ _ _ _ _ (omega arith) (c .before .before .ask-at .ensures) (c .enum-told .given .1)
+returns-2 c = search (needs, is-unused)
 
 returns-3 : tie.Need-returns-3
 returns-3 c = not-unused _ _ _ _

@@ -1,7 +1,6 @@
--- `agenda::locals::lacks_local` meets its contract. The loop only counts: a local that is marked and that the part lacks ends it, and a mark
--- is one of a local that the target uses. Assumes nothing.
+-- `agenda::locals::lacks_local` meets its contract. The loop only counts: a local that is marked and that the part lacks ends it, and a
+-- mark is one of a local that the target uses. Assumes nothing.
 use Prim.Native.Nat.{_-_, _≤_}
-use native.Mathlib.Omega.{arith}
 use Rattle.terms.specs.Figures.{patternRecords}
 use Rattle.agenda.proofs.Lacking.{lacks-none, lacks}
 use borrow.Author.Needs.{needs}
@@ -18,7 +17,7 @@ slice-aggregate-loose-locals : tie.Need-slice-aggregate-loose-locals Inv-loop μ
 slice-aggregate-loose-locals c = search needs
 
 loose-locals-requires : tie.Need-loose-locals-requires Inv-loop μ-loop
-loose-locals-requires c κs = c .before .before .before .pre .target
+loose-locals-requires c κs = search needs
 
 loop-holds : tie.Need-loop-holds Inv-loop μ-loop
 loop-holds c = search needs
@@ -27,10 +26,10 @@ array-read-is-unused : tie.Need-array-read-is-unused Inv-loop μ-loop
 array-read-is-unused c = search needs
 
 is-unused-requires : tie.Need-is-unused-requires Inv-loop μ-loop
-is-unused-requires c κs = (c .before .before .before .before .before .before .before .pre .part, omega arith)
+is-unused-requires c κs = search needs
 
 returns : tie.Need-returns Inv-loop μ-loop
-returns c = lacks _ _ _ _ _ _ _ _ (c .before .before .loop-test .taken) (c .before .before .before .before .before .loose-locals .ensures) (c .before .is-unused .ensures) (c .if1 .taken)
+returns c = search (needs, lacks)
 
 add-k : tie.Need-add-k Inv-loop μ-loop
 add-k c = search needs

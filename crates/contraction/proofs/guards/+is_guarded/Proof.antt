@@ -6,7 +6,7 @@ use borrow.Author.Tests.{not-true, not-false}
 use borrow.Author.Needs.{needs}
 use Rattle.contraction.proofs.Arguments.{guarded-leaf, guarded-body, guarded-stop, guarded-constant, guarded-argument}
 use Prim.Native.Nat.{ℕ, _<_}
-use borrow.Fn.Kinds.{In}
+use borrow.Fn.Kinds.{In, Out}
 use borrow.Fn.PlainCycle.{Measures, is, falls, and}
 use Rattle.contraction.proofs.guards.is_guarded.Reads as is-guarded
 use Rattle.contraction.proofs.guards.is_guarded.Kinds as is-guarded-kinds
@@ -30,7 +30,12 @@ abbrev is-guarded-below : ℕ → In 1 is-guarded-kinds.ps
 is-guarded-below t =
     and 1 is-guarded-kinds.ps (falls 1 is-guarded-kinds.ps _<_ μ-is-guarded t) is-guarded.Pre
 
-is-guarded-shared-slice-read-kind : (t : ℕ) → is-guarded-lts.Need-shared-slice-read-kind (
+-- `is-guarded-in t X`: the place or the need X of `is_guarded`, which may use the contracts of the cycle below t.
+abbrev is-guarded-in :
+    ℕ →
+    (is-guarded-lts.Claims → In 1 is-guarded-kinds.ps → Out 1 is-guarded-kinds.ps is-guarded-kinds.r → Type 0) →
+    Type 0
+is-guarded-in t X = X (
   head-of-reads.Asked,
   head-of-reads.Learnt,
   is-guarded-below t,
@@ -44,247 +49,54 @@ is-guarded-shared-slice-read-kind : (t : ℕ) → is-guarded-lts.Need-shared-sli
   body-of-reads.Asked,
   body-of-reads.Learnt,
 ) (is-guarded-at t) is-guarded.Post
+
+is-guarded-shared-slice-read-kind : (t : ℕ) → is-guarded-in t is-guarded-lts.Need-shared-slice-read-kind
 is-guarded-shared-slice-read-kind t c = search needs
 
-is-guarded-head-of-requires : (t : ℕ) → is-guarded-lts.Need-head-of-requires (
-  head-of-reads.Asked,
-  head-of-reads.Learnt,
-  is-guarded-below t,
-  is-guarded.Post,
-  argument-of-reads.Asked,
-  argument-of-reads.Learnt,
-  is-local-reads.Asked,
-  is-local-reads.Learnt,
-  has-constant-head-reads.Asked,
-  has-constant-head-reads.Learnt,
-  body-of-reads.Asked,
-  body-of-reads.Learnt,
-) (is-guarded-at t) is-guarded.Post
-is-guarded-head-of-requires t c κs = (c .before .before .before .before .pre .1 .0, c .if1 .taken)
+is-guarded-head-of-requires : (t : ℕ) → is-guarded-in t is-guarded-lts.Need-head-of-requires
+is-guarded-head-of-requires t c κs = search needs
 
-is-guarded-is-guarded-requires : (t : ℕ) → is-guarded-lts.Need-is-guarded-requires (
-  head-of-reads.Asked,
-  head-of-reads.Learnt,
-  is-guarded-below t,
-  is-guarded.Post,
-  argument-of-reads.Asked,
-  argument-of-reads.Learnt,
-  is-local-reads.Asked,
-  is-local-reads.Learnt,
-  has-constant-head-reads.Asked,
-  has-constant-head-reads.Learnt,
-  body-of-reads.Asked,
-  body-of-reads.Learnt,
-) (is-guarded-at t) is-guarded.Post
-is-guarded-is-guarded-requires t c κs = (omega (arith, c .head-of .ensures .0 .shorter), (c .head-of .ensures .0 .tree, omega (arith, c .head-of .ensures .0 .shorter, c .before .before .before .before .before .pre .1 .1)))
+is-guarded-is-guarded-requires : (t : ℕ) → is-guarded-in t is-guarded-lts.Need-is-guarded-requires
+is-guarded-is-guarded-requires t c κs = search needs
 
-is-guarded-returns : (t : ℕ) → is-guarded-lts.Need-returns (
-  head-of-reads.Asked,
-  head-of-reads.Learnt,
-  is-guarded-below t,
-  is-guarded.Post,
-  argument-of-reads.Asked,
-  argument-of-reads.Learnt,
-  is-local-reads.Asked,
-  is-local-reads.Learnt,
-  has-constant-head-reads.Asked,
-  has-constant-head-reads.Learnt,
-  body-of-reads.Asked,
-  body-of-reads.Learnt,
-) (is-guarded-at t) is-guarded.Post
-is-guarded-returns t c = guarded-stop _ _ (c .before .before .before .if1 .taken) _ (c .before .before .head-of .ensures .1) _ (c .before .is-guarded .ensures) (not-true _ (c .if2 .taken))
+is-guarded-returns : (t : ℕ) → is-guarded-in t is-guarded-lts.Need-returns
+is-guarded-returns t c = search (needs, guarded-stop, not-true)
 
-is-guarded-argument-of-requires : (t : ℕ) → is-guarded-lts.Need-argument-of-requires (
-  head-of-reads.Asked,
-  head-of-reads.Learnt,
-  is-guarded-below t,
-  is-guarded.Post,
-  argument-of-reads.Asked,
-  argument-of-reads.Learnt,
-  is-local-reads.Asked,
-  is-local-reads.Learnt,
-  has-constant-head-reads.Asked,
-  has-constant-head-reads.Learnt,
-  body-of-reads.Asked,
-  body-of-reads.Learnt,
-) (is-guarded-at t) is-guarded.Post
-is-guarded-argument-of-requires t c κs = (c .before .before .before .before .before .before .before .pre .1 .0, c .before .before .before .if1 .taken)
+is-guarded-argument-of-requires : (t : ℕ) → is-guarded-in t is-guarded-lts.Need-argument-of-requires
+is-guarded-argument-of-requires t c κs = search needs
 
-is-guarded-is-local-requires : (t : ℕ) → is-guarded-lts.Need-is-local-requires (
-  head-of-reads.Asked,
-  head-of-reads.Learnt,
-  is-guarded-below t,
-  is-guarded.Post,
-  argument-of-reads.Asked,
-  argument-of-reads.Learnt,
-  is-local-reads.Asked,
-  is-local-reads.Learnt,
-  has-constant-head-reads.Asked,
-  has-constant-head-reads.Learnt,
-  body-of-reads.Asked,
-  body-of-reads.Learnt,
-) (is-guarded-at t) is-guarded.Post
+is-guarded-is-local-requires : (t : ℕ) → is-guarded-in t is-guarded-lts.Need-is-local-requires
 is-guarded-is-local-requires t c κs = c .argument-of .ensures .0 .tree
 
-is-guarded-has-constant-head-requires : (t : ℕ) → is-guarded-lts.Need-has-constant-head-requires (
-  head-of-reads.Asked,
-  head-of-reads.Learnt,
-  is-guarded-below t,
-  is-guarded.Post,
-  argument-of-reads.Asked,
-  argument-of-reads.Learnt,
-  is-local-reads.Asked,
-  is-local-reads.Learnt,
-  has-constant-head-reads.Asked,
-  has-constant-head-reads.Learnt,
-  body-of-reads.Asked,
-  body-of-reads.Learnt,
-) (is-guarded-at t) is-guarded.Post
-is-guarded-has-constant-head-requires t c κs = c .before .before .before .before .before .head-of .ensures .0 .tree
+is-guarded-has-constant-head-requires : (t : ℕ) → is-guarded-in t is-guarded-lts.Need-has-constant-head-requires
+is-guarded-has-constant-head-requires t c κs = search needs
 
-is-guarded-returns-2 : (t : ℕ) → is-guarded-lts.Need-returns-2 (
-  head-of-reads.Asked,
-  head-of-reads.Learnt,
-  is-guarded-below t,
-  is-guarded.Post,
-  argument-of-reads.Asked,
-  argument-of-reads.Learnt,
-  is-local-reads.Asked,
-  is-local-reads.Learnt,
-  has-constant-head-reads.Asked,
-  has-constant-head-reads.Learnt,
-  body-of-reads.Asked,
-  body-of-reads.Learnt,
-) (is-guarded-at t) is-guarded.Post
-is-guarded-returns-2 t c = guarded-constant _ _ (c .before .before .before .before .before .before .before .if1 .taken) _ (c .before .before .before .before .before .before .head-of .ensures .1) _ (c .before .before .before .before .before .is-guarded .ensures) (not-false _ (c .before .before .before .before .if2 .left)) _ (c .before .before .before .argument-of .ensures .1) _ (c .before .before .is-local .ensures) (c .before .if3 .taken) _ (c .has-constant-head .ensures)
+is-guarded-returns-2 : (t : ℕ) → is-guarded-in t is-guarded-lts.Need-returns-2
+is-guarded-returns-2 t c = search (needs, guarded-constant, not-false)
 
-is-guarded-is-guarded-requires-2 : (t : ℕ) → is-guarded-lts.Need-is-guarded-requires-2 (
-  head-of-reads.Asked,
-  head-of-reads.Learnt,
-  is-guarded-below t,
-  is-guarded.Post,
-  argument-of-reads.Asked,
-  argument-of-reads.Learnt,
-  is-local-reads.Asked,
-  is-local-reads.Learnt,
-  has-constant-head-reads.Asked,
-  has-constant-head-reads.Learnt,
-  body-of-reads.Asked,
-  body-of-reads.Learnt,
-) (is-guarded-at t) is-guarded.Post
-is-guarded-is-guarded-requires-2 t c κs = (omega (arith, c .before .before .argument-of .ensures .0 .shorter), (c .before .before .argument-of .ensures .0 .tree, omega (arith, c .before .before .argument-of .ensures .0 .shorter, c .before .before .before .before .before .before .before .before .before .before .pre .1 .1)))
+is-guarded-is-guarded-requires-2 : (t : ℕ) → is-guarded-in t is-guarded-lts.Need-is-guarded-requires-2
+is-guarded-is-guarded-requires-2 t c κs = search needs
 
-is-guarded-returns-3 : (t : ℕ) → is-guarded-lts.Need-returns-3 (
-  head-of-reads.Asked,
-  head-of-reads.Learnt,
-  is-guarded-below t,
-  is-guarded.Post,
-  argument-of-reads.Asked,
-  argument-of-reads.Learnt,
-  is-local-reads.Asked,
-  is-local-reads.Learnt,
-  has-constant-head-reads.Asked,
-  has-constant-head-reads.Learnt,
-  body-of-reads.Asked,
-  body-of-reads.Learnt,
-) (is-guarded-at t) is-guarded.Post
-is-guarded-returns-3 t c = guarded-argument _ _ (c .before .before .before .before .before .before .before .if1 .taken) _ (c .before .before .before .before .before .before .head-of .ensures .1) _ (c .before .before .before .before .before .is-guarded .ensures) (not-false _ (c .before .before .before .before .if2 .left)) _ (c .before .before .before .argument-of .ensures .1) _ (c .before .before .is-local .ensures) (c .before .if3 .left) _ (c .is-guarded2 .ensures)
+is-guarded-returns-3 : (t : ℕ) → is-guarded-in t is-guarded-lts.Need-returns-3
+is-guarded-returns-3 t c = search (needs, guarded-argument, not-false)
 
-is-guarded-body-of-requires : (t : ℕ) → is-guarded-lts.Need-body-of-requires (
-  head-of-reads.Asked,
-  head-of-reads.Learnt,
-  is-guarded-below t,
-  is-guarded.Post,
-  argument-of-reads.Asked,
-  argument-of-reads.Learnt,
-  is-local-reads.Asked,
-  is-local-reads.Learnt,
-  has-constant-head-reads.Asked,
-  has-constant-head-reads.Learnt,
-  body-of-reads.Asked,
-  body-of-reads.Learnt,
-) (is-guarded-at t) is-guarded.Post
-is-guarded-body-of-requires t c κs = (c .before .before .before .before .before .before .pre .1 .0, c .if4 .taken)
+is-guarded-body-of-requires : (t : ℕ) → is-guarded-in t is-guarded-lts.Need-body-of-requires
+is-guarded-body-of-requires t c κs = search needs
 
-is-guarded-add-is-guarded : (t : ℕ) → is-guarded-lts.Need-add-is-guarded (
-  head-of-reads.Asked,
-  head-of-reads.Learnt,
-  is-guarded-below t,
-  is-guarded.Post,
-  argument-of-reads.Asked,
-  argument-of-reads.Learnt,
-  is-local-reads.Asked,
-  is-local-reads.Learnt,
-  has-constant-head-reads.Asked,
-  has-constant-head-reads.Learnt,
-  body-of-reads.Asked,
-  body-of-reads.Learnt,
-) (is-guarded-at t) is-guarded.Post
-is-guarded-add-is-guarded t c = omega (arith, c .before .before .before .before .before .before .before .pre .1 .0 .least, c .before .before .before .before .before .before .before .pre .1 .1)
+is-guarded-add-is-guarded : (t : ℕ) → is-guarded-in t is-guarded-lts.Need-add-is-guarded
+is-guarded-add-is-guarded t c = omega arith
 
-is-guarded-is-guarded-requires-3 : (t : ℕ) → is-guarded-lts.Need-is-guarded-requires-3 (
-  head-of-reads.Asked,
-  head-of-reads.Learnt,
-  is-guarded-below t,
-  is-guarded.Post,
-  argument-of-reads.Asked,
-  argument-of-reads.Learnt,
-  is-local-reads.Asked,
-  is-local-reads.Learnt,
-  has-constant-head-reads.Asked,
-  has-constant-head-reads.Learnt,
-  body-of-reads.Asked,
-  body-of-reads.Learnt,
-) (is-guarded-at t) is-guarded.Post
-is-guarded-is-guarded-requires-3 t c κs = (omega (arith, c .body-of .ensures .0 .shorter), (c .body-of .ensures .0 .tree, omega (arith, c .body-of .ensures .0 .shorter, c .before .before .before .before .before .before .before .pre .1 .1)))
+is-guarded-is-guarded-requires-3 : (t : ℕ) → is-guarded-in t is-guarded-lts.Need-is-guarded-requires-3
+is-guarded-is-guarded-requires-3 t c κs = search needs
 
-is-guarded-returns-4 : (t : ℕ) → is-guarded-lts.Need-returns-4 (
-  head-of-reads.Asked,
-  head-of-reads.Learnt,
-  is-guarded-below t,
-  is-guarded.Post,
-  argument-of-reads.Asked,
-  argument-of-reads.Learnt,
-  is-local-reads.Asked,
-  is-local-reads.Learnt,
-  has-constant-head-reads.Asked,
-  has-constant-head-reads.Learnt,
-  body-of-reads.Asked,
-  body-of-reads.Learnt,
-) (is-guarded-at t) is-guarded.Post
-is-guarded-returns-4 t c = guarded-body _ _ (c .before .before .if4 .taken) _ (c .before .body-of .ensures .1) _ (c .is-guarded3 .ensures)
+is-guarded-returns-4 : (t : ℕ) → is-guarded-in t is-guarded-lts.Need-returns-4
+is-guarded-returns-4 t c = search (needs, guarded-body)
 
-is-guarded-is-local-requires-2 : (t : ℕ) → is-guarded-lts.Need-is-local-requires-2 (
-  head-of-reads.Asked,
-  head-of-reads.Learnt,
-  is-guarded-below t,
-  is-guarded.Post,
-  argument-of-reads.Asked,
-  argument-of-reads.Learnt,
-  is-local-reads.Asked,
-  is-local-reads.Learnt,
-  has-constant-head-reads.Asked,
-  has-constant-head-reads.Learnt,
-  body-of-reads.Asked,
-  body-of-reads.Learnt,
-) (is-guarded-at t) is-guarded.Post
-is-guarded-is-local-requires-2 t c κs = c .before .before .before .before .before .before .pre .1 .0
+is-guarded-is-local-requires-2 : (t : ℕ) → is-guarded-in t is-guarded-lts.Need-is-local-requires-2
+is-guarded-is-local-requires-2 t c κs = search needs
 
-is-guarded-returns-5 : (t : ℕ) → is-guarded-lts.Need-returns-5 (
-  head-of-reads.Asked,
-  head-of-reads.Learnt,
-  is-guarded-below t,
-  is-guarded.Post,
-  argument-of-reads.Asked,
-  argument-of-reads.Learnt,
-  is-local-reads.Asked,
-  is-local-reads.Learnt,
-  has-constant-head-reads.Asked,
-  has-constant-head-reads.Learnt,
-  body-of-reads.Asked,
-  body-of-reads.Learnt,
-) (is-guarded-at t) is-guarded.Post
-is-guarded-returns-5 t c = guarded-leaf _ _ (c .before .before .before .if1 .left) (c .before .if4 .left) _ (c .is-local2 .ensures)
+is-guarded-returns-5 : (t : ℕ) → is-guarded-in t is-guarded-lts.Need-returns-5
+is-guarded-returns-5 t c = search (needs, guarded-leaf)
 
 pub +is-guarded-spec : {M : Type 1} → statement M
 +is-guarded-spec = close μ-is-guarded λ t. is-guarded-lts.spec (

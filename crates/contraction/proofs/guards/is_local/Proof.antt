@@ -14,7 +14,7 @@ number-at-requires : tie.Need-number-at-requires
 number-at-requires c κs = search needs
 
 returns-2 : tie.Need-returns-2
-returns-2 c = same-local _ _ _ (c .before .if1 .left) (c .number-at .ensures .0)
+returns-2 c = search (needs, same-local)
 
 pub is-local-spec : {M : Type 1} → statement M
 is-local-spec = tie.close (tie.spec shared-slice-read-if1 returns number-at-requires returns-2)

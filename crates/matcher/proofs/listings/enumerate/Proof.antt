@@ -1,5 +1,5 @@
--- `matcher::listings::enumerate` meets its contract: the reduct is a pattern with the same full listing. Where it is too long the pattern itself
--- is searched. Assumes nothing.
+-- `matcher::listings::enumerate` meets its contract: the reduct is a pattern with the same full listing. Where it is too long the pattern
+-- itself is searched. Assumes nothing.
 use native.Mathlib.Omega.{arith}
 use Rattle.contraction.proofs.Reducts.{reducible, result}
 use Rattle.matcher.proofs.Reducts.{listable, enumerated}
@@ -8,7 +8,7 @@ use Rattle.matcher.proofs.listings.enumerate.Statement.{statement}
 use Rattle.matcher.proofs.listings.enumerate.Tie as tie
 
 reduce-requires : tie.Need-reduce-requires
-reduce-requires c κs = reducible _ (c .before .before .before .before .before .before .pre .pattern-checked .tree) (c .before .before .before .before .before .before .pre .pattern-checked .table) (c .before .before .before .before .before .before .pre .pattern-checked .most)
+reduce-requires c κs = search (needs, reducible)
 
 enum-known-length : tie.Need-enum-known-length
 enum-known-length c = search needs
@@ -32,7 +32,14 @@ returns : tie.Need-returns
 returns c = search needs
 
 mul-enumerate-short : tie.Need-mul-enumerate-short
-mul-enumerate-short c = omega (arith, result _ _ _ _ _ (c .before .before .before .reduce .ensures (c .before .before .before .before .before .before .before .before .before .before .pre .pattern-checked .tree) (c .before .before .before .before .before .before .before .before .before .before .pre .pattern-checked .table .0)) (c .before .length .given .1) (omega arith) .few)
+mul-enumerate-short c =
+    let reduce : tie.After-reduce = search in
+    let start : tie.Start = search in
+    omega (
+      arith,
+      result _ _ _ _ _ (reduce .reduce .ensures (start .pre .pattern-checked .tree) (start .pre .pattern-checked .table .0))
+          (c .before .length .given .1) (omega arith) .few,
+    )
 
 sub-enumerate-short : tie.Need-sub-enumerate-short
 sub-enumerate-short c = search needs
@@ -41,10 +48,21 @@ part-enumerate-short-start : tie.Need-part-enumerate-short-start
 part-enumerate-short-start c = search needs
 
 part-enumerate-short-end : tie.Need-part-enumerate-short-end
-part-enumerate-short-end c = result _ _ _ _ _ (c .before .before .before .before .reduce .ensures (c .before .before .before .before .before .before .before .before .before .before .before .pre .pattern-checked .tree) (c .before .before .before .before .before .before .before .before .before .before .before .pre .pattern-checked .table .0)) (c .before .before .length .given .1) (omega arith) .within
+part-enumerate-short-end c =
+    let length : tie.After-length = search in
+    let reduce : tie.After-reduce = search in
+    let start : tie.Start = search in
+    result _ _ _ _ _ (reduce .reduce .ensures (start .pre .pattern-checked .tree) (start .pre .pattern-checked .table .0))
+    (length .length .given .1) (omega arith) .within
 
 enumerate-short-requires-2 : tie.Need-enumerate-short-requires-2
-enumerate-short-requires-2 c κs = let o = result _ _ _ _ _ (c .before .before .before .before .before .before .before .before .reduce .ensures (c .before .before .before .before .before .before .before .before .before .before .before .before .before .before .before .pre .pattern-checked .tree) (c .before .before .before .before .before .before .before .before .before .before .before .before .before .before .before .pre .pattern-checked .table .0)) (c .before .before .before .before .before .before .length .given .1) (omega arith) in listable _ _ (c .before .before .before .before .before .before .before .before .before .before .before .before .before .before .before .pre .pattern-checked) (o .bytes) (omega (arith, o .fills, o .few)) _ _ _ _ (c .before .before .before .before .before .before .before .before .before .before .before .before .before .before .before .pre)
+enumerate-short-requires-2 c κs =
+    let length : tie.After-length = search in
+    let reduce : tie.After-reduce = search in
+    let start : tie.Start = search in
+    let o = result _ _ _ _ _ (reduce .reduce .ensures (start .pre .pattern-checked .tree) (start .pre .pattern-checked .table .0))
+    (length .length .given .1) (omega arith) in
+    listable _ _ (start .pre .pattern-checked) (o .bytes) (omega (arith, o .fills, o .few)) _ _ _ _ (start .pre)
 
 same-length-4 : tie.Need-same-length-4
 same-length-4 c = search needs
@@ -56,7 +74,13 @@ same-length-6 : tie.Need-same-length-6
 same-length-6 c = search needs
 
 returns-2 : tie.Need-returns-2
-returns-2 c = let o = result _ _ _ _ _ (c .before .before .before .before .before .before .before .before .before .before .before .before .before .before .before .reduce .ensures (c .before .before .before .before .before .before .before .before .before .before .before .before .before .before .before .before .before .before .before .before .before .before .pre .pattern-checked .tree) (c .before .before .before .before .before .before .before .before .before .before .before .before .before .before .before .before .before .before .before .before .before .before .pre .pattern-checked .table .0)) (c .before .before .before .before .before .before .before .before .before .before .before .before .before .length .given .1) (omega arith) in enumerated _ _ (c .before .before .before .before .before .before .before .before .before .before .before .before .before .before .before .before .before .before .before .before .before .before .pre .pattern-checked) (o .bytes) _ _ _ _ _ _ (c .before .before .before .before .before .before .enumerate-short2 .ensures)
+returns-2 c =
+    let length : tie.After-length = search in
+    let reduce : tie.After-reduce = search in
+    let start : tie.Start = search in
+    let o = result _ _ _ _ _ (reduce .reduce .ensures (start .pre .pattern-checked .tree) (start .pre .pattern-checked .table .0))
+    (length .length .given .1) (omega arith) in
+    search (needs, enumerated)
 
 pub enumerate-spec : {M : Type 1} → statement M
 enumerate-spec =

@@ -7,10 +7,15 @@ returns : tie.Need-returns
 returns c = allowed-variable (c .before .before .args .variables) _ (c .before .before .args .number) (c .if1 .taken)
 
 returns-2 : tie.Need-returns-2
-returns-2 c = allowed-bare (c .before .before .before .before .args .variables) _ (c .before .before .before .before .args .number) (c .if2 .taken)
+returns-2 c =
+    let start : tie.Start = search in
+    allowed-bare (start .args .variables) _ (start .args .number) (c .if2 .taken)
 
 returns-3 : tie.Need-returns-3
-returns-3 c = allowed-any (c .before .before .before .before .args .variables) _ (c .before .before .before .before .args .number) (c .before .before .before .before .pre) (c .before .before .if1 .left) (c .if2 .left)
+returns-3 c =
+    let else1 : tie.Else1 = search in
+    let start : tie.Start = search in
+    allowed-any (start .args .variables) _ (start .args .number) (start .pre) (else1 .if1 .left) (c .if2 .left)
 
 pub allows-spec : {M : Type 1} → statement M
 allows-spec = tie.close (tie.spec returns returns-2 returns-3)

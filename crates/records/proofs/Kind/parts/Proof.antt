@@ -12,7 +12,7 @@ returns-2 : tie.Need-returns-2
 returns-2 c = search needs
 
 returns-3 : tie.Need-returns-3
-returns-3 c = (parts-none _ (c .before .before .if1 .left) (c .if2 .left), omega arith)
+returns-3 c = (search (needs, parts-none), omega arith)
 
 pub parts-spec : {M : Type 1} → statement M
 parts-spec = tie.close (tie.spec returns returns-2 returns-3)

@@ -1,0 +1,530 @@
+-- The ways of an application that was put off: what each writes at the top is the goals that it leaves, and the goals that are kept stand
+-- where they stood. A goal's weight pays for what is written, since the parts of the application weigh less than it does. Assumes nothing.
+--   Site P W s r f b t   the item r, first of those put off, is the goal that the application of f and b sweeps to t
+--   Numbers P W s r      what reading that goal and writing at the top needs
+use mathlib.Core.Path.{_≡_, refl, sym, ap, _∙_, subst}
+use mathlib.Core.Bool.{Bool, true}
+use mathlib.Core.List.{List, [], _∷_}
+use Prim.Native.Nat.{ℕ, _+_, _-_, _*_, _/_, _%_, _<_, _≤_}
+use native.Mathlib.Omega.{arith}
+use lib.ListN.{length, getD, take, drop, replicate, length-take}
+use lib.Seq.{sets}
+use Rattle.terms.specs.Figures.{variables, patternRecords, valueRecords, tableBytes}
+use Rattle.terms.specs.Term.{Term, app, lam, loc, con, var, size, shift}
+use Rattle.terms.specs.Table.{bytes, encode}
+use Rattle.terms.specs.Listing.{Line}
+use Rattle.terms.specs.Refusal.{OccursIn}
+use Rattle.terms.proofs.Locals.{rigid}
+use Rattle.terms.proofs.Table.{kind, encode-length}
+use Rattle.terms.proofs.Shift.{size-shift}
+use Rattle.matching.proofs.Lines.{Values}
+use Rattle.matching.proofs.Partial.{total}
+use Rattle.matching.proofs.Goals.{Goal, Goal.match, Goal.build, Listable}
+use Rattle.matching.proofs.Alternatives.{alternative-parts, alternative-no-parts, listable-parts, listable-constant}
+use Rattle.matching.proofs.Prune.{no-local, constant-local}
+use Rattle.matching.proofs.Step.{constant, constant-normal}
+use Rattle.matching.proofs.Targets.{closed-more, closed-shift, constant-closed, constant-ground}
+use Rattle.records.specs.Parts.{Part, Whole, Ends}
+use Rattle.records.proofs.Parts.{application, kind-at, whole}
+use Rattle.sweeping.specs.Writers.{Source, Wrote}
+use Rattle.sweeping.proofs.Writers.{source}
+use Rattle.sweeping.proofs.Contraction.{closed-fits}
+use Rattle.copying.proofs.Stores as Stores
+use Rattle.assignments.specs.declared.Entry.{Entry}
+use Rattle.agenda.specs.declared.Agenda.{Agenda}
+use Rattle.agenda.specs.declared.Branch.{Branch}
+use Rattle.agenda.specs.declared.Item.{Item}
+use Rattle.agenda.specs.declared.Skeleton.{Skeleton}
+use Rattle.agenda.specs.declared.Ways.{Ways}
+use Rattle.agenda.specs.Items.{itemBytes, ItemAt, Fits}
+use Rattle.agenda.specs.State.{targetBytes, Target, State, Bounds, Easy, Hard, Chain, relinking}
+use Rattle.agenda.specs.Moves.{Question, Move, Moved, Failed, Branched}
+use Rattle.abstractions.proofs.Depths.{depth-source, depth-written}
+use Rattle.abstractions.specs.Occurrences.{DepthSource, WroteDepths}
+use Rattle.alternatives.specs.Ways.{Way, HasWays, HasDepths, Lacking, Fitting}
+use Rattle.builds.specs.Outlines.{Outlines, Sketch}
+use Rattle.builds.specs.Builds.{Pushes, Pushed, targetItem, afterItem}
+use Rattle.alternatives.specs.Applications.{Matches, Counted}
+use Rattle.agenda.specs.Items.{matchItem, buildItem}
+use Rattle.agenda.specs.Locals.{Locals, Lacks}
+use Rattle.agenda.proofs.Frame.{Kept, part-kept, part-stored, target-kept, chain-kept, holds-kept, kept-sets, kept-then, length-stored}
+use Rattle.agenda.proofs.Frame.{item-stored, chain-match}
+use Rattle.builds.proofs.Outlining.{line-values, extended-values}
+
+-- the head and the argument of an application that stands in a table
+pub application-parts : (l : List ℕ) (at : ℕ) (f b : Term) → Part l at (app f b) → Part l (at + 4) f × Part l (at + 4 + 4 * size f) b
+application-parts l at f b x =
+    let v = application l at (app f b) x (kind-at l at (app f b) x) in
+    let p : v .f ≡ f = cc in
+    let q : v .a ≡ b = cc in (
+      subst (Part l (at + 4)) p (v .head),
+      subst (λ (g : Term). Part l (at + 4 + 4 * size g) b) p (subst (Part l (at + 4 + 4 * size (v .f))) q (v .argument)),
+    )
+
+pub argument-from : (l : List ℕ) (at h : ℕ) (f b : Term) → Ends l (at + 4) h → Part l at (app f b) → Part l h b
+argument-from l at h f b e x =
+    let v = application-parts l at f b x in
+    subst (λ (i : ℕ). Part l i b) (sym (e .exact f (v .0))) (v .1)
+
+pub record Site (P W : List ℕ) (s : Agenda) (r : Item) (f b t : Term) : Type 0 where
+  pub part : Part P (r .part) (app f b)
+  pub target : Target W (s .top) (size (app f b)) (r .target) t
+  pub suits : Listable variables (OccursIn P) (match (app f b) t)
+  pub next : r .next < s .hard
+  pub part-even : r .part % 4 ≡ 0
+  pub target-even : r .target % 4 ≡ 0
+  pub next-even : r .next % 4 ≡ 0
+
+pub record Numbers (P W : List ℕ) (s : Agenda) (r : Item) : Type 0 where
+  pub head : Whole P (r .part + 4)
+  pub target : Whole W (r .target)
+  pub target-low : r .target + 4 ≤ s .top
+  pub part-low : r .part + 12 ≤ length P
+  pub next : r .next < s .hard
+  pub room : s .top + 5744 ≤ tableBytes
+
+module _ (P W : List ℕ) (s : Agenda) (a : List Entry) where
+  abbrev pub MatchState : List Goal → Line → Term → Term → Term → List Goal → Type 0
+  MatchState gs l f b t hs = State relinking P W s a gs (match (app f b) t ∷ hs) l
+
+  pub site : (r : Item) (gs hs : List Goal) (l : Line) (f b t : Term) → ItemAt W (s .hard) r → MatchState gs l f b t hs → Site P W s r f b t
+  site r gs hs l f b t y x =
+      let n = x .hard .0 in
+      record {
+        part = subst (λ (i : ℕ). Part P i (app f b)) (sym (y .part)) (n .goal .part);
+        target = subst (λ (i : ℕ). Target W (s .top) (size (app f b)) i t) (sym (y .target)) (n .goal .target);
+        suits = n .goal .suits;
+        next = omega (arith, y .next, n .falls);
+        part-even = omega (arith, y .part);
+        target-even = omega (arith, y .target);
+        next-even = omega (arith, y .next);
+      }
+
+  module _ (x : Matches P W s a) where
+    -- the first goal put off is an application, in each state that stands there
+    pub opened :
+        (gs : List Goal) (l : Line) (Q : List Goal → Type 0)
+        → ((f b t : Term) (hs : List Goal) → MatchState gs l f b t hs → Q (match (app f b) t ∷ hs))
+        → (hs : List Goal) → State relinking P W s a gs hs l → Q hs
+    opened gs l Q h [] y = absurd (omega (arith, x .some-hard, y .hard))
+    opened gs l Q h (match (app f b) t ∷ hs) y = h f b t hs y
+    opened gs l Q h (match (lam b) t ∷ hs) y = absurd (y .hard .0 .kind)
+    opened gs l Q h (match (loc n) t ∷ hs) y = absurd (y .hard .0 .kind)
+    opened gs l Q h (match (con n) t ∷ hs) y = absurd (y .hard .0 .kind)
+    opened gs l Q h (match (var n) t ∷ hs) y = absurd (y .hard .0 .kind)
+    opened gs l Q h (build f t e ∷ hs) y = absurd (omega (arith, x .kind, y .hard .0 .goal .kind))
+
+    -- the state that a way starts from
+    pub from : (A : Type 0) → ((gs hs : List Goal) (l : Line) (f b t : Term) → MatchState gs l f b t hs → A) → A
+    from A h = opened (x .ready .gs) (x .ready .line) (λ _. A) (λ f b t hs y. h (x .ready .gs) hs (x .ready .line) f b t y)
+        (x .ready .hs) (x .ready .state)
+
+    module _ (r : Item) (y : ItemAt W (s .hard) r) where
+      pub numbers : Numbers P W s r
+      numbers = from (Numbers P W s r) (λ gs hs l f b t z.
+          let v = site r gs hs l f b t y z in
+          let u = application-parts P (r .part) f b (v .part) in
+          record {
+            head = whole P (r .part + 4) f (u .0);
+            target = whole W (r .target) t (v .target .part);
+            target-low = omega (arith, v .target .below, v .target .part .some);
+            part-low = omega (arith, u .0 .some, u .1 .some, u .1 .within);
+            next = v .next;
+            room = omega (arith, z .room, u .0 .some, u .1 .some);
+          })
+
+      -- what is known before the ways are gone through
+      pub argument-whole : (h : ℕ) → Ends P (r .part + 4) h → Whole P h
+      argument-whole h e =
+          from (Whole P h) (λ gs hs l f b t z. whole P h b (argument-from P (r .part) h f b e (site r gs hs l f b t y z .part)))
+
+      pub argument-walkable : (h : ℕ) → Ends P (r .part + 4) h → Whole P h × (patternRecords + length P ≤ h + tableBytes)
+      argument-walkable h e = (argument-whole h e, omega (arith, x .ready .bounds .short))
+
+      pub argument-outlines : (h : ℕ) → Ends P (r .part + 4) h → Outlines P h W a
+      argument-outlines h e = from (Outlines P h W a) (λ gs hs l f b t z.
+          let v = site r gs hs l f b t y z in
+          record {
+            tree = b;
+            part = argument-from P (r .part) h f b e (v .part);
+            short = x .ready .bounds .short;
+            below = v .suits .0 .0 .1;
+            φ = total l;
+            gives = line-values P W s a l (x .ready .bounds) (z .entries) b;
+          })
+
+      pub locals : Locals P (r .part + 4) W (r .target)
+      locals = from (Locals P (r .part + 4) W (r .target)) (λ gs hs l f b t z.
+          let v = site r gs hs l f b t y z .target in
+          record {
+            part = numbers .head;
+            short = x .ready .bounds .short;
+            target = record {
+              tree = t;
+              part = v .part;
+              closed = closed-more (patternRecords - size (app f b)) (0 + patternRecords) t (omega arith) (v .closed);
+              shallow = omega (arith, v .short);
+              least = omega (arith, v .part .some, v .part .within);
+            };
+          })
+
+      pub counted :
+          (h g : ℕ) (c d : Bool) (m : List ℕ) (o : ℕ) (i : Skeleton) → Ends W (r .target) h → Ends P (r .part + 4) g
+          → ((t : Term) → Part P g t → c ≡ rigid t) → Sketch P g W a (i .bytes) (i .length)
+          → Lacks P (r .part + 4) W (r .target) d → WroteDepths W (r .target) 0 (replicate valueRecords 0) 0 m o
+          → Counted P W s a (record { count = (h - r .target) / 4 + 2; argument = g; rigid = c; skeleton = i; lacking = d; depths = m })
+      unfolding Lacks
+      counted h g c d m o i e j k p n u = record {
+        ways = λ gs hs l z. opened gs l (HasWays ((h - r .target) / 4 + 2))
+            (λ f b t us o. omega (arith, e .exact t (site r gs us l f b t y o .target .part))) hs z;
+        argument = subst (λ (i : ℕ). Ends P (i + 4) g) (y .part) j;
+        rigid-argument = k;
+        depths-are = λ gs hs l z. opened gs l (HasDepths m)
+            (λ f b t us v i q. depth-written W (r .target) _ m o u i t (site r gs us l f b t y v .target .part) q) hs z;
+        skeleton-table = p .table;
+        skeleton-fits = λ gs hs l z. opened gs l (Fitting (p .table .tree) l) (λ f b t us v φ w q.
+            p .outline b (argument-from P (r .part) g f b j (site r gs us l f b t y v .part)) φ w
+            (extended-values P W s a l (x .ready .bounds) (v .entries) b φ q)) hs z;
+        lacking-head = λ i gs hs l z.
+            let q : Lacks P (r .part + 4) W (r .target) true = subst (Lacks P (r .part + 4) W (r .target)) i n in
+            opened gs l Lacking (λ f b t us o.
+            let v = site r gs us l f b t y o in
+            let q′ = q .1 f t (application-parts P (r .part) f b (v .part) .0) (v .target .part) in
+            (q .0, q′ .0, q′ .1)) hs z;
+      }
+
+      pub depths-room : DepthSource W (r .target) 0 valueRecords 0
+      depths-room = from (DepthSource W (r .target) 0 valueRecords 0) (λ gs hs l f b t z.
+          let v = site r gs hs l f b t y z .target in
+          depth-source W (r .target) 0 valueRecords 0 t (v .part) (omega (arith, v .short)) (omega (arith, v .short)))
+
+      pub argument-ends : (w : Ways) → Counted P W s a w → Ends P (r .part + 4) (w .argument)
+      argument-ends w c = subst (λ (i : ℕ). Ends P (i + 4) (w .argument)) (sym (y .part)) (c .argument)
+
+      -- no way
+      pub dead :
+          (i : ℕ) (X : List ℕ) → take (s .top) X ≡ take (s .top) W
+          → ((f b t : Term) (gs hs : List Goal) (l : Line) (φ : ℕ → Term) → Site P W s r f b t → Values φ
+          → ¬ Way i gs (match (app f b) t ∷ hs) l φ)
+          → Failed relinking P W s a (Way i) X
+      dead i X k h = record {
+        none = λ gs hs l z φ v. opened gs l (λ us. ¬ Way i gs us l φ) (λ f b t us o. h f b t gs us l φ (site r gs us l f b t y o) v) hs z;
+        kept = k;
+      }
+
+      pub no-parts : ¬ (getD W (r .target) 0 ≡ 0) → Failed relinking P W s a (Way 0) W
+      no-parts k = dead 0 W refl (λ f b t gs hs l φ v w p.
+          alternative-no-parts φ f b t (λ q. k (kind-at W (r .target) t (v .target .part) ∙ q)) (p .1 .0))
+
+-- what a way answers
+pub live : (P W : List ℕ) (s : Agenda) (a : List Entry) (Q : Question) (X : List ℕ) (s′ : Agenda) → Move relinking P W s a Q X s′ a
+    → Branched P W s a Q X (Branch.Next s′)
+unfolding Branched
+live P W s a Q X s′ x = x
+
+pub died : (P W : List ℕ) (s : Agenda) (a : List Entry) (Q : Question) (X : List ℕ) → Failed relinking P W s a Q X
+    → Branched P W s a Q X Branch.Failed
+unfolding Branched
+died P W s a Q X x = x
+
+pub at-way :
+    (P W : List ℕ) (s : Agenda) (a : List Entry) (i j : ℕ) (X : List ℕ) (r : Branch) → i ≡ j → Branched P W s a (Way j) X r
+    → Branched P W s a (Way i) X r
+at-way P W s a i j X r e x = subst (λ (n : ℕ). Branched P W s a (Way n) X r) (sym e) x
+
+-- a goal that is written
+pub stored-as : (W Y : List ℕ) (at : ℕ) (i j : Item) → i ≡ j → Y ≡ sets W at (itemBytes i) → Y ≡ sets W at (itemBytes j)
+stored-as W Y at i j p q = q ∙ ap (λ (k : Item). sets W at (itemBytes k)) p
+
+pub fits-build :
+    (i : Item) (part target next argument : ℕ) → i ≡ buildItem part target next argument → part < 1024 → target < 262144 → next < 262144
+    → argument < 262144 → Fits i
+fits-build i part target next argument p x y z w = rw p (record { part = x; target = y; next = z; argument = w })
+
+pub fits-match : (i : Item) (part target next : ℕ) → i ≡ matchItem part target next → part < 1024 → target < 262144 → next < 262144 → Fits i
+fits-match i part target next p x y z = rw p (record { part = x; target = y; next = z; argument = omega arith })
+
+-- the goals that the target's own parts leave
+module _ (P W : List ℕ) (s : Agenda) (a : List Entry) (r : Item) (h e : ℕ) (Y X : List ℕ) (bounds : Bounds P W s)
+    (eh : Ends P (r .part + 4) h) (ee : Ends W (r .target + 4) e)
+    (y : ItemAt W (s .hard) r) (n : Numbers P W s r)
+    (first : Y ≡ sets W (s .top) (itemBytes (matchItem h e (s .easy))))
+    (second : X ≡ sets Y (s .top + 8) (itemBytes (matchItem (r .part + 4) (r .target + 4) (s .top))))
+  where
+    length-Y : length Y ≡ tableBytes
+    length-Y = length-stored (itemBytes (matchItem h e (s .easy))) W Y (s .top) first ∙ bounds .whole
+
+    length-X : length X ≡ tableBytes
+    length-X = length-stored (itemBytes (matchItem (r .part + 4) (r .target + 4) (s .top))) Y X (s .top + 8) second ∙ length-Y
+
+    kept-first : Kept W Y (s .top)
+    kept-first = kept-sets (itemBytes (matchItem h e (s .easy))) W Y (s .top) (s .top) first (omega arith)
+        (omega (arith, bounds .whole, bounds .top))
+
+    kept-second : Kept Y X (s .top + 8)
+    kept-second = kept-sets (itemBytes (matchItem (r .part + 4) (r .target + 4) (s .top))) Y X (s .top + 8) (s .top + 8) second
+        (omega arith) (omega (arith, length-Y, n .room))
+
+    kept-all : Kept W X (s .top)
+    kept-all = kept-then W Y X (s .top) (s .top + 8) (omega arith) kept-first kept-second
+
+    abbrev after : Agenda
+    after = record { top = s .top + 2 * 8; easy = s .top + 8; hard = r .next }
+
+    parts-state :
+        (gs hs : List Goal) (l : Line) (f b t u : Term) → Site P W s r f b (app t u) → MatchState P W s a gs l f b (app t u) hs
+        → State 0 P X after a (match f t ∷ match b u ∷ gs) hs l
+    parts-state gs hs l f b t u v z =
+        let g = v .target in
+        let c = application-parts P (r .part) f b (v .part) in
+        let d = application-parts W (r .target) t u (g .part) in
+        let nh : h ≡ r .part + 4 + 4 * size f = eh .exact f (c .0) in
+        let ne : e ≡ r .target + 4 + 4 * size t = ee .exact t (d .0) in
+        let o = listable-parts variables (OccursIn P) f b t u (v .suits) in
+        let head : Target W (s .top) (size f) (r .target + 4) t = record {
+          part = d .0;
+          below = omega (arith, g .below);
+          normal = g .normal .1;
+          ground = g .ground .0;
+          few = omega (arith, g .few);
+          closed = closed-more (patternRecords - size (app f b)) (patternRecords - size f) t (omega arith) (g .closed .0);
+          short = omega (arith, g .short);
+        } in
+        let argument : Target W (s .top) (size b) e u = record {
+          part = argument-from W (r .target) e t u ee (g .part);
+          below = omega (arith, g .below);
+          normal = g .normal .2;
+          ground = g .ground .1;
+          few = omega (arith, g .few);
+          closed = closed-more (patternRecords - size (app f b)) (patternRecords - size b) u (omega arith) (g .closed .1);
+          short = omega (arith, g .short);
+        } in
+        let one : ItemAt Y (s .top) (matchItem h e (s .easy)) =
+        item-stored W Y (s .top) (matchItem h e (s .easy)) first (omega (arith, bounds .whole, n .room))
+        (omega (arith, v .part-even)) (omega (arith, v .target-even)) (bounds .easy-even) (omega arith) in
+        let two : ItemAt X (s .top + 8) (matchItem (r .part + 4) (r .target + 4) (s .top)) =
+        item-stored Y X (s .top + 8) (matchItem (r .part + 4) (r .target + 4) (s .top)) second (omega (arith, length-Y, n .room))
+        (omega (arith, v .part-even)) (omega (arith, v .target-even)) (bounds .even) (omega arith) in
+        let inner : Chain Easy P Y (s .top + 8) (s .top) (match b u ∷ gs) =
+        chain-match Easy P Y (s .top + 8) (s .top) (matchItem h e (s .easy)) one (omega (arith, bounds .start)) (omega arith) (bounds .even)
+        (omega (arith, bounds .easy-room))
+        b u gs refl tt (argument-from P (r .part) h f b eh (v .part))
+        (target-kept W Y (s .top) kept-first (s .top + 8) (omega arith) (size b) e u argument) (o .1)
+        (chain-kept W Y (s .top) kept-first (s .top + 8) (omega arith) P Easy (s .easy) gs (z .easy)) in
+        record {
+          easy = chain-match Easy P X (s .top + 2 * 8) (s .top + 8) (matchItem (r .part + 4) (r .target + 4) (s .top)) two (omega arith)
+              (omega arith) (omega (arith, bounds .even)) (omega arith)
+              f t (match b u ∷ gs) refl tt (c .0)
+              (target-kept W X (s .top) kept-all (s .top + 2 * 8) (omega arith) (size f) (r .target + 4) t head) (o .0)
+              (chain-kept Y X (s .top + 8) kept-second (s .top + 2 * 8) (omega arith) P Easy (s .top) (match b u ∷ gs) inner);
+          hard = chain-kept W X (s .top) kept-all (s .top + 2 * 8) (omega arith) P Hard (r .next) hs
+              (subst (λ (i : ℕ). Chain Hard P W (s .top) i hs) (sym (y .next)) (z .hard .1));
+          entries = holds-kept W X (s .top) kept-all (s .top + 2 * 8) (omega arith) a l (z .entries);
+          line = z .line;
+          assigns = z .assigns;
+          room = omega (arith, z .room);
+        }
+
+    parts : Matches P W s a → getD W (r .target) 0 ≡ 0 → Move relinking P W s a (Way 0) X after a
+    parts x k = record {
+      go = λ gs hs l z. opened P W s a x gs l (λ us. Moved P X after a (Way 0 gs us l)) (λ f b t us o.
+          let w = site P W s a r gs us l f b t y o in
+          let v = application W (r .target) t (w .target .part) k in
+          subst (λ (g : Term). MatchState P W s a gs l f b g us → Moved P X after a (Way 0 gs (match (app f b) g ∷ us) l)) (sym (v .is))
+          (λ q. record {
+            gs = match f (v .f) ∷ match b (v .a) ∷ gs;
+            hs = us;
+            line = l;
+            state = parts-state gs us l f b (v .f) (v .a) (site P W s a r gs us l f b (app (v .f) (v .a)) y q) q;
+            same = λ φ _. (
+              λ p. let m = alternative-parts φ f b gs (v .f) (v .a) .0 (p .1 .0, p .0) in (m, p .1 .1, p .2),
+              λ p. let m = alternative-parts φ f b gs (v .f) (v .a) .1 (p .0) in (m .1, (m .0, p .1), p .2),
+            );
+          }) o) hs z;
+      kept = kept-all .same;
+      higher = omega arith;
+      falls = omega (arith, bounds .top, n .room);
+      bounds = record {
+        whole = length-X;
+        short = bounds .short;
+        top = omega (arith, n .room);
+        start = omega (arith, bounds .start);
+        even = omega (arith, bounds .even);
+        easy-room = omega arith;
+        easy-even = omega (arith, bounds .even);
+        hard-room = omega (arith, n .next, bounds .hard-room);
+        hard-even = omega (arith, y .next);
+      };
+    }
+
+-- the same, with the goals as they were made
+pub parts-pushed :
+    (P W : List ℕ) (s : Agenda) (a : List Entry) (r : Item) (h e : ℕ) (Y X : List ℕ) (i j : Item) (x : Matches P W s a)
+    → ItemAt W (s .hard) r
+    → Ends P (r .part + 4) h → Ends W (r .target + 4) e → i ≡ matchItem h e (s .easy) → j ≡ matchItem (r .part + 4) (r .target + 4) (s .top)
+    → Y ≡ sets W (s .top) (itemBytes i) → X ≡ sets Y (s .top + 8) (itemBytes j) → getD W (r .target) 0 ≡ 0
+    → Move relinking P W s a (Way 0) X (record { top = s .top + 2 * 8; easy = s .top + 8; hard = r .next }) a
+parts-pushed P W s a r h e Y X i j x y eh ee p q first second =
+    parts P W s a r h e Y X (x .ready .bounds) eh ee y (numbers P W s a x r y) (stored-as W Y (s .top) i (matchItem h e (s .easy)) p first)
+    (stored-as Y X (s .top + 8) j (matchItem (r .part + 4) (r .target + 4) (s .top)) q second) x
+
+-- a head that lacks a local of the target is no abstraction over it
+pub constant-lacking : (P W : List ℕ) (s : Agenda) (a : List Entry) (w : Ways) → Matches P W s a → Counted P W s a w → w .lacking ≡ true
+    → Branched P W s a (Way 1) W Branch.Failed
+constant-lacking P W s a w x c e = died P W s a (Way 1) W (record {
+  none = λ gs hs l z φ v. opened P W s a x gs l (λ us. Lacking us → ¬ Way 1 gs us l φ) (λ f b t us o k p.
+      no-local φ v f (constant t) (k .0) (k .1) (constant-local (k .0) t ∙ k .2) (p .1 .0)) hs z (c .lacking-head e gs hs l z);
+  kept = refl;
+})
+
+-- the abstraction over the target, moved in below its binder
+module _ (P W : List ℕ) (s : Agenda) (a : List Entry) (x : Matches P W s a) (r : Item) (y : ItemAt W (s .hard) r) where
+  pub raises : (room : ℕ) → room ≡ targetBytes → Source (shift 1) W (r .target) 0 room 0
+  raises room h = from P W s a x (Source (shift 1) W (r .target) 0 room 0) (λ gs hs l f b t z.
+      let u = site P W s a r gs hs l f b t y z .target in
+      source (shift 1) W (r .target) 0 room 0 t (u .part)
+      (closed-fits (33 - size (app f b)) (shift 1 0 t)
+      (closed-shift 1 0 (32 - size (app f b)) (33 - size (app f b)) t (omega (arith, u .few)) (u .closed))
+      (omega (arith, u .short, size-shift 1 0 t)))
+      (omega (arith, u .short)) (omega (arith, u .short, size-shift 1 0 t)))
+
+  pub record Raised (c : List ℕ) : Type 0 where
+    pub short : length c ≤ targetBytes
+    pub is : (f b t : Term) → Site P W s r f b t → c ≡ encode (shift 1 0 t)
+
+  module _ (out after : List ℕ) (next n : ℕ) (h : length out ≡ targetBytes) (w : Wrote (shift 1) W (r .target) 0 out 0 after next n) where
+    raised-end : (f b t : Term) → Site P W s r f b t → (n ≡ 4 * size (shift 1 0 t)) × (n ≤ targetBytes)
+    raised-end f b t v =
+        let p : n ≡ 0 + 4 * size (shift 1 0 t) = w .exact t (v .target .part) in
+        (omega arith, omega (arith, size-shift 1 0 t, v .target .short))
+
+    pub raised-within : n ≤ targetBytes
+    raised-within = from P W s a x (n ≤ targetBytes) (λ gs hs l f b t z. raised-end f b t (site P W s a r gs hs l f b t y z) .1)
+
+    pub raised : Raised (take (n - 0) (drop 0 after))
+    raised = record {
+      short = omega (arith, raised-within, length-take (n - 0) (drop 0 after));
+      is = λ f b t v.
+          let p = raised-end f b t v in
+          Stores.stored out after (encode (shift 1 0 t)) n (w .bytes t (v .target .part)) (omega (arith, p .0, encode-length (shift 1 0 t)))
+          (omega (arith, p .1));
+    }
+
+  module _ (c : List ℕ) (w : Raised c) (i : Item) (ei : i ≡ matchItem (r .part + 4) (r .target) (r .next)) where
+    pub constant-pushes : Pushes W s i c
+    constant-pushes = let n = numbers P W s a x r y in rw ei (record {
+      whole = x .ready .bounds .whole;
+      room = omega (arith, n .room, w .short);
+      easy = omega (arith, x .ready .bounds .easy-room, x .ready .bounds .top);
+      part = omega (arith, n .part-low, x .ready .bounds .short);
+    })
+
+    -- the goal that it leaves
+    module _ (X : List ℕ) (q : X ≡ sets (sets W (s .top) (bytes 1 0 c)) (s .top + 4 + length c)
+        (itemBytes (targetItem (matchItem (r .part + 4) (r .target) (r .next)) (s .top) (s .easy)))) where
+      abbrev at : ℕ
+      at = s .top + 4 + length c
+
+      abbrev X₁ : List ℕ
+      X₁ = sets W (s .top) (bytes 1 0 c)
+
+      abbrev next-item : Item
+      next-item = targetItem (matchItem (r .part + 4) (r .target) (r .next)) (s .top) (s .easy)
+
+      abbrev last : Agenda
+      last = record { top = at + 8; easy = at; hard = r .next }
+
+      whole-X₁ : length X₁ ≡ tableBytes
+      whole-X₁ = length-stored (bytes 1 0 c) W X₁ (s .top) refl ∙ x .ready .bounds .whole
+
+      kept-target : Kept W X₁ (s .top)
+      kept-target =
+          kept-sets (bytes 1 0 c) W X₁ (s .top) (s .top) refl (omega arith) (omega (arith, x .ready .bounds .whole, x .ready .bounds .top))
+
+      kept-goal : Kept X₁ X at
+      kept-goal =
+          kept-sets (itemBytes next-item) X₁ X at at q (omega arith) (omega (arith, whole-X₁, numbers P W s a x r y .room, w .short))
+
+      kept-both : Kept W X (s .top)
+      kept-both = kept-then W X₁ X (s .top) at (omega arith) kept-target kept-goal
+
+      constant-state :
+          (gs hs : List Goal) (l : Line) (f b t : Term) → Site P W s r f b t → MatchState P W s a gs l f b t hs
+          → State 0 P X last a (match f (constant t) ∷ gs) hs l
+      constant-state gs hs l f b t v z =
+          let g = v .target in
+          let n = numbers P W s a x r y in
+          let bounds = x .ready .bounds in
+          let k : length c ≡ 4 * size (shift 1 0 t) = ap length (w .is f b t v) ∙ encode-length (shift 1 0 t) in
+          let j : size (shift 1 0 t) ≡ size t = size-shift 1 0 t in
+          let u = application-parts P (r .part) f b (v .part) in
+          let written : Part X (s .top) (constant t) =
+          part-kept X₁ X at kept-goal (s .top) (constant t) (omega arith)
+          (subst (λ (d : List ℕ). Part (sets W (s .top) d) (s .top) (constant t)) (ap (bytes 1 0) (sym (w .is f b t v)))
+          (part-stored (constant t) W (s .top) (omega (arith, bounds .whole, n .room, g .short)))) in
+          let target : Target X (at + 8) (size f) (s .top) (constant t) = record {
+            part = written;
+            below = omega arith;
+            normal = constant-normal t (g .normal);
+            ground = constant-ground t (g .ground);
+            few = omega (arith, g .few);
+            closed = constant-closed (patternRecords - size f) t
+                (closed-more (patternRecords - size (app f b)) (patternRecords - size f) t (omega arith) (g .closed));
+            short = omega (arith, g .short);
+          } in
+          let item : ItemAt X at next-item =
+          item-stored X₁ X at next-item q (omega (arith, whole-X₁, n .room, w .short)) (omega (arith, v .part-even)) (bounds .even)
+          (bounds .easy-even) refl in
+          record {
+            easy = chain-match Easy P X (at + 8) at next-item item (omega (arith, bounds .start)) (omega arith)
+                (omega (arith, bounds .even)) (omega (arith, bounds .easy-room))
+                f (constant t) gs refl tt (u .0) target (listable-constant variables (OccursIn P) f b t (v .suits))
+                (chain-kept W X (s .top) kept-both (at + 8) (omega arith) P Easy (s .easy) gs (z .easy));
+            hard = chain-kept W X (s .top) kept-both (at + 8) (omega arith) P Hard (r .next) hs
+                (subst (λ (i : ℕ). Chain Hard P W (s .top) i hs) (sym (y .next)) (z .hard .1));
+            entries = holds-kept W X (s .top) kept-both (at + 8) (omega arith) a l (z .entries);
+            line = z .line;
+            assigns = z .assigns;
+            room = omega (arith, z .room, w .short);
+          }
+
+      constant-move : Move relinking P W s a (Way 1) X last a
+      constant-move = record {
+        go = λ gs hs l z. opened P W s a x gs l (λ us. Moved P X last a (Way 1 gs us l)) (λ f b t us o. record {
+          gs = match f (constant t) ∷ gs;
+          hs = us;
+          line = l;
+          state = constant-state gs us l f b t (site P W s a r gs us l f b t y o) o;
+          same = λ φ _. (λ p. ((p .1 .0, p .0), p .1 .1, p .2), λ p. (p .0 .1, (p .0 .0, p .1), p .2));
+        }) hs z;
+        kept = kept-both .same;
+        higher = omega arith;
+        falls = omega (arith, x .ready .bounds .top, numbers P W s a x r y .room, w .short);
+        bounds = from P W s a x (Bounds P X last) (λ gs hs l f b t z.
+            let v = site P W s a r gs hs l f b t y z in
+            let n = numbers P W s a x r y in
+            let bounds = x .ready .bounds in
+            let k : length c ≡ 4 * size (shift 1 0 t) = ap length (w .is f b t v) ∙ encode-length (shift 1 0 t) in
+            record {
+              whole = length-stored (itemBytes next-item) X₁ X at q ∙ whole-X₁;
+              short = bounds .short;
+              top = omega (arith, n .room, w .short);
+              start = omega (arith, bounds .start);
+              even = omega (arith, bounds .even);
+              easy-room = omega arith;
+              easy-even = omega (arith, bounds .even);
+              hard-room = omega (arith, n .next, bounds .hard-room);
+              hard-even = v .next-even;
+            });
+      }
+
+    pub constant-pushed : (X : List ℕ) (s′ : Agenda) → Pushed W s i c X s′ → Branched P W s a (Way 1) X (Branch.Next s′)
+    constant-pushed X s′ g =
+        let q : X ≡ sets (sets W (s .top) (bytes 1 0 c)) (s .top + 4 + length c)
+        (itemBytes (targetItem (matchItem (r .part + 4) (r .target) (r .next)) (s .top) (s .easy))) =
+        g .stored ∙ ap
+        (λ (k : Item). sets (sets W (s .top) (bytes 1 0 c)) (s .top + 4 + length c) (itemBytes (targetItem k (s .top) (s .easy)))) ei in
+        let e : s′ ≡ afterItem s (matchItem (r .part + 4) (r .target) (r .next)) (s .top + 4 + length c) =
+        g .agenda ∙ ap (λ (k : Item). afterItem s k (s .top + 4 + length c)) ei in
+        subst (λ (o : Agenda). Branched P W s a (Way 1) X (Branch.Next o)) (sym e)
+        (live P W s a (Way 1) X (afterItem s (matchItem (r .part + 4) (r .target) (r .next)) (s .top + 4 + length c)) (constant-move X q))

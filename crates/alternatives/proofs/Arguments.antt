@@ -1,0 +1,459 @@
+-- The argument that is found at a part of the target: written at the top it is the argument's target, and what the head builds from. The
+-- part uses none of the binders above it, so that it is its own argument moved in below them. Assumes nothing.
+--   Standing f b t   how the argument's target stands above the target t of the application of f and b
+--   Ending           what its end is
+use mathlib.Core.Path.{_≡_, refl, sym, ap, _∙_, subst}
+use mathlib.Core.Bool.{Bool, true, false}
+use mathlib.Core.List.{List, _∷_}
+use Prim.Native.Nat.{ℕ, suc, _+_, _-_, _*_, _%_, _<_, _≤_}
+use native.Mathlib.Omega.{arith}
+use lib.Dec.{T}
+use lib.ListN.{length, getD, take, drop, length-take}
+use lib.Seq.{sets}
+use Rattle.terms.specs.Figures.{variables, patternRecords, valueRecords, tableBytes}
+use Rattle.terms.specs.Term.{Term, app, size, shift, unshift, uses}
+use Rattle.terms.specs.Table.{encode}
+use Rattle.terms.specs.Listing.{Line}
+use Rattle.terms.specs.Refusal.{OccursIn}
+use Rattle.terms.proofs.Table.{encode-inj, encode-length}
+use Rattle.matching.proofs.Goals.{Goal, Goal.match, Goal.build}
+use Rattle.matching.proofs.Occurrences.{partAt, First, each-part, first-lowered, first-movable, first-not-again, first-from}
+use Rattle.matching.proofs.Prune.{build-local}
+use Rattle.matching.proofs.Skeletons.{Fits}
+use Rattle.matching.proofs.Alternatives.{alternative-argument, listable-argument}
+use Rattle.matching.proofs.Targets.{closed-more, part-closed, part-normal, part-ground, part-size}
+use Rattle.records.specs.Parts.{Part, Whole, Ends}
+use Rattle.records.specs.Tests.{Walked}
+use Rattle.records.specs.declared.Walk.{Walk}
+use Rattle.records.specs.declared.Walk.the-variants.{Upto, No}
+use Rattle.records.proofs.Parts.{whole}
+use Rattle.sweeping.specs.Writers.{Wrote}
+use Rattle.copying.proofs.Stores as Stores
+use Rattle.assignments.specs.declared.Entry.{Entry}
+use Rattle.skeletons.specs.Outlined.{MayBe}
+use Rattle.abstractions.specs.Lowering.{Lowers, Lowered, Leaves, Movable}
+use Rattle.abstractions.specs.Occurrences.{DepthOf, Looks, Earlier}
+use Rattle.abstractions.proofs.Occurrences.{part-at}
+use Rattle.agenda.specs.declared.Agenda.{Agenda}
+use Rattle.agenda.specs.declared.Branch.{Branch}
+use Rattle.agenda.specs.declared.Item.{Item}
+use Rattle.agenda.specs.declared.Ways.{Ways}
+use Rattle.agenda.specs.Items.{itemBytes, ItemAt}
+use Rattle.agenda.specs.State.{targetBytes, Target, State, Easy, Hard, Chain, relinking}
+use Rattle.agenda.specs.Moves.{Move, Moved, Failed, Branched}
+use Rattle.alternatives.specs.Ways.{Way, Fitting}
+use Rattle.alternatives.specs.Applications.{Matches, Counted, argumentOf, Places, Argument, Placed, Comparable, Misses}
+use Rattle.agenda.specs.Heads.{Agree}
+use Rattle.agenda.specs.Items.{matchItem, buildItem}
+use Rattle.agenda.proofs.Frame.{Kept, part-kept, part-stored, target-kept, chain-kept, holds-kept, kept-sets, kept-then, length-stored}
+use Rattle.agenda.proofs.Frame.{item-stored, chain-match, chain-build}
+use Rattle.builds.proofs.Outlining.{skeleton-part}
+use Rattle.alternatives.proofs.Applications.{application-parts, argument-from, stored-as, live, died, Site, MatchState, site, opened}
+use Rattle.alternatives.proofs.Applications.{from, numbers, argument-ends, dead}
+
+-- how large and how deep a part is
+part-most : (t : Term) (j : ℕ) → j < size t → partAt 0 t j .0 + size (partAt 0 t j .1) ≤ size t
+part-most t j h =
+    each-part (λ d x. d + size x ≤ size t) (λ d f a p. (omega arith, omega arith)) (λ d b p. omega arith) 0 t j h (omega arith)
+
+-- the part moved out of the binders above it
+module _ (W : List ℕ) (top at j : ℕ) where
+  module _ (x : Places W top at j) (d : ℕ) (k : DepthOf W at j d) where
+    number-within : (t : Term) → Part W at t → j < size t
+    number-within t p =
+        let e : t ≡ x .tree = encode-inj t (x .tree) (p .rest) (x .part .rest) (sym (p .bytes) ∙ x .part .bytes) .0 in
+        subst (λ (u : Term). j < size u) (sym e) (x .within)
+
+    pub lowers : (room : ℕ) → room ≡ targetBytes → Lowers W (at + 4 * j) 0 d room 0
+    lowers room r =
+        let t = x .tree in
+        let m = number-within t (x .part) in
+        let n = part-most t j m in
+        let q = part-at W at 0 t j (x .part) m in
+        record {
+          tree = partAt 0 t j .1;
+          part = q;
+          enough = omega (arith, n, x .few);
+          shallow = omega (arith, n, x .few);
+          few = omega (arith, n, x .few, k t (x .part) m);
+          least = omega (arith, q .some, q .within);
+          first = omega arith;
+        }
+
+    module _ (out after : List ℕ) (w : Walk) (y : Lowered W (at + 4 * j) 0 d out 0 after w) where
+      pub stuck : w ≡ No → Placed W top at j W No
+      unfolding Placed Walked
+      stuck c =
+          let n : Walked W (at + 4 * j) (Movable d 0) No = subst (Walked W (at + 4 * j) (Movable d 0)) c (y .walked) in (
+            refl,
+            λ t u p f.
+                let m = number-within t p in
+                n (partAt 0 t j .1) (part-at W at 0 t j p m)
+                (subst (λ (i : ℕ). partAt 0 t j .1 ≡ shift i 0 (unshift i 0 (partAt 0 t j .1))) (sym (k t p m)) (first-movable t j u f)),
+          )
+
+      module _ (end : ℕ) (c : w ≡ Upto end) where
+        walked-upto : Ends W (at + 4 * j) end × ((t : Term) → Part W (at + 4 * j) t → Movable d 0 t)
+        unfolding Walked
+        walked-upto = subst (Walked W (at + 4 * j) (Movable d 0)) c (y .walked)
+
+        leaves-upto : Wrote (unshift d) W (at + 4 * j) 0 out 0 after end (0 + (end - (at + 4 * j)))
+        unfolding Leaves
+        leaves-upto = subst (Leaves W (at + 4 * j) 0 d out 0 after) c (y .leaves)
+
+        pub moved-more : at + 4 * j ≤ end
+        moved-more = omega (arith, walked-upto .0 .more)
+
+        pub moved-end : end - (at + 4 * j) ≤ targetBytes
+        moved-end =
+            let t = x .tree in
+            let m = number-within t (x .part) in
+            omega (arith, walked-upto .0 .exact (partAt 0 t j .1) (part-at W at 0 t j (x .part) m), part-most t j m, x .few)
+
+        pub copied-room : length out ≡ targetBytes → top + length (take (end - (at + 4 * j) - 0) (drop 0 after)) ≤ length W
+        copied-room o = omega (arith, moved-end, x .room, length-take (end - (at + 4 * j) - 0) (drop 0 after))
+
+        pub placed : length out ≡ targetBytes → (X : List ℕ) → X ≡ sets W top (take (end - (at + 4 * j) - 0) (drop 0 after))
+            → Placed W top at j X (Upto (top + (end - (at + 4 * j))))
+        unfolding Placed
+        placed o X q t p =
+            let m = number-within t p in
+            let u = partAt 0 t j .1 in
+            let v = part-at W at 0 t j p m in
+            let i : d ≡ partAt 0 t j .0 = k t p m in
+            let z : 0 + (end - (at + 4 * j)) ≡ 0 + 4 * size (unshift d 0 u) = leaves-upto .exact u v in
+            let b : take (end - (at + 4 * j) - 0) (drop 0 after) ≡ encode (unshift d 0 u) =
+            Stores.stored out after (encode (unshift d 0 u)) (end - (at + 4 * j)) (leaves-upto .bytes u v)
+            (omega (arith, encode-length (unshift d 0 u))) (omega (arith, moved-end)) in
+            subst (λ (n : ℕ). (u ≡ shift n 0 (unshift n 0 u)) → (X ≡ sets W top (encode (unshift n 0 u)))
+            → (top + (end - (at + 4 * j)) ≡ top + 4 * size (unshift n 0 u)) → n ≡ partAt 0 t j .0
+            → Argument W top t j X (top + (end - (at + 4 * j)))) (sym i)
+            (λ c₁ c₂ c₃ _. record { within = m; copy = c₁; bytes = c₂; end = c₃ })
+            (walked-upto .1 u v) (q ∙ ap (sets W top) b) (omega arith) i
+
+pub placed-no : (W : List ℕ) (top at j : ℕ) (X : List ℕ) (w : Walk) → Placed W top at j X w → w ≡ No
+    → (take top X ≡ take top W) × ((t e : Term) → Part W at t → ¬ First t j e)
+unfolding Placed
+placed-no W top at j X w p c = subst (Placed W top at j X) c p
+
+pub placed-at : (W : List ℕ) (top at j : ℕ) (X : List ℕ) (w : Walk) (r : ℕ) → Placed W top at j X w → w ≡ Upto r → (t : Term) → Part W at t
+    → Argument W top t j X r
+unfolding Placed
+placed-at W top at j X w r p c = subst (Placed W top at j X) c p
+
+-- the way that tries the j-th part
+module _ (P W : List ℕ) (s : Agenda) (a : List Entry) (x : Matches P W s a) (r : Item) (y : ItemAt W (s .hard) r) (j : ℕ) where
+  module _ (w : Ways) (c : Counted P W s a w) (h : j + 2 < w .count) where
+    numbered : (gs hs : List Goal) (l : Line) (f b t : Term) → MatchState P W s a gs l f b t hs → j < size t
+    numbered gs hs l f b t z = omega (arith, c .ways gs (match (app f b) t ∷ hs) l z)
+
+    pub places : Places W (s .top) (r .target) j
+    places = from P W s a x (Places W (s .top) (r .target) j) (λ gs hs l f b t z.
+        let v = site P W s a r gs hs l f b t y z .target in
+        record {
+          tree = t;
+          part = v .part;
+          few = omega (arith, v .short);
+          within = numbered gs hs l f b t z;
+          room = omega (arith, numbers P W s a x r y .room, x .ready .bounds .whole);
+          most = omega (arith, x .ready .bounds .whole);
+        })
+
+    pub depth : DepthOf W (r .target) j (getD (w .depths) j 0)
+    depth t p k = from P W s a x (getD (w .depths) j 0 ≡ partAt 0 t j .0) (λ gs hs l f b u z.
+        let q = site P W s a r gs hs l f b u y z .target .part in
+        let e : u ≡ t = encode-inj u t (q .rest) (p .rest) (sym (q .bytes) ∙ p .bytes) .0 in
+        subst (λ (v : Term). getD (w .depths) j 0 ≡ partAt 0 v j .0) e
+        (c .depths-are gs (match (app f b) u ∷ hs) l z j (numbered gs hs l f b u z)))
+
+    pub few-records : j < valueRecords
+    few-records = omega (arith, places .within, places .few)
+
+    pub part-whole : Whole W (r .target + 4 * j)
+    part-whole = from P W s a x (Whole W (r .target + 4 * j)) (λ gs hs l f b t z.
+        whole W (r .target + 4 * j) (partAt 0 t j .1)
+        (part-at W (r .target) 0 t j (site P W s a r gs hs l f b t y z .target .part) (numbered gs hs l f b t z)))
+
+    -- the argument has a rigid head, and the part has another one
+    pub unlike : (e : Bool) → Agree P (w .argument) W (r .target + 4 * j) e → e ≡ false → w .rigid ≡ true
+        → Branched P W s a (Way (suc (suc j))) W Branch.Failed
+    unfolding Agree
+    unlike e q n k =
+        let m : Agree P (w .argument) W (r .target + 4 * j) false = subst (Agree P (w .argument) W (r .target + 4 * j)) n q in
+        died P W s a (Way (suc (suc j))) W (dead P W s a x r y (suc (suc j)) W refl (λ f b t gs hs l φ v u o.
+        let i = argument-from P (r .part) (w .argument) f b (argument-ends P W s a x r y w c) (v .part) in
+        let d = o .1 .0 .1 in
+        m b (partAt 0 t j .1) i (part-at W (r .target) 0 t j (v .target .part) (d .within)) (sym (c .rigid-argument b i) ∙ k) φ
+        (partAt 0 t j .0) (o .1 .0 .0) (d .copy) (o .1 .0 .2)))
+
+  pub no-argument : (X : List ℕ) (w : Walk) → Placed W (s .top) (r .target) j X w → w ≡ No
+      → Branched P W s a (Way (suc (suc j))) X Branch.Failed
+  no-argument X w p c =
+      let n = placed-no W (s .top) (r .target) j X w p c in
+      died P W s a (Way (suc (suc j))) X (dead P W s a x r y (suc (suc j)) X (n .0) (λ f b t gs hs l φ v u o.
+      n .1 t (o .1 .0 .0) (v .target .part) (o .1 .0 .1)))
+
+  module _ (X : List ℕ) (end : ℕ) (g : (t : Term) → Part W (r .target) t → Argument W (s .top) t j X end) where
+    pub record Standing (f b t : Term) : Type 0 where
+      pub found : Argument W (s .top) t j X end
+      pub few : size (argumentOf t j) ≤ size t
+      pub kept : Kept W X (s .top)
+      pub part : Part X (s .top) (argumentOf t j)
+      pub target : Part X (r .target) t
+
+    standing : (f b t : Term) → Site P W s r f b t → Standing f b t
+    standing f b t v =
+        let o = g t (v .target .part) in
+        let e = argumentOf t j in
+        let m : size e ≤ size t = part-size t j e (o .within) (o .copy) in
+        let k : Kept W X (s .top) = kept-sets (encode e) W X (s .top) (s .top) (o .bytes) (omega arith)
+        (omega (arith, x .ready .bounds .whole, x .ready .bounds .top)) in
+        record {
+          found = o;
+          few = m;
+          kept = k;
+          part = subst (λ (l : List ℕ). Part l (s .top) e) (sym (o .bytes))
+              (part-stored e W (s .top) (omega (arith, numbers P W s a x r y .room, x .ready .bounds .whole, v .target .short)));
+          target = part-kept W X (s .top) k (r .target) t (v .target .below) (v .target .part);
+        }
+
+    pub record Ending : Type 0 where
+      pub more : s .top + 4 ≤ end
+      pub most : end ≤ s .top + 616
+      pub even : end % 4 ≡ 0
+      pub whole : length X ≡ tableBytes
+      pub same : take (s .top) X ≡ take (s .top) W
+
+    pub ending : Ending
+    ending = from P W s a x Ending (λ gs hs l f b t z.
+        let v = site P W s a r gs hs l f b t y z in
+        let o = standing f b t v in
+        let c = application-parts P (r .part) f b (v .part) in
+        record {
+          more = omega (arith, o .found .end, o .part .some);
+          most = omega (arith, o .found .end, o .few, v .target .short, c .0 .some, c .1 .some);
+          even = omega (arith, o .found .end, x .ready .bounds .even);
+          whole = length-stored (encode (argumentOf t j)) W X (s .top) (o .found .bytes) ∙ x .ready .bounds .whole;
+          same = o .kept .same;
+        })
+
+    pub looks : Looks X (r .target) (s .top) 0
+    looks = from P W s a x (Looks X (r .target) (s .top) 0) (λ gs hs l f b t z.
+        let v = site P W s a r gs hs l f b t y z in
+        let o = standing f b t v in
+        record {
+          first = whole X (r .target) t (o .target);
+          second = whole X (s .top) (argumentOf t j) (o .part);
+          least = omega (arith, o .target .some, o .target .within);
+          second-least = omega (arith, o .part .some, o .part .within);
+          most = omega (arith, ending .whole);
+          shallow = omega (arith, ending .whole);
+        })
+
+    pub comparable : Comparable P (r .part + 4) X (r .target) (s .top)
+    comparable = from P W s a x (Comparable P (r .part + 4) X (r .target) (s .top)) (λ gs hs l f b t z.
+        let v = site P W s a r gs hs l f b t y z in
+        let o = standing f b t v in
+        record {
+          part = numbers P W s a x r y .head;
+          short = x .ready .bounds .short;
+          target = record {
+            tree = t;
+            part = o .target;
+            closed = closed-more (patternRecords - size (app f b)) (0 + patternRecords) t (omega arith) (v .target .closed);
+            shallow = omega (arith, v .target .short);
+            least = omega (arith, o .target .some, o .target .within);
+          };
+          argument = record {
+            tree = argumentOf t j;
+            part = o .part;
+            closed = closed-more (patternRecords - size (app f b)) (0 + patternRecords) (argumentOf t j) (omega arith)
+                (part-closed t j (argumentOf t j) (o .found .within) (o .found .copy) (patternRecords - size (app f b))
+                (v .target .closed));
+            shallow = omega (arith, v .target .short, o .few);
+            least = omega (arith, o .part .some, o .part .within);
+          };
+        })
+
+    -- an earlier part gives the same argument
+    pub again : (b : Bool) → Earlier X (r .target) j (s .top) b → b ≡ true → Branched P W s a (Way (suc (suc j))) X Branch.Failed
+    unfolding Earlier
+    again b e c =
+        let q : Earlier X (r .target) j (s .top) true = subst (Earlier X (r .target) j (s .top)) c e in
+        died P W s a (Way (suc (suc j))) X (dead P W s a x r y (suc (suc j)) X (ending .same) (λ f b t gs hs l φ v u o.
+        let n = standing f b t v in
+        let m = q t (argumentOf t j) (n .target) (n .part) in
+        first-not-again t (m .0) j (o .1 .0 .0) (m .1) (m .3) (o .1 .0 .1)))
+
+    -- no assignment sweeps the argument to what doesn't fit its skeleton
+    pub unfitting :
+        (w : Ways) (c : Counted P W s a w) (b : Bool)
+        → MayBe (take (w .skeleton .length - 0) (drop 0 (w .skeleton .bytes))) X (s .top) b → b ≡ false
+        → Branched P W s a (Way (suc (suc j))) X Branch.Failed
+    unfolding MayBe
+    unfitting w c b e i =
+        let k = c .skeleton-table in
+        let q : MayBe (take (w .skeleton .length - 0) (drop 0 (w .skeleton .bytes))) X (s .top) false = subst (MayBe _ X (s .top)) i e in
+        died P W s a (Way (suc (suc j))) X (record {
+          none = λ gs hs l z φ v. opened P W s a x gs l (λ us. Fitting (k .tree) l us → ¬ Way (suc (suc j)) gs us l φ) (λ f b t us o m p.
+              let n = standing f b t (site P W s a r gs us l f b t y o) in
+              let u : p .1 .0 .0 ≡ argumentOf t j = first-lowered t j (p .1 .0 .0) (p .1 .0 .1) in
+              q (k .tree) (argumentOf t j) (skeleton-part (w .skeleton .bytes) (w .skeleton .length) k) (n .part)
+              (subst (Fits (k .tree)) (p .1 .0 .2 ∙ u) (m φ v (p .2)))) hs z
+              (c .skeleton-fits gs hs l z);
+          kept = ending .same;
+        })
+
+    -- the target has a local that nothing brings in
+    pub lacking : (c : Bool) → Misses P (r .part + 4) X (r .target) (s .top) c → c ≡ true
+        → Branched P W s a (Way (suc (suc j))) X Branch.Failed
+    unfolding Misses
+    lacking c e i =
+        let q : Misses P (r .part + 4) X (r .target) (s .top) true = subst (Misses P (r .part + 4) X (r .target) (s .top)) i e in
+        died P W s a (Way (suc (suc j))) X (dead P W s a x r y (suc (suc j)) X (ending .same) (λ f b t gs hs l φ v u o.
+        let n = standing f b t v in
+        let k = application-parts P (r .part) f b (v .part) in
+        let m = q .1 f t (argumentOf t j) (k .0) (n .target) (n .part) in
+        let w : o .1 .0 .0 ≡ argumentOf t j = first-lowered t j (o .1 .0 .0) (o .1 .0 .1) in
+        subst T (sym (build-local φ u f t (o .1 .0 .0) (q .0) (o .1 .0 .3) (m .0) (m .1)) ∙ ap (uses (q .0)) w ∙ m .2) tt))
+
+    module _ (h : ℕ) (eh : Ends P (r .part + 4) h) (earlier : Earlier X (r .target) j (s .top) false) (Y Z : List ℕ)
+        (first : Y ≡ sets X end (itemBytes (buildItem (r .part + 4) (r .target) (r .next) (s .top))))
+        (second : Z ≡ sets Y (end + 8) (itemBytes (matchItem h (s .top) (s .easy))))
+      where
+        first-found : (f b t : Term) → Site P W s r f b t → First t j (argumentOf t j)
+        unfolding Earlier
+        first-found f b t v =
+            let n = standing f b t v in
+            first-from t j (argumentOf t j) (n .found .within) (n .found .copy)
+            (λ i l. earlier t (argumentOf t j) (n .target) (n .part) i l (omega (arith, n .found .within)))
+
+        length-Y : length Y ≡ tableBytes
+        length-Y = length-stored (itemBytes (buildItem (r .part + 4) (r .target) (r .next) (s .top))) X Y end first ∙ ending .whole
+
+        length-Z : length Z ≡ tableBytes
+        length-Z = length-stored (itemBytes (matchItem h (s .top) (s .easy))) Y Z (end + 8) second ∙ length-Y
+
+        kept-X : Kept X Y end
+        kept-X = kept-sets (itemBytes (buildItem (r .part + 4) (r .target) (r .next) (s .top))) X Y end end first (omega arith)
+            (omega (arith, ending .whole, ending .most, numbers P W s a x r y .room))
+
+        kept-Y : Kept Y Z (end + 8)
+        kept-Y = kept-sets (itemBytes (matchItem h (s .top) (s .easy))) Y Z (end + 8) (end + 8) second (omega arith)
+            (omega (arith, length-Y, ending .most, numbers P W s a x r y .room))
+
+        kept-XZ : Kept X Z end
+        kept-XZ = kept-then X Y Z end (end + 8) (omega arith) kept-X kept-Y
+
+        abbrev last : Agenda
+        last = record { top = end + 2 * 8; easy = end + 8; hard = end }
+
+        argument-state :
+            (gs hs : List Goal) (l : Line) (f b t : Term) → Site P W s r f b t → MatchState P W s a gs l f b t hs
+            → State 0 P Z last a (match b (argumentOf t j) ∷ gs) (build f t (argumentOf t j) ∷ hs) l
+        argument-state gs hs l f b t v z =
+            let e = argumentOf t j in
+            let g = v .target in
+            let o = standing f b t v in
+            let n = numbers P W s a x r y in
+            let bounds = x .ready .bounds in
+            let c = application-parts P (r .part) f b (v .part) in
+            let more = ending .more in
+            let most = ending .most in
+            let ends : end ≡ s .top + 4 * size e = o .found .end in
+            let kept-WY : Kept W Y (s .top) = kept-then W X Y (s .top) end (omega arith) (o .kept) kept-X in
+            let kept-WZ : Kept W Z (s .top) = kept-then W X Z (s .top) end (omega arith) (o .kept) kept-XZ in
+            let suits = listable-argument variables (OccursIn P) f b t j e (first-found f b t v) (v .suits) in
+            let old : Target W (s .top) (suc (size f)) (r .target) t = record {
+              part = g .part;
+              below = g .below;
+              normal = g .normal;
+              ground = g .ground;
+              few = omega (arith, g .few);
+              closed = closed-more (patternRecords - size (app f b)) (patternRecords - suc (size f)) t (omega arith) (g .closed);
+              short = omega (arith, g .short, c .1 .some);
+            } in
+            let new : (m : ℕ) → m ≤ size (app f b) → Target X end m (s .top) e = λ m i. record {
+              part = o .part;
+              below = omega arith;
+              normal = part-normal t j e (o .found .within) (o .found .copy) (g .normal);
+              ground = part-ground t j e (o .found .within) (o .found .copy) (g .ground);
+              few = omega (arith, g .few);
+              closed = closed-more (patternRecords - size (app f b)) (patternRecords - m) e (omega arith)
+                  (part-closed t j e (o .found .within) (o .found .copy) (patternRecords - size (app f b)) (g .closed));
+              short = omega (arith, g .short, o .few);
+            } in
+            let one : ItemAt Y end (buildItem (r .part + 4) (r .target) (r .next) (s .top)) =
+            item-stored X Y end (buildItem (r .part + 4) (r .target) (r .next) (s .top)) first (omega (arith, ending .whole, n .room))
+            (omega (arith, v .part-even)) (v .target-even) (v .next-even) (bounds .even) in
+            let two : ItemAt Z (end + 8) (matchItem h (s .top) (s .easy)) =
+            item-stored Y Z (end + 8) (matchItem h (s .top) (s .easy)) second (omega (arith, length-Y, n .room))
+            (omega (arith, v .part-even, eh .exact f (c .0))) (bounds .even) (bounds .easy-even) (omega arith) in
+            let rest : Chain Hard P W (s .top) (r .next) hs =
+            subst (λ (i : ℕ). Chain Hard P W (s .top) i hs) (sym (y .next)) (z .hard .1) in
+            let built : Chain Hard P Y (end + 8) end (build f t e ∷ hs) =
+            chain-build Hard P Y (end + 8) end (buildItem (r .part + 4) (r .target) (r .next) (s .top)) one (omega arith) (omega arith)
+            (ending .even) (omega (arith, n .next, bounds .hard-room))
+            f t e hs refl tt (c .0) (target-kept W Y (s .top) kept-WY (end + 8) (omega arith) (suc (size f)) (r .target) t old)
+            (target-kept X Y end kept-X (end + 8) (omega arith) (suc (size f)) (s .top) e (new (suc (size f)) (omega (arith, c .1 .some))))
+            (suits .1)
+            (chain-kept W Y (s .top) kept-WY (end + 8) (omega arith) P Hard (r .next) hs rest) in
+            record {
+              easy = chain-match Easy P Z (end + 2 * 8) (end + 8) (matchItem h (s .top) (s .easy)) two (omega arith) (omega arith)
+                  (omega (arith, ending .even)) (omega (arith, bounds .easy-room))
+                  b e gs refl tt (argument-from P (r .part) h f b eh (v .part))
+                  (target-kept X Z end kept-XZ (end + 2 * 8) (omega arith) (size b) (s .top) e (new (size b) (omega arith))) (suits .0)
+                  (chain-kept W Z (s .top) kept-WZ (end + 2 * 8) (omega arith) P Easy (s .easy) gs (z .easy));
+              hard = chain-kept Y Z (end + 8) kept-Y (end + 2 * 8) (omega arith) P Hard end (build f t e ∷ hs) built;
+              entries = holds-kept W Z (s .top) kept-WZ (end + 2 * 8) (omega arith) a l (z .entries);
+              line = z .line;
+              assigns = z .assigns;
+              room = omega (arith, z .room);
+            }
+
+        argument-move : Move relinking P W s a (Way (suc (suc j))) Z last a
+        argument-move = record {
+          go = λ gs hs l z. opened P W s a x gs l (λ us. Moved P Z last a (Way (suc (suc j)) gs us l)) (λ f b t us o.
+              let v = site P W s a r gs us l f b t y o in
+              record {
+                gs = match b (argumentOf t j) ∷ gs;
+                hs = build f t (argumentOf t j) ∷ us;
+                line = l;
+                state = argument-state gs us l f b t v o;
+                same = λ φ _. (
+                  λ p.
+                      let m = alternative-argument φ f b us t j (argumentOf t j) (first-found f b t v) .0 (p .1) in
+                      ((m .0, p .0), m .1, p .2),
+                  λ p.
+                      let m = alternative-argument φ f b us t j (argumentOf t j) (first-found f b t v) .1 (p .0 .0, p .1) in
+                      (p .0 .1, m, p .2),
+                );
+              }) hs z;
+          kept = from P W s a x (take (s .top) Z ≡ take (s .top) W) (λ gs hs l f b t z.
+              kept-then W X Z (s .top) end (omega (arith, ending .more))
+              (standing f b t (site P W s a r gs hs l f b t y z) .kept) kept-XZ .same);
+          higher = omega (arith, ending .more);
+          falls = omega (arith, x .ready .bounds .top, numbers P W s a x r y .room, ending .more, ending .most);
+          bounds = let n = numbers P W s a x r y in let bounds = x .ready .bounds in record {
+            whole = length-Z;
+            short = bounds .short;
+            top = omega (arith, n .room, ending .most);
+            start = omega arith;
+            even = omega (arith, ending .even);
+            easy-room = omega arith;
+            easy-even = omega (arith, ending .even);
+            hard-room = omega arith;
+            hard-even = ending .even;
+          };
+        }
+
+    -- the same, with the goals as they were made
+    pub found : (h : ℕ) (e : Bool) (i k : Item) (Y Z : List ℕ) → Ends P (r .part + 4) h → Earlier X (r .target) j (s .top) e → e ≡ false
+        → i ≡ buildItem (r .part + 4) (r .target) (r .next) (s .top) → k ≡ matchItem h (s .top) (s .easy)
+        → Y ≡ sets X end (itemBytes i) → Z ≡ sets Y (end + 8) (itemBytes k)
+        → Branched P W s a (Way (suc (suc j))) Z (Branch.Next (record { top = end + 2 * 8; easy = end + 8; hard = end }))
+    found h e i k Y Z eh b c p q first second =
+        live P W s a (Way (suc (suc j))) Z (record { top = end + 2 * 8; easy = end + 8; hard = end })
+        (argument-move h eh (subst (Earlier X (r .target) j (s .top)) c b) Y Z
+        (stored-as X Y end i (buildItem (r .part + 4) (r .target) (r .next) (s .top)) p first)
+        (stored-as Y Z (end + 8) k (matchItem h (s .top) (s .easy)) q second))

@@ -1,0 +1,3 @@
+pub mod Applications
+pub mod Arguments
+pub mod Missing

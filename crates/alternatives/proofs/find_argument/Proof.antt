@@ -1,0 +1,295 @@
+-- `alternatives::find_argument` meets its contract. The part that is placed is an argument unless it has another head, doesn't fit
+-- the argument's skeleton, stands earlier or leaves a local of the target out; two goals are written for it. Assumes nothing.
+use mathlib.Core.Path.{_∙_}
+use borrow.Author.Tests.{not-true}
+use native.Mathlib.Omega.{arith}
+use Rattle.alternatives.proofs.Applications.{numbers, argument-whole, argument-ends, fits-match, fits-build}
+use Rattle.alternatives.proofs.Arguments.{placed-at, places, depth, few-records, part-whole, unlike, no-argument, ending, looks}
+use Rattle.alternatives.proofs.Arguments.{comparable, unfitting, again, lacking, found}
+use Rattle.builds.proofs.Outlining.{skeleton-comparable}
+use borrow.Author.Needs.{needs}
+use Rattle.alternatives.proofs.find_argument.Statement.{statement}
+use Rattle.alternatives.proofs.find_argument.Tie as tie
+
+item-at-requires : tie.Need-item-at-requires
+item-at-requires c κs = search needs
+
+mul-heads-agree : tie.Need-mul-heads-agree
+mul-heads-agree c =
+    let item-at : tie.After-item-at = search in
+    let start : tie.Start = search in
+    omega (arith, part-whole _ _ _ _ (start .pre .0) _ (item-at .item-at .ensures .0) _ _ (start .pre .1) (start .pre .2) .least)
+
+add-heads-agree : tie.Need-add-heads-agree
+add-heads-agree c =
+    let item-at : tie.After-item-at = search in
+    let start : tie.Start = search in
+    omega (arith, part-whole _ _ _ _ (start .pre .0) _ (item-at .item-at .ensures .0) _ _ (start .pre .1) (start .pre .2) .least)
+
+heads-agree-requires : tie.Need-heads-agree-requires
+heads-agree-requires c κs = search (needs, argument-whole, argument-ends, part-whole)
+
+same-length : tie.Need-same-length
+same-length c = search needs
+
+returns : tie.Need-returns
+returns c = search (needs, unlike, not-true)
+
+array-read-wide : tie.Need-array-read-wide
+array-read-wide c = search (needs, few-records)
+
+wide-requires : tie.Need-wide-requires
+wide-requires c κs = search needs
+
+place-argument-requires : tie.Need-place-argument-requires
+place-argument-requires c κs =
+    let item-at : tie.After-item-at = search in
+    let start : tie.Start = search in (
+      search (needs, places),
+      λ t p k. c .before .wide .ensures .0 ∙ depth _ _ _ _ (start .pre .0) _ (item-at .item-at .ensures .0) _ _ (start .pre .1)
+          (start .pre .2) t p k,
+    )
+
+enum-known-placed : tie.Need-enum-known-placed
+enum-known-placed c = search needs
+
+enum-told : tie.Need-enum-told
+enum-told c = search needs
+
+same-length-2 : tie.Need-same-length-2
+same-length-2 c = search needs
+
+returns-2 : tie.Need-returns-2
+returns-2 c = search (needs, no-argument)
+
+sub-may-be : tie.Need-sub-may-be
+sub-may-be c = search needs
+
+part-may-be-start : tie.Need-part-may-be-start
+part-may-be-start c = search needs
+
+part-may-be-end : tie.Need-part-may-be-end
+part-may-be-end c = search needs
+
+may-be-requires : tie.Need-may-be-requires
+may-be-requires c κs =
+    let placed : tie.After-placed = search in
+    let place-argument : tie.After-place-argument = search in
+    let item-at : tie.After-item-at = search in
+    let start : tie.Start = search in
+    let l = looks _ _ _ _ (start .pre .0) _ (item-at .item-at .ensures .0) _ _ _
+    (placed-at _ _ _ _ _ _ _ (place-argument .place-argument .ensures) (placed .placed .given .1)) in
+    search (needs, skeleton-comparable)
+
+same-length-3 : tie.Need-same-length-3
+same-length-3 c = search needs
+
+returns-3 : tie.Need-returns-3
+returns-3 c =
+    let placed : tie.After-placed = search in
+    let place-argument : tie.After-place-argument = search in
+    let item-at : tie.After-item-at = search in
+    let start : tie.Start = search in
+    unfitting _ _ _ _ (start .pre .0) _ (item-at .item-at .ensures .0) _ _ _
+    (placed-at _ _ _ _ _ _ _ (place-argument .place-argument .ensures) (placed .placed .given .1)) _ (start .pre .1) _
+    (c .before .may-be .ensures) (not-true _ (c .if3 .taken))
+
+occurs-before-requires : tie.Need-occurs-before-requires
+occurs-before-requires c κs =
+    let placed : tie.After-placed = search in
+    let place-argument : tie.After-place-argument = search in
+    let item-at : tie.After-item-at = search in
+    let start : tie.Start = search in
+    let q = places _ _ _ _ (start .pre .0) _ (item-at .item-at .ensures .0) _ _ (start .pre .1) (start .pre .2) in (
+      looks _ _ _ _ (start .pre .0) _ (item-at .item-at .ensures .0) _ _ _
+          (placed-at _ _ _ _ _ _ _ (place-argument .place-argument .ensures) (placed .placed .given .1)),
+      omega (arith, q .few, q .within),
+    )
+
+same-length-4 : tie.Need-same-length-4
+same-length-4 c = search needs
+
+returns-4 : tie.Need-returns-4
+returns-4 c =
+    let placed : tie.After-placed = search in
+    let place-argument : tie.After-place-argument = search in
+    let item-at : tie.After-item-at = search in
+    let start : tie.Start = search in
+    again _ _ _ _ (start .pre .0) _ (item-at .item-at .ensures .0) _ _ _
+    (placed-at _ _ _ _ _ _ _ (place-argument .place-argument .ensures) (placed .placed .given .1)) _ (c .before .occurs-before .ensures)
+    (c .if4 .taken)
+
+add-head : tie.Need-add-head
+add-head c = search needs
+
+misses-local-requires : tie.Need-misses-local-requires
+misses-local-requires c κs =
+    let placed : tie.After-placed = search in
+    let place-argument : tie.After-place-argument = search in
+    let item-at : tie.After-item-at = search in
+    let start : tie.Start = search in
+    comparable _ _ _ _ (start .pre .0) _ (item-at .item-at .ensures .0) _ _ _
+    (placed-at _ _ _ _ _ _ _ (place-argument .place-argument .ensures) (placed .placed .given .1))
+
+same-length-5 : tie.Need-same-length-5
+same-length-5 c = search needs
+
+returns-5 : tie.Need-returns-5
+returns-5 c =
+    let placed : tie.After-placed = search in
+    let place-argument : tie.After-place-argument = search in
+    let item-at : tie.After-item-at = search in
+    let start : tie.Start = search in
+    lacking _ _ _ _ (start .pre .0) _ (item-at .item-at .ensures .0) _ _ _
+    (placed-at _ _ _ _ _ _ _ (place-argument .place-argument .ensures) (placed .placed .given .1)) _ (c .before .misses-local .ensures)
+    (c .if6 .taken)
+
+build-item-requires : tie.Need-build-item-requires
+build-item-requires c κs = search needs
+
+put-item-requires : tie.Need-put-item-requires
+put-item-requires c κs =
+    let placed : tie.After-placed = search in
+    let place-argument : tie.After-place-argument = search in
+    let item-at : tie.After-item-at = search in
+    let start : tie.Start = search in
+    let n = numbers _ _ _ _ (start .pre .0) _ (item-at .item-at .ensures .0) in
+    let e = ending _ _ _ _ (start .pre .0) _ (item-at .item-at .ensures .0) _ _ _
+    (placed-at _ _ _ _ _ _ _ (place-argument .place-argument .ensures) (placed .placed .given .1)) in (
+      omega (arith, n .room, e .most, e .whole),
+      fits-build _ _ _ _ _ (c .build-item .ensures) (omega (arith, n .part-low, start .pre .0 .ready .bounds .short))
+          (omega (arith, n .target-low, start .pre .0 .ready .bounds .top))
+          (omega (arith, n .next, start .pre .0 .ready .bounds .hard-room, start .pre .0 .ready .bounds .top))
+          (omega (arith, start .pre .0 .ready .bounds .top)),
+    )
+
+add-put-item : tie.Need-add-put-item
+add-put-item c =
+    let placed : tie.After-placed = search in
+    let place-argument : tie.After-place-argument = search in
+    let item-at : tie.After-item-at = search in
+    let start : tie.Start = search in
+    let e = ending _ _ _ _ (start .pre .0) _ (item-at .item-at .ensures .0) _ _ _
+    (placed-at _ _ _ _ _ _ _ (place-argument .place-argument .ensures) (placed .placed .given .1)) in
+    search needs
+
+match-item-requires : tie.Need-match-item-requires
+match-item-requires c κs = search needs
+
+put-item-requires-2 : tie.Need-put-item-requires-2
+put-item-requires-2 c κs =
+    let placed : tie.After-placed = search in
+    let place-argument : tie.After-place-argument = search in
+    let item-at : tie.After-item-at = search in
+    let start : tie.Start = search in
+    let n = numbers _ _ _ _ (start .pre .0) _ (item-at .item-at .ensures .0) in
+    let e = ending _ _ _ _ (start .pre .0) _ (item-at .item-at .ensures .0) _ _ _
+    (placed-at _ _ _ _ _ _ _ (place-argument .place-argument .ensures) (placed .placed .given .1)) in (
+      omega (arith, n .room, e .most, e .whole),
+      fits-match _ _ _ _ (c .match-item .ensures) (omega (
+        arith,
+        argument-whole _ _ _ _ (start .pre .0) _ (item-at .item-at .ensures .0) _
+            (argument-ends _ _ _ _ (start .pre .0) _ (item-at .item-at .ensures .0) _ (start .pre .1)) .least,
+        start .pre .0 .ready .bounds .short,
+      )) (omega (arith, start .pre .0 .ready .bounds .top))
+          (omega (arith, start .pre .0 .ready .bounds .easy-room, start .pre .0 .ready .bounds .top)),
+    )
+
+mul-t33 : tie.Need-mul-t33
+mul-t33 c = search needs
+
+add-t51 : tie.Need-add-t51
+add-t51 c =
+    let else4 : tie.Else4 = search in
+    let placed : tie.After-placed = search in
+    let place-argument : tie.After-place-argument = search in
+    let item-at : tie.After-item-at = search in
+    let start : tie.Start = search in
+    let e = ending _ _ _ _ (start .pre .0) _ (item-at .item-at .ensures .0) _ _ _
+    (placed-at _ _ _ _ _ _ _ (place-argument .place-argument .ensures) (placed .placed .given .1)) in
+    omega (arith, e .most, start .pre .0 .ready .bounds .top)
+
+add-t52 : tie.Need-add-t52
+add-t52 c =
+    let else4 : tie.Else4 = search in
+    let placed : tie.After-placed = search in
+    let place-argument : tie.After-place-argument = search in
+    let item-at : tie.After-item-at = search in
+    let start : tie.Start = search in
+    let e = ending _ _ _ _ (start .pre .0) _ (item-at .item-at .ensures .0) _ _ _
+    (placed-at _ _ _ _ _ _ _ (place-argument .place-argument .ensures) (placed .placed .given .1)) in
+    omega (arith, e .most, start .pre .0 .ready .bounds .top)
+
+same-length-6 : tie.Need-same-length-6
+same-length-6 c =
+    let put-item2 : tie.After-put-item2 = search in
+    let put-item : tie.After-put-item = search in
+    let occurs-before : tie.After-occurs-before = search in
+    let bytes2 : tie.After-bytes2 = search in
+    let slice-known2 : tie.After-slice-known2 = search in
+    let place-argument : tie.After-place-argument = search in
+    put-item2 .put-item2 .kept .0 ∙ put-item .put-item .kept .0 ∙ place-argument .place-argument .kept .0
+
+-- places that lie far back, from one between
+abbrev placed-before : tie.Else4 → tie.After-placed
+placed-before c = search
+
+abbrev item-before : tie.After-placed → tie.After-item-at
+item-before c = search
+
+returns-6 : tie.Need-returns-6
+returns-6 c =
+    let put-item : tie.After-put-item = search in
+    let build-item : tie.After-build-item = search in
+    let else4 : tie.Else4 = search in
+    let occurs-before : tie.After-occurs-before = search in
+    let placed = placed-before else4 in
+    let item-at = item-before placed in
+    let start : tie.Start = search in
+    let place-argument : tie.After-place-argument = search in
+    found _ _ _ _ (start .pre .0) _ (item-at .item-at .ensures .0) _ _ _
+    (placed-at _ _ _ _ _ _ _ (place-argument .place-argument .ensures) (placed .placed .given .1)) _ _ _ _ _ _
+    (argument-ends _ _ _ _ (start .pre .0) _ (item-at .item-at .ensures .0) _ (start .pre .1)) (occurs-before .occurs-before .ensures)
+    (else4 .if4 .left) (build-item .build-item .ensures) (c .before .before .before .match-item .ensures) (put-item .put-item .ensures)
+    (c .before .before .put-item2 .ensures)
+
+pub find-argument-spec : {M : Type 1} → statement M
+find-argument-spec =
+    tie.close
+    (tie.spec
+    item-at-requires
+    mul-heads-agree
+    add-heads-agree
+    heads-agree-requires
+    same-length
+    returns
+    array-read-wide
+    wide-requires
+    place-argument-requires
+    enum-known-placed
+    enum-told
+    same-length-2
+    returns-2
+    sub-may-be
+    part-may-be-start
+    part-may-be-end
+    may-be-requires
+    same-length-3
+    returns-3
+    occurs-before-requires
+    same-length-4
+    returns-4
+    add-head
+    misses-local-requires
+    same-length-5
+    returns-5
+    build-item-requires
+    put-item-requires
+    add-put-item
+    match-item-requires
+    put-item-requires-2
+    mul-t33
+    add-t51
+    add-t52
+    same-length-6
+    returns-6)

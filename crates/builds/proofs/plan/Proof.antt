@@ -1,0 +1,60 @@
+-- `builds::plan` meets its contract. Each way out is one law: one body is left, or the bodies are counted. Assumes nothing.
+use lib.ListN.{getD-replicate}
+use Rattle.terms.specs.Figures.{valueRecords}
+use Rattle.builds.proofs.Planning.{comparing, forced-dead, forced-live, counting, bodies}
+use borrow.Author.Needs.{needs}
+use Rattle.builds.proofs.plan.Statement.{statement}
+use Rattle.builds.proofs.plan.Tie as tie
+
+item-at-requires : tie.Need-item-at-requires
+item-at-requires c κs = search needs
+
+lacks-local-requires : tie.Need-lacks-local-requires
+lacks-local-requires c κs = search (needs, comparing)
+
+body-requires : tie.Need-body-requires
+body-requires c κs = search needs
+
+enum-told : tie.Need-enum-told
+enum-told c = search needs
+
+same-length : tie.Need-same-length
+same-length c = search needs
+
+returns : tie.Need-returns
+returns c = search (needs, forced-dead, getD-replicate, valueRecords)
+
+enum-known-branch : tie.Need-enum-known-branch
+enum-known-branch c = search needs
+
+same-length-2 : tie.Need-same-length-2
+same-length-2 c = search needs
+
+returns-2 : tie.Need-returns-2
+returns-2 c = search (needs, forced-live, getD-replicate, valueRecords)
+
+copies-requires : tie.Need-copies-requires
+copies-requires c κs = search (needs, counting)
+
+same-length-3 : tie.Need-same-length-3
+same-length-3 c = search needs
+
+returns-3 : tie.Need-returns-3
+returns-3 c = search (needs, bodies)
+
+pub plan-spec : {M : Type 1} → statement M
+plan-spec =
+    tie.close
+    (tie.spec
+    item-at-requires
+    lacks-local-requires
+    body-requires
+    enum-told
+    same-length
+    returns
+    enum-known-branch
+    same-length-2
+    returns-2
+    copies-requires
+    same-length-3
+    returns-3)

@@ -1,0 +1,4 @@
+pub mod Builds
+pub mod Choices
+pub mod Ground
+pub mod Outlines

@@ -1,0 +1,131 @@
+// Goals to build, and goals that what is known of their parts decides.
+//
+// A goal to build asks for a head, an abstraction, that comes to the target with an argument put in: its bodies are the target with some
+// copies of the argument replaced. The crate plans and writes bodies; finds the skeleton of a goal's part, what its swept form has for
+// certain while variables are open; and decides or refuses goals by it. It promises that the agenda it leaves has exactly the assignments
+// of the one before, or of the body that it is for; or that there are none. It rests on `agenda` for goals, on `skeletons` and
+// `abstractions` for the terms, and on `matching` for the mathematics.
+
+pub mod ground;
+pub mod outlines;
+
+use abstractions::Pairing;
+use agenda::Agenda;
+use agenda::Branch;
+use agenda::Item;
+use agenda::Plan;
+use agenda::TARGET_BYTES;
+use assignments::Entry;
+use records::Ask;
+use records::Kind;
+use records::RECORD;
+use records::VALUE_RECORDS;
+use records::VARIABLES;
+use records::Walk;
+ghost use Prim.Native.Nat.{_≤_};
+ghost use lib.ListN.{length};
+ghost use Rattle.agenda.specs.State.{Ready, relinking};
+ghost use Rattle.builds.specs.Choices.{Chosen, Planned};
+ghost use Rattle.agenda.specs.Moves.{Branched};
+ghost use Rattle.builds.specs.Builds.{Builds, AnyChosen, Pushes, Pushed, Solving, Solved};
+
+// Writes the abstraction over the body b at the top, and the goal that the part of `goal` sweeps to it; `goal` itself is dropped.
+pub fn push_abstraction(work: &mut [u8], s: Agenda, goal: Item, b: &[u8]) -> Agenda
+    requires { ⌜ Pushes (now work) s goal (now b) ⌝ }
+    ensures { λ r. ⌜ Pushed (now (work .entry)) s goal (now (b .entry)) (now (work .exit)) r ⌝ }
+{
+    records::put_record(work, s.top, Kind::ABSTRACTION, 0);
+    copying::copy_into(b, work, s.top + RECORD);
+    let easy = s.top + RECORD + b.len();
+    let target = Item {
+        part: goal.part,
+        kind: Item::MATCH,
+        target: s.top,
+        next: s.easy,
+        argument: 0,
+    };
+    agenda::put_item(work, easy, target);
+    Agenda {
+        top: easy + agenda::ITEM,
+        easy,
+        hard: goal.next,
+    }
+}
+
+// Whether one of the first n choices is made.
+fn any_chosen(chosen: &[u8], n: usize) -> bool
+    requires { ⌜ n ≤ length (now chosen) ⌝ }
+    ensures { λ r. ⌜ AnyChosen (now (chosen .entry)) n r ⌝ }
+{
+    let mut i = 0;
+    while i < n {
+        if chosen[i] != 0 {
+            return true;
+        }
+        i += 1;
+    }
+    false
+}
+
+// The goal with the body of the chosen copies: what its head then has to sweep to is written at the top. No head sweeps to an abstraction
+// that is a redex, and an abstraction that doesn't use its local belongs to another goal: it uses it where a choice is made.
+pub fn body(
+    p: &[u8],
+    work: &mut [u8],
+    s: Agenda,
+    a: [Entry; VARIABLES],
+    chosen: [u8; VALUE_RECORDS],
+) -> Branch
+    requires { ⌜ Ready relinking (now p) (now work) s a × Builds (now work) s ⌝ }
+    ensures { λ r. ⌜ Branched (now (p .entry)) (now (work .entry)) s a (Chosen chosen) (now (work .exit)) r ⌝ }
+{
+    let goal = agenda::item_at(work, s.hard);
+    let mut b = [0u8; TARGET_BYTES];
+    let built = abstractions::body_into(work, goal.target, 0, goal.argument, &chosen, 0, &mut b, 0);
+    let n = built.end;
+    if !any_chosen(&chosen, built.k) {
+        return Branch::Failed;
+    }
+    if records::is_eta(&b[0..n]) {
+        return Branch::Failed;
+    }
+    Branch::Next(push_abstraction(work, s, goal, &b[0..n]))
+}
+
+// Whether the term at byte v is an abstraction that uses its local and comes to the target with the argument put in.
+pub fn is_solved(work: &[u8], v: usize, argument: usize, target: usize) -> bool
+    requires { ⌜ Solving (now work) v argument target ⌝ }
+    ensures { λ r. ⌜ Solved (now (work .entry)) v argument target r ⌝ }
+{
+    if work[v] != Kind::ABSTRACTION.code {
+        return false;
+    }
+    let unused = records::ask_at(work, v + RECORD, Ask::Other, 0);
+    if let Walk::Upto(_) = unused {
+        return false;
+    }
+    let pairing = abstractions::is_substituted(work, v + RECORD, 0, argument, target);
+    match pairing {
+        Pairing::Upto(_) => true,
+        Pairing::No => false,
+    }
+}
+
+// What the goal comes to. A swept head uses no local that the head doesn't use: where the argument uses such a one no body keeps a copy of
+// the argument, so that one body is left. Any other head has a body for each choice among the copies.
+pub fn plan(p: &[u8], work: &mut [u8], s: Agenda, a: [Entry; VARIABLES]) -> Plan
+    requires { ⌜ Ready relinking (now p) (now work) s a × Builds (now work) s ⌝ }
+    ensures { λ r. ⌜ Planned (now (p .entry)) (now (work .entry)) s a (now (work .exit)) r ⌝ }
+{
+    let goal = agenda::item_at(work, s.hard);
+    if agenda::locals::lacks_local(p, goal.part, work, goal.argument) {
+        let every = [1u8; VALUE_RECORDS];
+        let branch = body(p, work, s, a, every);
+        match branch {
+            Branch::Failed => return Plan::Failed,
+            Branch::Next(next) => return Plan::Next(next),
+        }
+    }
+    let counted = abstractions::copies(work, goal.target, 0, goal.argument);
+    Plan::Bodies(counted.count)
+}

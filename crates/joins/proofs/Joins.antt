@@ -1,0 +1,387 @@
+-- Two targets joined, and what abstractions over a body come to. By the first records of the two, which are of one kind where there is a
+-- joined term, and by the number of abstractions. Assumes nothing.
+use mathlib.Core.Path.{_≡_, refl, sym, ap, ap₂, _∙_, subst}
+use mathlib.Core.Bool.{cond}
+use mathlib.Core.Option.{some, none}
+use mathlib.Core.List.{List, []}
+use Prim.Native.Nat.{ℕ, suc, _+_, _-_, _*_, _≤_, _<_}
+use native.Mathlib.Omega.{arith}
+use native.Mathlib.Numerals.{add-one}
+use lib.Dec.{eqb}
+use lib.ListN.{length, getD, take, drop}
+use lib.Seq.{sets, length-sets}
+use borrow.Author.Tests.{eq-eqb, ne-eqb}
+use Rattle.terms.specs.Figures.{numbers, sweptRecords}
+use Rattle.terms.specs.Term.{Term, app, lam, loc, con, size, shift, Closed}
+use Rattle.terms.specs.Sweep.{contract}
+use Rattle.terms.specs.Table.{bytes, encode}
+use Rattle.terms.proofs.Shift.{size-shift}
+use Rattle.terms.proofs.Table.{encode-length}
+use Rattle.matching.proofs.Repeated.{join, both, below, atConstants, constants-other, join-kinds, join-leaf, size-join, closed-contract}
+use Rattle.matching.proofs.Repeated.{size-contract}
+use Rattle.records.specs.Record.{numberAt}
+use Rattle.records.specs.Parts.{Part, Ends}
+use Rattle.records.specs.declared.Walk.{Walk}
+use Rattle.records.specs.declared.Walk.the-variants.{Upto, No}
+use Rattle.records.proofs.Parts.{size-some, whole, whole-head, whole-body, kind-at, number-at, application, abstraction, Application}
+use Rattle.records.proofs.Parts.{argument-part, ends-app, ends-lam, ends-leaf}
+use Rattle.sweeping.specs.Writers.{Fits, Source, Single, Wrote}
+use Rattle.sweeping.specs.Swept.{sweptBytes, Written, Abstracted, Abstracts}
+use Rattle.sweeping.specs.declared.Length.{Length}
+use Rattle.sweeping.specs.declared.Length.the-variants.{Records, TooLong}
+use Rattle.copying.proofs.Stores.{written-then, stored}
+use Rattle.sweeping.proofs.Writers.{source}
+use Rattle.sweeping.proofs.Contraction.{table-length}
+use Rattle.joins.specs.declared.pairs.Pairs.{Pairs}
+use Rattle.joins.specs.declared.pairs.Found.{Found}
+use Rattle.joins.specs.declared.pairs.Found.the-variants.{Local, Nothing}
+use Rattle.joins.specs.Pairs.{pairsOf, Locates}
+use Rattle.joins.specs.Joins.{Joins, Alike, Joint, Answers, Joined, Encloses, Enclosed}
+use Rattle.records.proofs.Parts.{constant-at}
+use Rattle.joins.proofs.Spines.{pairs-length, located-nothing}
+
+pub count-length : (P : List ℕ) (q : Pairs) → length (pairsOf P q) ≡ q .count
+count-length P q = pairs-length P (q .first) (q .second) (q .count)
+
+-- a joined term was written
+joined-upto : {P : List ℕ} {q : Pairs} {W : List ℕ} {t u d h o : ℕ} {out after : List ℕ} {r : Walk} → r ≡ Upto h
+    → Joined P q W t u d out o after r → Answers P q W t u d out o after (Upto h)
+joined-upto {P} {q} {W} {t} {u} {d} {h} {o} {out} {after} e x = subst (Answers P q W t u d out o after) e (x .answers)
+
+pub joined-ends : {P : List ℕ} {q : Pairs} {W : List ℕ} {t u d h o : ℕ} {out after : List ℕ} {r : Walk} → r ≡ Upto h
+    → Joined P q W t u d out o after r → Ends W t h
+unfolding Answers
+joined-ends e x = joined-upto e x .0
+
+pub joined-joint :
+    {P : List ℕ} {q : Pairs} {W : List ℕ} {t u d h o : ℕ} {out after : List ℕ} {r : Walk} → r ≡ Upto h → Joined P q W t u d out o after r
+    → (a b : Term) → Part W t a → Part W u b
+    → Joint P q d a b out o after
+unfolding Answers
+joined-joint e x = joined-upto e x .1
+
+pub joined-no :
+    {P : List ℕ} {q : Pairs} {W : List ℕ} {t u d o : ℕ} {out after : List ℕ} {r : Walk} → r ≡ No → Joined P q W t u d out o after r
+    → (a b : Term) → Part W t a → Part W u b
+    → join d (pairsOf P q) a b ≡ none
+unfolding Answers
+joined-no {P} {q} {W} {t} {u} {d} {o} {out} {after} e x =
+    let y : Answers P q W t u d out o after No = subst (Answers P q W t u d out o after) e (x .answers) in
+    y
+
+-- the arguments of two applications whose heads are joined
+other-argument :
+    (P : List ℕ) (q : Pairs) (W : List ℕ) (t u d h o : ℕ) (out after : List ℕ) (r : Walk) → r ≡ Upto h
+    → Joined P q W (t + 4) (u + 4) d out o after r → (a b : Term) (v : Application W t a) (w : Application W u b)
+    → Part W (u + (h - t)) (w .a)
+other-argument P q W t u d h o out after r e x a b v w =
+    let j = joined-joint e x (v .f) (w .f) (v .head) (w .head) in
+    let s = size-join (pairsOf P q) d (v .f) (w .f) (j .body) (j .is) in
+    subst (λ (i : ℕ). Part W i (w .a)) (omega (arith, joined-ends e x .exact (v .f) (v .head), s .0, s .1)) (w .argument)
+
+-- two constants
+at-constants :
+    (d : ℕ) (ps : List (ℕ × ℕ)) (W : List ℕ) (t u m n : ℕ) → m ≡ numberAt W t → n ≡ numberAt W u → getD W t 0 ≡ 3 → getD W u 0 ≡ 3
+    → (a b : Term) → Part W t a → Part W u b
+    → join d ps a b ≡ atConstants d ps m n
+at-constants d ps W t u m n e f z y a b j l = ap₂ (join d ps) (constant-at W t m a j z e) (constant-at W u n b l y f)
+
+module _ {P : List ℕ} {q : Pairs} {W : List ℕ} {t u d : ℕ} where
+  -- the parts of what is joined, and the room, as the length of what a writer left
+  module _ {o room rest : ℕ} (s : rest ≡ room) (x : Joins P q W t u d room o) (k : getD W t 0 ≡ getD W u 0) where
+    pub joins-head : getD W t 0 ≡ 0 → Joins P q W (t + 4) (u + 4) d rest (o + 4)
+    joins-head z =
+        let v = application W t (x .tree) (x .part) z in
+        let f : Fits (shift (q .count) d (app (v .f) (v .a))) = subst (λ (a : Term). Fits (shift (q .count) d a)) (v .is) (x .fits) in
+        let w = whole-head W u (x .other) (sym k ∙ z) in
+        record {
+          reads = x .reads;
+          tree = v .f;
+          part = v .head;
+          other = w;
+          fits = f .0;
+          enough = omega (arith, ap size (v .is), x .enough);
+          shallow = omega (arith, ap size (v .is), x .shallow);
+          least = omega (arith, v .head .some, v .head .within);
+          other-least = w .least;
+          first = omega (arith, ap size (v .is), x .enough, v .head .some);
+          few = x .few;
+          most = omega (arith, x .most);
+        }
+
+    pub joins-argument :
+        {h j : ℕ} {out after : List ℕ} {r : Walk} → getD W t 0 ≡ 0 → r ≡ Upto h → Joined P q W (t + 4) (u + 4) d out j after r
+        → Joins P q W h (u + (h - t)) d rest (o + (h - t))
+    joins-argument {h} {j} {out} {after} {r} z e y =
+        let v = application W t (x .tree) (x .part) z in
+        let w = application W u (x .other .tree) (x .other .part) (sym k ∙ z) in
+        let f : Fits (shift (q .count) d (app (v .f) (v .a))) = subst (λ (a : Term). Fits (shift (q .count) d a)) (v .is) (x .fits) in
+        let n = joined-ends e y in
+        let m = n .exact (v .f) (v .head) in
+        let p = argument-part W t h (x .tree) n v in
+        let a = whole W (u + (h - t)) (w .a) (other-argument P q W t u d h j out after r e y (x .tree) (x .other .tree) v w) in
+        record {
+          reads = x .reads;
+          tree = v .a;
+          part = p;
+          other = a;
+          fits = f .1;
+          enough = omega (arith, ap size (v .is), x .enough);
+          shallow = omega (arith, ap size (v .is), x .shallow);
+          least = omega (arith, p .some, p .within);
+          other-least = a .least;
+          first = omega (arith, ap size (v .is), x .enough, p .some);
+          few = x .few;
+          most = omega (arith, x .most);
+        }
+
+    pub joins-body : getD W t 0 ≡ 1 → Joins P q W (t + 4) (u + 4) (d + 1) rest (o + 4)
+    joins-body z =
+        let v = abstraction W t (x .tree) (x .part) z in
+        let f : Fits (shift (q .count) d (lam (v .b))) = subst (λ (a : Term). Fits (shift (q .count) d a)) (v .is) (x .fits) in
+        let w = whole-body W u (x .other) (sym k ∙ z) in
+        record {
+          reads = x .reads;
+          tree = v .b;
+          part = v .body;
+          other = w;
+          fits = subst (λ (i : ℕ). Fits (shift (q .count) i (v .b))) (sym (add-one d)) f;
+          enough = omega (arith, ap size (v .is), x .enough);
+          shallow = omega (arith, ap size (v .is), x .shallow);
+          least = omega (arith, v .body .some, v .body .within);
+          other-least = w .least;
+          first = omega (arith, ap size (v .is), x .enough, v .body .some);
+          few = omega (arith, ap size (v .is), x .shallow, v .body .some);
+          most = omega (arith, x .most);
+        }
+
+  pub joins-source : {room o : ℕ} → Joins P q W t u d room o → Source (shift (q .count)) W t d room o
+  joins-source {room} {o} x =
+      source (shift (q .count)) W t d room o (x .tree) (x .part) (x .fits) (omega (arith, x .shallow))
+      (omega (arith, x .enough, size-shift (q .count) d (x .tree)))
+
+  -- what was written
+  module _ {out : List ℕ} {o : ℕ} where
+    pub joined-kinds : ¬ (getD W t 0 ≡ getD W u 0) → Joined P q W t u d out o out No
+    unfolding Answers
+    joined-kinds n = record { answers = λ a b y z. join-kinds d (pairsOf P q) a b (λ e. n (kind-at W t a y ∙ e ∙ sym (kind-at W u b z))) }
+
+    module _ {p m : List ℕ} {r : Walk} (k : getD W t 0 ≡ getD W u 0) (z : getD W t 0 ≡ 0) (e : p ≡ sets out o (bytes 0 0 [])) where
+      pub joined-application :
+          {h : ℕ} {after : List ℕ} (s : Walk) → r ≡ Upto h → Joined P q W (t + 4) (u + 4) d p (o + 4) m r
+          → Joined P q W h (u + (h - t)) d m (o + (h - t)) after s
+          → Joined P q W t u d out o after s
+      unfolding Answers
+      joined-application {h} {after} (Upto i) f x y = record {
+        answers = (
+          ends-app W t h i z (joined-ends f x) (y .answers .0),
+          λ a b j l.
+              let v = application W t a j z in
+              let w = application W u b l (sym k ∙ z) in
+              let c = joined-joint f x (v .f) (w .f) (v .head) (w .head) in
+              let g = y .answers .1 (v .a) (w .a) (argument-part W t h a (joined-ends f x) v)
+              (other-argument P q W t u d h (o + 4) p m r f x a b v w) in
+              let s = size-join (pairsOf P q) d (v .f) (w .f) (c .body) (c .is) in
+              let n : o + (h - t) ≡ o + length (bytes 0 0 (encode (c .body))) =
+              omega (arith, encode-length (c .body), joined-ends f x .exact (v .f) (v .head), s .0) in
+              record {
+                body = app (c .body) (g .body);
+                is = ap₂ (join d (pairsOf P q)) (v .is) (w .is) ∙ ap₂ both (c .is) (g .is);
+                bytes =
+                    written-then (bytes 0 0 (encode (c .body))) (encode (g .body)) out m after o (o + (h - t))
+                    (written-then (bytes 0 0 []) (encode (c .body)) out p m o (o + 4) e (c .bytes) refl) (g .bytes) n;
+              },
+        );
+      }
+      joined-application {h} No f x y = record {
+        answers = λ a b j l.
+            let v = application W t a j z in
+            let w = application W u b l (sym k ∙ z) in
+            let c = joined-joint f x (v .f) (w .f) (v .head) (w .head) in
+            ap₂ (join d (pairsOf P q)) (v .is) (w .is)
+            ∙ ap₂ both (c .is)
+            (y .answers (v .a) (w .a) (argument-part W t h a (joined-ends f x) v) (other-argument P q W t u d h (o + 4) p m r f x a b v w));
+      }
+
+      pub joined-stop : r ≡ No → Joined P q W (t + 4) (u + 4) d p (o + 4) m r → Joined P q W t u d out o m No
+      unfolding Answers
+      joined-stop f x = record {
+        answers = λ a b j l.
+            let v = application W t a j z in
+            let w = application W u b l (sym k ∙ z) in
+            ap₂ (join d (pairsOf P q)) (v .is) (w .is)
+            ∙ ap (λ c. both c (join d (pairsOf P q) (v .a) (w .a))) (joined-no f x (v .f) (w .f) (v .head) (w .head));
+      }
+
+    pub joined-abstraction :
+        {p m : List ℕ} (r : Walk) → getD W t 0 ≡ getD W u 0 → getD W t 0 ≡ 1 → p ≡ sets out o (bytes 1 0 [])
+        → Joined P q W (t + 4) (u + 4) (d + 1) p (o + 4) m r
+        → Joined P q W t u d out o m r
+    unfolding Answers
+    joined-abstraction {p} {m} (Upto h) k z e x = record {
+      answers = (
+        ends-lam W t h z (x .answers .0),
+        λ a b j l.
+            let v = abstraction W t a j z in
+            let w = abstraction W u b l (sym k ∙ z) in
+            let c = x .answers .1 (v .b) (w .b) (v .body) (w .body) in
+            record {
+              body = lam (c .body);
+              is =
+                  ap₂ (join d (pairsOf P q)) (v .is) (w .is) ∙ ap (λ (i : ℕ). below (join i (pairsOf P q) (v .b) (w .b))) (sym (add-one d))
+                  ∙ ap below (c .is);
+              bytes = written-then (bytes 1 0 []) (encode (c .body)) out p m o (o + 4) e (c .bytes) refl;
+            },
+      );
+    }
+    joined-abstraction No k z e x = record {
+      answers = λ a b j l.
+          let v = abstraction W t a j z in
+          let w = abstraction W u b l (sym k ∙ z) in
+          ap₂ (join d (pairsOf P q)) (v .is) (w .is) ∙ ap (λ (i : ℕ). below (join i (pairsOf P q) (v .b) (w .b))) (sym (add-one d))
+          ∙ ap below (x .answers (v .b) (w .b) (v .body) (w .body));
+    }
+
+    -- single records
+    pub joined-differ : {m n : ℕ} → m ≡ numberAt W t → n ≡ numberAt W u → Alike P q W t u d → ¬ (m ≡ n) → Joined P q W t u d out o out No
+    unfolding Answers
+    joined-differ e f x h = record {
+      answers = λ a b j l.
+          x .is a b j l
+          ∙ ap (λ c. cond c (some (shift (q .count) d a)) none) (ne-eqb (numberAt W t) (numberAt W u) (λ i. h (e ∙ i ∙ sym f)));
+    }
+
+    pub joined-same :
+        {m n room next end : ℕ} {after : List ℕ} → m ≡ numberAt W t → n ≡ numberAt W u → Joins P q W t u d room o → Single W t
+        → Alike P q W t u d → m ≡ n
+        → Wrote (shift (q .count)) W t d out o after next end → Joined P q W t u d out o after (Upto (t + 4))
+    unfolding Answers
+    joined-same e f x s y h w = record {
+      answers = (
+        ends-leaf W t (s .no-application) (s .no-abstraction) (whole W t (x .tree) (x .part)),
+        λ a b j l. record {
+          body = shift (q .count) d a;
+          is = y .is a b j l ∙ ap (λ c. cond c (some (shift (q .count) d a)) none) (eq-eqb (numberAt W t) (numberAt W u) (sym e ∙ h ∙ f));
+          bytes = w .bytes a j;
+        },
+      );
+    }
+
+    pub joined-pair :
+        {m n room k : ℕ} {r : Found} {after : List ℕ} → m ≡ numberAt W t → n ≡ numberAt W u → getD W t 0 ≡ 3 → getD W u 0 ≡ 3
+        → Joins P q W t u d room o
+        → Locates (pairsOf P q) m n d r → r ≡ Local k → after ≡ sets out o (bytes 2 k []) → Joined P q W t u d out o after (Upto (t + 4))
+    unfolding Answers Locates
+    joined-pair {m} {n} {room} {k} e f z y x w i v =
+        let s : Locates (pairsOf P q) m n d (Local k) = subst (Locates (pairsOf P q) m n d) i w in
+        record {
+          answers = (
+            ends-leaf W t (λ c. omega arith) (λ c. omega arith) (whole W t (x .tree) (x .part)),
+            λ a b j l. record { body = loc k; is = at-constants d (pairsOf P q) W t u m n e f z y a b j l ∙ s .0; bytes = v },
+          );
+        }
+
+  pub alike-constants :
+      {m n : ℕ} {r : Found} → m ≡ numberAt W t → n ≡ numberAt W u → getD W t 0 ≡ 3 → getD W u 0 ≡ 3 → Locates (pairsOf P q) m n d r
+      → r ≡ Nothing → Alike P q W t u d
+  alike-constants {m} {n} {r} e f z y w i = record {
+    is = λ a b j l.
+        at-constants d (pairsOf P q) W t u m n e f z y a b j l
+        ∙ constants-other d (pairsOf P q) m n (located-nothing (pairsOf P q) m n d r w i)
+        ∙ ap₂ (λ (x y : ℕ). cond (eqb x y) (some (con m)) none) e f
+        ∙ ap (λ (c : Term). cond (eqb (numberAt W t) (numberAt W u)) (some (shift (q .count) d c)) none) (sym (constant-at W t m a j z e));
+  }
+
+  pub alike-other : getD W t 0 ≡ getD W u 0 → ¬ (getD W t 0 ≡ 0) → ¬ (getD W t 0 ≡ 1) → ¬ (getD W t 0 ≡ 3) → Alike P q W t u d
+  alike-other k x y z = record {
+    is = λ a b j l.
+        let e = kind-at W t a j in
+        join-leaf d (q .count) (pairsOf P q) a b (count-length P q) (sym e ∙ k ∙ kind-at W u b l) (λ i. x (e ∙ i))
+        (λ i. y (e ∙ i)) (λ i. z (e ∙ i))
+        ∙ ap₂ (λ (m n : ℕ). cond (eqb m n) (some (shift (q .count) d a)) none) (sym (number-at W t a j)) (sym (number-at W u b l));
+  }
+
+pub local-fits : (ps : List (ℕ × ℕ)) (m n d k : ℕ) (r : Found) → Locates ps m n d r → r ≡ Local k → d + 33 ≤ numbers → k < numbers
+unfolding Locates
+local-fits ps m n d k r x e h = let y : Locates ps m n d (Local k) = subst (Locates ps m n d) e x in omega (arith, y .1)
+
+-- no abstraction is left
+pub enclosed-none : {b out after : List ℕ} {n o : ℕ} → n ≡ 0 → after ≡ sets out o b → Enclosed b n out o after (o + length b)
+enclosed-none {b} {out} {after} {n} {o} e w = subst (λ (i : ℕ). Enclosed b i out o after (o + length b)) (sym e) (record {
+  end = λ t f. omega (arith, table-length b t f);
+  bytes = λ t f. w ∙ ap (sets out o) f;
+  most = omega arith;
+  more = omega arith;
+})
+
+-- one abstraction more
+module _ {b : List ℕ} {n room o : ℕ} (x : Encloses b n room o) (s : ¬ (n ≡ 0)) where
+  contracted-closed : Closed (x .depth + (n - 1)) (contract (lam (x .body)))
+  contracted-closed = closed-contract (x .depth + (n - 1)) (x .body) (subst (λ (i : ℕ). Closed i (x .body)) (omega (arith, s)) (x .closed))
+
+  pub encloses-abstracted : Abstracted b
+  encloses-abstracted = record {
+    body = x .body;
+    bytes = x .bytes;
+    least = x .least;
+    most = omega (arith, x .most);
+    depth = x .depth + (n - 1);
+    shallow = omega (arith, x .shallow);
+    closed = contracted-closed;
+  }
+
+  module _ (out p : List ℕ) (r : Length) (y : Abstracts b out r p) (l : length out ≡ sweptBytes) where
+    pub never-long : r ≡ TooLong → ⊥
+    unfolding Written
+    never-long e =
+        let w : Written (contract (lam (x .body))) out TooLong p =
+        subst (λ (i : Length). Written (contract (lam (x .body))) out i p) e (y (x .body) (x .bytes)) in
+        omega (arith, w .0, size-contract (x .body), table-length b (x .body) (x .bytes), x .most, s)
+
+    module _ (m : ℕ) (e : r ≡ Records m) where
+      result : (t : Term) → b ≡ encode t → Written (contract (lam t)) out (Records m) p
+      result t f = subst (λ (i : Length). Written (contract (lam t)) out i p) e (y t f)
+
+      contracted : (t : Term) → b ≡ encode t → take (m * 4 - 0) (drop 0 p) ≡ encode (contract (lam t))
+      unfolding Written
+      contracted t f =
+          let w = result t f in
+          stored out p (encode (contract (lam t))) (m * 4) (w .2) (omega (arith, w .0, encode-length (contract (lam t))))
+          (omega (arith, w .1))
+
+      pub contracted-few : m ≤ sweptRecords
+      unfolding Written
+      contracted-few = result (x .body) (x .bytes) .1
+
+      pub contracted-within : m * 4 ≤ length p
+      unfolding Written
+      contracted-within =
+          let w = result (x .body) (x .bytes) in
+          omega (arith, w .1, ap length (w .2), length-sets out 0 (encode (contract (lam (x .body)))))
+
+      pub encloses-next : {rest : ℕ} → rest ≡ room → Encloses (take (m * 4 - 0) (drop 0 p)) (n - 1) rest o
+      encloses-next g =
+          let f = contracted (x .body) (x .bytes) in
+          let h = table-length (take (m * 4 - 0) (drop 0 p)) (contract (lam (x .body))) f in
+          let i = table-length b (x .body) (x .bytes) in
+          record {
+            body = contract (lam (x .body));
+            bytes = f;
+            least = omega (arith, size-some (contract (lam (x .body))));
+            most = omega (arith, size-contract (x .body), x .most, s);
+            depth = x .depth;
+            shallow = omega (arith, x .shallow);
+            closed = contracted-closed;
+            enough = omega (arith, size-contract (x .body), x .enough, s);
+          }
+
+      pub enclosed-next : {W after : List ℕ} {k : ℕ} → Enclosed (take (m * 4 - 0) (drop 0 p)) (n - 1) W o after k → Enclosed b n W o after k
+      enclosed-next {W} {after} {k} w =
+          let g : n ≡ suc (n - 1) = omega (arith, s) in
+          let h = table-length (take (m * 4 - 0) (drop 0 p)) (contract (lam (x .body))) (contracted (x .body) (x .bytes)) in
+          subst (λ (i : ℕ). Enclosed b i W o after k) (sym g) (record {
+            end = λ t f. w .end (contract (lam t)) (contracted t f);
+            bytes = λ t f. w .bytes (contract (lam t)) (contracted t f);
+            most = omega (arith, w .most, size-contract (x .body), table-length b (x .body) (x .bytes), s);
+            more = w .more;
+          })

@@ -1,0 +1,660 @@
+-- One variable in two goals put off: what finding them shows, and the agenda that is left when its value was written. By the list of goals,
+-- and by the value, which is the only one that comes to both targets. Assumes nothing.
+--   Among P W top i gs      the goal that stands at byte i, among the goals gs of a list, and the list behind it
+--   Known P W top i p t     whatever goal put off stands at byte i is that p sweeps to the target t
+--   Meant P W s r           the two goals of r: their targets, and what is known of them
+use mathlib.Core.Path.{_≡_, refl, sym, ap, ap₂, _∙_, subst}
+use mathlib.Core.List.{List, [], _∷_}
+use Prim.Native.Nat.{ℕ, _+_, _-_, _*_, _%_, _<_, _≤_}
+use native.Mathlib.Omega.{arith}
+use lib.ListN.{length, getD, take, drop}
+use lib.Seq.{sets}
+use Rattle.terms.specs.Figures.{variables, patternRecords, valueRecords, tableBytes}
+use Rattle.terms.specs.Term.{Term, var, size, shift, Closed}
+use Rattle.terms.specs.Table.{encode}
+use Rattle.terms.specs.Refusal.{OccursIn}
+use Rattle.terms.proofs.Shift.{size-shift}
+use Rattle.terms.proofs.Table.{encode-length}
+use Rattle.matching.proofs.Goals.{Goal, Goal.match, Goal.build, Meets, All, Listable}
+use Rattle.matching.proofs.Lister.{Sweeps}
+use Rattle.matching.proofs.Targets.{closed-more, closed-shift}
+use Rattle.matching.proofs.Repeated.{spine, firsts, seconds, length-firsts, enclose, size-spine, suits-spine, size-join, size-enclose}
+use Rattle.matching.proofs.Repeated.{join-closed, enclose-normal, enclose-closed, enclose-ground, goals-forced, goals-none}
+use Rattle.records.specs.Parts.{Part, Whole}
+use Rattle.records.specs.declared.Walk.{Walk}
+use Rattle.records.specs.declared.Walk.the-variants.{Upto, No}
+use Rattle.records.proofs.Parts.{part-one, whole}
+use Rattle.assignments.specs.declared.Entry.{Entry}
+use Rattle.copying.proofs.Stores.{stored}
+use Rattle.sweeping.proofs.Contraction.{closed-fits, table-length}
+use Rattle.agenda.specs.declared.Agenda.{Agenda}
+use Rattle.agenda.specs.declared.Item.{Item}
+use Rattle.agenda.specs.declared.Decision.the-variants as decision
+use Rattle.joins.specs.declared.pairs.Pairs.{Pairs}
+use Rattle.joins.specs.declared.pairs.Spines.{Spines}
+use Rattle.joins.specs.declared.pairs.Spines.the-variants.{Apart}
+use Rattle.ordering.specs.declared.repeated.Occurrences.{Occurrences}
+use Rattle.ordering.specs.declared.repeated.Search.{Search}
+use Rattle.ordering.specs.declared.repeated.Search.the-variants.{Found, Nothing}
+use Rattle.agenda.specs.Items.{itemBytes, ItemAt, Fits}
+use Rattle.agenda.specs.State.{patternAt, targetAt, nextAt, Target, Easy, Hard, Node, Chain, weight, weights, Ready}
+use Rattle.agenda.specs.Moves.{Decided}
+use Rattle.agenda.specs.Items.{matchItem}
+use Rattle.ordering.specs.Ordering.{Reaches, Reaches.here, Reaches.further, Drops, Dropped}
+use Rattle.joins.specs.Pairs.{pairsOf, Repeated, Repeats}
+use Rattle.joins.specs.Joins.{Joins, Joint, Joined, Encloses, Enclosed}
+use Rattle.ordering.specs.Repeated.{Listed, Later, Twice, Finds}
+use Rattle.agenda.proofs.Frame.{Kept, part-kept, byte-kept, word-kept, next-kept, chain-kept, holds-kept, kept-sets, kept-then}
+use Rattle.agenda.proofs.Frame.{length-stored, part-stored, item-stored, chain-match}
+use Rattle.ordering.proofs.Ordering.{first, reaches-some, reaches-kept, few-goals, weight-least}
+use Rattle.joins.proofs.Joins.{count-length, joined-ends, joined-joint, joined-no}
+
+-- the steps of a walk over a list
+module _ {P W : List ℕ} {at : ℕ} {r : Item} (x : Listed P W at) (s : ¬ (at ≡ 0)) (y : ItemAt W at r) where
+  pub listed-falls : r .next < at
+  listed-falls = omega (arith, first Hard P W (x .top) at (x .goals) (x .chain) (omega (arith, s)) .node .falls, y .next)
+
+  pub listed-next : Listed P W (r .next)
+  listed-next =
+      let f = first Hard P W (x .top) at (x .goals) (x .chain) (omega (arith, s)) in
+      record {
+        top = x .top;
+        goals = f .rest;
+        chain = rw (y .next) (f .chain);
+        within = omega (arith, listed-falls, x .within);
+        below = x .below;
+        most = x .most;
+        short = x .short;
+      }
+
+  pub listed-part : r .kind ≡ 0 → Whole P (r .part)
+  listed-part k =
+      let f = first Hard P W (x .top) at (x .goals) (x .chain) (omega (arith, s)) in
+      go (f .goal) (f .node)
+    where
+      go : (g : Goal) → Node Hard P W (x .top) at g → Whole P (r .part)
+      go (match p t) n = rw (y .part) (whole P _ p (n .goal .part))
+      go (build f t e) n = absurd (omega (arith, y .kind, n .goal .kind))
+
+module _ (P W : List ℕ) (at : ℕ) where
+  pub finds-nothing : Finds P W at Nothing
+  unfolding Finds
+  finds-nothing = tt
+
+  pub later-nothing : (i x : ℕ) → Later P W at i x Nothing
+  unfolding Later
+  later-nothing i x = tt
+
+  module _ (r : Item) (s : ¬ (at ≡ 0)) (y : ItemAt W at r) where
+    some-goal : 0 < at
+    some-goal = omega (arith, s)
+
+    pub later-here : (i x : ℕ) (o : Spines) (q : Pairs) → r .kind ≡ 0 → o ≡ Apart q → Repeats P x (r .part) o
+        → Later P W at i x (Found (record { first = i; second = at; pairs = q }))
+    unfolding Later Repeats
+    later-here i x o q k e z =
+        let w : Repeats P x (r .part) (Apart q) = subst (Repeats P x (r .part)) e z in
+        record {
+          first = refl;
+          reaches = here some-goal refl;
+          kind = sym (y .kind) ∙ k;
+          repeated = subst (λ (j : ℕ). Repeated P x j q) (y .part) w;
+        }
+
+    pub later-further : (i x : ℕ) (o : Search) → Later P W (r .next) i x o → Later P W at i x o
+    unfolding Later
+    later-further i x (Found q) z =
+        record { first = z .first; reaches = further some-goal (rw (y .next) at (z .reaches)); kind = z .kind; repeated = z .repeated }
+    later-further i x Nothing z = tt
+
+    pub finds-here : (o : Search) (q : Occurrences) → r .kind ≡ 0 → o ≡ Found q → Later P W (r .next) at (r .part) o
+        → Finds P W at (Found q)
+    unfolding Later Finds
+    finds-here o q k e z =
+        let w : Later P W (r .next) at (r .part) (Found q) = subst (Later P W (r .next) at (r .part)) e z in
+        let f : at ≡ q .first = sym (w .first) in
+        record {
+          reaches = here some-goal f;
+          later = subst (λ (j : ℕ). Reaches W (nextAt W j) (q .second)) f (rw (y .next) at (w .reaches));
+          first-kind = subst (λ (j : ℕ). getD W (j + 1) 0 ≡ 0) f (sym (y .kind) ∙ k);
+          second-kind = w .kind;
+          repeated = subst (λ (j : ℕ). Repeated P (patternAt W j) (patternAt W (q .second)) (q .pairs)) f
+              (subst (λ (j : ℕ). Repeated P j (patternAt W (q .second)) (q .pairs)) (y .part) (w .repeated));
+        }
+
+    pub finds-further : (o : Search) → Finds P W (r .next) o → Finds P W at o
+    unfolding Finds
+    finds-further (Found q) z = record {
+      reaches = further some-goal (rw (y .next) at (z .reaches));
+      later = z .later;
+      first-kind = z .first-kind;
+      second-kind = z .second-kind;
+      repeated = z .repeated;
+    }
+    finds-further Nothing z = tt
+
+pub found : (P W : List ℕ) (at : ℕ) (o : Search) (r : Occurrences) → o ≡ Found r → Finds P W at o → Twice P W at r
+unfolding Finds
+found P W at o r e x = let y : Finds P W at (Found r) = subst (Finds P W at) e x in y
+
+-- a goal of a list
+record Among (P W : List ℕ) (top i : ℕ) (gs : List Goal) : Type 0 where
+  goal : Goal
+  rest : List Goal
+  node : Node Hard P W top i goal
+  chain : Chain Hard P W top (nextAt W i) rest
+  weighs : weight goal + weights 0 rest ≤ weights 0 gs
+  meets : (φ : ℕ → Term) → All gs φ → Meets goal φ × All rest φ
+
+among : (P W : List ℕ) (top at i : ℕ) (gs : List Goal) → Chain Hard P W top at gs → Reaches W at i → Among P W top i gs
+among P W top at i [] c (here h e) = absurd (omega (arith, c))
+among P W top at i [] c (further h r) = absurd (omega (arith, c))
+among P W top at i (g ∷ gs) c (here h e) = record {
+  goal = g;
+  rest = gs;
+  node = subst (λ (j : ℕ). Node Hard P W top j g) e (c .0);
+  chain = subst (λ (j : ℕ). Chain Hard P W top (nextAt W j) gs) e (c .1);
+  weighs = omega arith;
+  meets = λ φ m. m;
+}
+among P W top at i (g ∷ gs) c (further h r) =
+    let a = among P W top (nextAt W at) i gs (c .1) r in
+    record {
+      goal = a .goal;
+      rest = a .rest;
+      node = a .node;
+      chain = a .chain;
+      weighs = omega (arith, a .weighs);
+      meets = λ φ m. a .meets φ (m .1);
+    }
+
+-- what is known of a goal, in every work area with the same bytes below `top`
+record Known (P W : List ℕ) (top i : ℕ) (p t : Term) : Type 0 where
+  room : i + 8 ≤ top
+  kind : getD W (i + 1) 0 ≡ 0
+  part : (f : Term) → Part P (patternAt W i) f → f ≡ p
+  stands : Part P (patternAt W i) p
+  target : Target W top (size p) (targetAt W i) t
+  suits : Listable variables (OccursIn P) (match p t)
+
+known :
+    (P W : List ℕ) (top i : ℕ) (p : Term) (g : Goal) → Node Hard P W top i g → getD W (i + 1) 0 ≡ 0
+    → ((f : Term) → Part P (patternAt W i) f → f ≡ p)
+    → (t : Term) × Known P W top i p t
+known P W top i p (match f t) n k h =
+    let e = h f (n .goal .part) in (
+      t,
+      record {
+        room = n .room;
+        kind = k;
+        part = h;
+        stands = subst (Part P (patternAt W i)) e (n .goal .part);
+        target = subst (λ (f : Term). Target W top (size f) (targetAt W i) t) e (n .goal .target);
+        suits = subst (λ (f : Term). Listable variables (OccursIn P) (match f t)) e (n .goal .suits);
+      },
+    )
+known P W top i p (build f t e) n k h = absurd (omega (arith, n .goal .kind))
+
+goal-is : (P W X : List ℕ) (top higher i : ℕ) (p t : Term) (g : Goal) → Known P W top i p t → Kept W X top
+    → Node Hard P X higher i g → g ≡ match p t
+goal-is P W X top higher i p t (match f u) k x n =
+    let e : f ≡ p = k .part f (subst (λ (j : ℕ). Part P (4 * j) f) (byte-kept W X top x i (omega (arith, k .room))) (n .goal .part)) in
+    let y : Part X (targetAt W i) u =
+    subst (λ (j : ℕ). Part X (4 * j) u) (word-kept W X top x (i + 2) (omega (arith, k .room))) (n .goal .target .part) in
+    ap₂ match e (part-one X (targetAt W i) u t y (part-kept W X top x (targetAt W i) t (k .target .below) (k .target .part)))
+goal-is P W X top higher i p t (build f u e) k x n =
+    absurd (omega (arith, n .goal .kind, byte-kept W X top x (i + 1) (omega (arith, k .room)), k .kind))
+
+meets-is : (g : Goal) (p t : Term) (φ : ℕ → Term) → g ≡ match p t → Meets g φ → Sweeps p t φ
+meets-is g p t φ e m = subst (λ (h : Goal). Meets h φ) e m
+
+is-meets : (g : Goal) (p t : Term) (φ : ℕ → Term) → g ≡ match p t → Sweeps p t φ → Meets g φ
+is-meets g p t φ e m = subst (λ (h : Goal). Meets h φ) (sym e) m
+
+-- the two goals
+abbrev firstPart : List ℕ → Pairs → ℕ → Term
+firstPart P q n = spine (var n) (firsts (pairsOf P q))
+
+abbrev secondPart : List ℕ → Pairs → ℕ → Term
+secondPart P q n = spine (var n) (seconds (pairsOf P q))
+
+record Meant (P W : List ℕ) (s : Agenda) (r : Occurrences) (n : ℕ) : Type 0 where
+  t : Term
+  u : Term
+  first : Known P W (s .top) (r .first) (firstPart P (r .pairs) n) t
+  second : Known P W (s .top) (r .second) (secondPart P (r .pairs) n) u
+
+no-easy : (P W : List ℕ) (top at : ℕ) (gs : List Goal) → at ≡ 0 → Chain Easy P W top at gs → gs ≡ []
+no-easy P W top at [] e c = refl
+no-easy P W top at (g ∷ gs) e c = absurd (omega (arith, c .0 .low))
+
+kept-same : (W : List ℕ) (top : ℕ) → top ≤ length W → Kept W W top
+kept-same W top h = record { same = refl; from = h; to = h }
+
+module _ {P W : List ℕ} {s : Agenda} {a : List Entry} (x : Ready 0 P W s a) where
+  pub ready-listed : Listed P W (s .hard)
+  ready-listed =
+      let b = x .bounds in
+      record {
+        top = s .top;
+        goals = x .hs;
+        chain = x .state .hard;
+        within = omega (arith, b .hard-room, b .top, b .whole);
+        below = omega (arith, b .top, b .whole);
+        most = omega (arith, b .whole);
+        short = b .short;
+      }
+
+  pub decided-open : Decided 0 P W s a W decision.Open
+  unfolding Decided
+  decided-open = refl
+
+  module _ {r : Occurrences} (y : Twice P W (s .hard) r) where
+    -- the two goals, of any list of goals that stands there
+    one-among : (hs : List Goal) → Chain Hard P W (s .top) (s .hard) hs → Among P W (s .top) (r .first) hs
+    one-among hs c = among P W (s .top) (s .hard) (r .first) hs c (y .reaches)
+
+    two-among : (hs : List Goal) (c : Chain Hard P W (s .top) (s .hard) hs) → Among P W (s .top) (r .second) (one-among hs c .rest)
+    two-among hs c = among P W (s .top) (nextAt W (r .first)) (r .second) (one-among hs c .rest) (one-among hs c .chain) (y .later)
+
+    meant : Meant P W s r (y .repeated .number)
+    meant =
+        let i = one-among (x .hs) (x .state .hard) in
+        let j = two-among (x .hs) (x .state .hard) in
+        let f = known P W (s .top) (r .first) (firstPart P (r .pairs) (y .repeated .number)) (i .goal) (i .node) (y .first-kind)
+        (y .repeated .first) in
+        let g = known P W (s .top) (r .second) (secondPart P (r .pairs) (y .repeated .number)) (j .goal) (j .node) (y .second-kind)
+        (y .repeated .second) in
+        record { t = f .0; u = g .0; first = f .1; second = g .1 }
+
+    pub first-room : r .first + 8 ≤ length W
+    first-room = omega (arith, meant .first .room, x .bounds .top, x .bounds .whole)
+
+    pub second-room : r .second + 8 ≤ length W
+    second-room = omega (arith, meant .second .room, x .bounds .top, x .bounds .whole)
+
+    -- each has 2,000 bytes at least
+    room-left : s .top + 4000 ≤ tableBytes
+    room-left =
+        let i = one-among (x .hs) (x .state .hard) in
+        let j = two-among (x .hs) (x .state .hard) in
+        omega (
+          arith,
+          i .weighs,
+          j .weighs,
+          weight-least P W (s .top) (r .first) (i .goal) (i .node .goal),
+          weight-least P W (s .top) (r .second) (j .goal) (j .node .goal),
+          x .state .room,
+        )
+
+    part-size : size (firstPart P (r .pairs) (y .repeated .number)) ≡ 1 + 2 * r .pairs .count
+    part-size = omega (
+      arith,
+      size-spine (var (y .repeated .number)) (firsts (pairsOf P (r .pairs))),
+      length-firsts (pairsOf P (r .pairs)),
+      count-length P (r .pairs),
+    )
+
+    first-even : r .pairs .first % 4 ≡ 0
+    first-even = omega (arith, y .repeated .first-ends .exact (firstPart P (r .pairs) (y .repeated .number)) (meant .first .stands))
+
+    module _ {one two : Item} (i : ItemAt W (r .first) one) (j : ItemAt W (r .second) two) where
+      target-part : Part W (one .target) (meant .t)
+      target-part = rw (i .target) (meant .first .target .part)
+
+      other-part : Part W (two .target) (meant .u)
+      other-part = rw (j .target) (meant .second .target .part)
+
+      pub forced-joins : {room : ℕ} → room ≡ 4 * valueRecords → Joins P (r .pairs) W (one .target) (two .target) 0 room 0
+      forced-joins e =
+          let t = meant .first .target in
+          let n = r .pairs .count in
+          let m = patternRecords - size (firstPart P (r .pairs) (y .repeated .number)) in
+          record {
+            reads = record { first = y .repeated .first-ends .within; second = y .repeated .second-ends .within; short = x .bounds .short };
+            tree = meant .t;
+            part = target-part;
+            other = whole W (two .target) (meant .u) other-part;
+            fits =
+                closed-fits (m + n) (shift n 0 (meant .t)) (closed-shift n 0 m (m + n) (meant .t) refl (t .closed))
+                (omega (arith, t .short, t .few, part-size, size-shift n 0 (meant .t)));
+            enough = omega (arith, t .short);
+            shallow = omega (arith, t .short);
+            least = omega (arith, target-part .some, target-part .within);
+            other-least = omega (arith, other-part .some, other-part .within);
+            first = omega arith;
+            few = omega arith;
+            most = omega arith;
+          }
+
+      module _ {out after : List ℕ} {w : Walk} (z : Joined P (r .pairs) W (one .target) (two .target) 0 out 0 after w) where
+        -- no value comes to both targets
+        pub decided-failed : w ≡ No → Decided 0 P W s a W decision.Failed
+        unfolding Decided
+        decided-failed e = record {
+          none = λ gs hs l st φ v m.
+              let f = one-among hs (st .hard) in
+              let g = two-among hs (st .hard) in
+              let k = kept-same W (s .top) (omega (arith, x .bounds .top, x .bounds .whole)) in
+              let b = f .meets φ (m .1) in
+              let c = g .meets φ (b .1) in
+              goals-none (pairsOf P (r .pairs)) (y .repeated .apart) (y .repeated .number) (meant .t) (meant .u) φ
+              (v (y .repeated .number) .1) []
+              (joined-no e z (meant .t) (meant .u) target-part other-part) (
+                meets-is (f .goal) _ (meant .t) φ
+                    (goal-is P W W (s .top) (s .top) (r .first) _ (meant .t) (f .goal) (meant .first) k (f .node)) (b .0),
+                (
+                  meets-is (g .goal) _ (meant .u) φ
+                      (goal-is P W W (s .top) (s .top) (r .second) _ (meant .u) (g .goal) (meant .second) k (g .node)) (c .0),
+                  tt,
+                ),
+              );
+          kept = refl;
+        }
+
+        module _ {end : ℕ} (e : w ≡ Upto end) where
+          pub target-ends : one .target + 4 ≤ end
+          target-ends = joined-ends e z .more
+
+          target-size : end ≡ one .target + 4 * size (meant .t)
+          target-size = joined-ends e z .exact (meant .t) target-part
+
+          pub target-within : end - one .target ≤ 4 * valueRecords
+          target-within = omega (arith, target-size, meant .first .target .short)
+
+          joint : Joint P (r .pairs) 0 (meant .t) (meant .u) out 0 after
+          joint = joined-joint e z (meant .t) (meant .u) target-part other-part
+
+          body-size : size (joint .body) ≡ size (meant .t)
+          body-size = size-join (pairsOf P (r .pairs)) 0 (meant .t) (meant .u) (joint .body) (joint .is) .0
+
+          module _ (l : length out ≡ 4 * valueRecords) where
+            body-bytes : take (end - one .target - 0) (drop 0 after) ≡ encode (joint .body)
+            body-bytes =
+                stored out after (encode (joint .body)) (end - one .target) (joint .bytes)
+                (omega (arith, encode-length (joint .body), body-size, target-size)) (omega (arith, target-within))
+
+            pub forced-encloses : Encloses (take (end - one .target - 0) (drop 0 after)) (r .pairs .count) (length W) (s .top)
+            forced-encloses =
+                let t = meant .first .target in
+                let n = table-length (take (end - one .target - 0) (drop 0 after)) (joint .body) body-bytes in
+                let m = patternRecords - size (firstPart P (r .pairs) (y .repeated .number)) in
+                record {
+                  body = joint .body;
+                  bytes = body-bytes;
+                  least = omega (arith, target-part .some, body-size);
+                  most = omega (arith, t .short, body-size, part-size);
+                  depth = m;
+                  shallow = omega (arith, t .few, part-size);
+                  closed =
+                      subst (λ (k : ℕ). Closed (m + k) (joint .body)) (count-length P (r .pairs))
+                      (join-closed (pairsOf P (r .pairs)) (meant .t) (meant .u) (joint .body) (joint .is) m (t .closed));
+                  enough = omega (arith, t .short, body-size, part-size, room-left, x .bounds .whole);
+                }
+
+            -- the value is written
+            value : Term
+            value = enclose (length (pairsOf P (r .pairs))) (joint .body)
+
+            value-size : size value + 2 ≤ valueRecords
+            unfolding value
+            value-size =
+                omega (
+                  arith,
+                  size-enclose (length (pairsOf P (r .pairs))) (joint .body),
+                  body-size,
+                  count-length P (r .pairs),
+                  part-size,
+                  meant .first .target .short,
+                )
+
+            module _ {X : List ℕ} {o : ℕ}
+                (v : Enclosed (take (end - one .target - 0) (drop 0 after)) (r .pairs .count) W (s .top) X o) where
+              enclosed : Enclosed (take (end - one .target - 0) (drop 0 after)) (length (pairsOf P (r .pairs))) W (s .top) X o
+              enclosed = subst (λ (k : ℕ). Enclosed (take (end - one .target - 0) (drop 0 after)) k W (s .top) X o)
+                  (sym (count-length P (r .pairs))) v
+
+              value-stored : X ≡ sets W (s .top) (encode value)
+              unfolding value
+              value-stored = enclosed .bytes (joint .body) body-bytes
+
+              value-end : o ≡ s .top + 4 * size value
+              unfolding value
+              value-end = enclosed .end (joint .body) body-bytes
+
+              value-kept : Kept W X (s .top)
+              value-kept = kept-sets (encode value) W X (s .top) (s .top) value-stored (omega arith)
+                  (omega (arith, x .bounds .top, x .bounds .whole))
+
+              value-whole : length X ≡ tableBytes
+              value-whole = length-stored (encode value) W X (s .top) value-stored ∙ x .bounds .whole
+
+              value-part : Part X (s .top) value
+              value-part = subst (λ (k : List ℕ). Part k (s .top) value) (sym value-stored)
+                  (part-stored value W (s .top) (omega (arith, value-size, room-left, x .bounds .whole)))
+
+              -- and the first goal dropped
+              chain-one : (hs : List Goal) → Chain Hard P W (s .top) (s .hard) hs → Chain Hard P X o (s .hard) hs
+              chain-one hs c = chain-kept W X (s .top) value-kept o (omega (arith, value-end)) P Hard (s .hard) hs c
+
+              reaches-one : Reaches X (s .hard) (r .first)
+              reaches-one = reaches-kept W X (s .top) value-kept P Hard (s .hard) (r .first) (x .hs) (x .state .hard) (y .reaches)
+
+              later-one : Reaches X (nextAt X (r .first)) (r .second)
+              later-one =
+                  subst (λ (k : ℕ). Reaches X k (r .second)) (sym (next-kept W X (s .top) value-kept (r .first) (meant .first .room)))
+                  (reaches-kept W X (s .top) value-kept P Hard (nextAt W (r .first)) (r .second) (one-among (x .hs) (x .state .hard) .rest)
+                  (one-among (x .hs) (x .state .hard) .chain) (y .later))
+
+              few-hard : 8 * length (x .hs) ≤ 256
+              few-hard = omega (arith, few-goals P W (s .top) (s .hard) (x .hs) (x .state .hard), x .state .room)
+
+              pub forced-drops : Drops X o (s .hard) (r .first)
+              forced-drops =
+                  let f = first Hard P X o (s .hard) (x .hs) (chain-one (x .hs) (x .state .hard))
+                  (reaches-some X (s .hard) (r .first) reaches-one) in
+                  record {
+                    pattern = P;
+                    goals = x .hs;
+                    chain = chain-one (x .hs) (x .state .hard);
+                    reaches = reaches-one;
+                    within = f .node .room;
+                    falls = f .node .falls;
+                    whole = value-whole;
+                    room = omega (arith, value-end, value-size, few-hard, room-left);
+                    even = omega (arith, value-end, x .bounds .even);
+                  }
+
+              module _ {Y : List ℕ} {list m : ℕ} (d : Dropped X o (s .hard) (r .first) Y list m) where
+                reaches-two : Reaches Y list (r .second)
+                reaches-two = d .later P (x .hs) (chain-one (x .hs) (x .state .hard)) reaches-one (r .second) later-one
+
+                one-room : m ≤ o + 256
+                one-room = omega (arith, d .go P (x .hs) (chain-one (x .hs) (x .state .hard)) reaches-one .3 .few, few-hard)
+
+                one-kept : Kept X Y o
+                one-kept = record {
+                  same = d .kept;
+                  from = omega (arith, value-whole, value-end, value-size, room-left);
+                  to = omega (arith, d .whole, value-whole, value-end, value-size, room-left);
+                }
+
+                pub forced-drops-two : Drops Y m list (r .second)
+                forced-drops-two =
+                    let b = d .go P (x .hs) (chain-one (x .hs) (x .state .hard)) reaches-one in
+                    let f = first Hard P Y m list (b .1) (b .3 .chain) (reaches-some Y list (r .second) reaches-two) in
+                    record {
+                      pattern = P;
+                      goals = b .1;
+                      chain = b .3 .chain;
+                      reaches = reaches-two;
+                      within = f .node .room;
+                      falls = f .node .falls;
+                      whole = d .whole ∙ value-whole;
+                      room = omega (
+                        arith,
+                        one-room,
+                        value-end,
+                        value-size,
+                        few-goals P Y m list (b .1) (b .3 .chain),
+                        b .3 .weighs,
+                        weight-least P X o (r .first) (b .0) (b .2 .goal),
+                        x .state .room,
+                      );
+                      even = d .even;
+                    }
+
+                -- and the second, before the new goal
+                module _ {Z : List ℕ} {rest k : ℕ} (h : Dropped Y m list (r .second) Z rest k) where
+                  two-room : k ≤ m + 256
+                  two-room =
+                      let b = d .go P (x .hs) (chain-one (x .hs) (x .state .hard)) reaches-one in
+                      let c = h .go P (b .1) (b .3 .chain) reaches-two in
+                      omega (arith, c .3 .few, few-goals P Y m list (b .1) (b .3 .chain), b .3 .weighs, x .state .room)
+
+                  pub forced-room : k + 8 ≤ tableBytes
+                  forced-room = omega (arith, two-room, one-room, value-end, value-size, room-left)
+
+                  two-kept : Kept Y Z m
+                  two-kept = record {
+                    same = h .kept;
+                    from = omega (arith, d .whole, value-whole, h .higher, forced-room);
+                    to = omega (arith, h .whole, d .whole, value-whole, h .higher, forced-room);
+                  }
+
+                  pub forced-whole : length Z ≡ tableBytes
+                  forced-whole = h .whole ∙ d .whole ∙ value-whole
+
+                  module _ (none-easy : s .easy ≡ 0) {q : Item} (g : q ≡ matchItem (r .pairs .first) (s .top) (s .easy)) where
+                    pub forced-fits : Fits q
+                    forced-fits =
+                        rw g (record {
+                          part = omega (arith, y .repeated .first-ends .within, x .bounds .short);
+                          target = omega (arith, x .bounds .top);
+                          next = omega (arith, none-easy);
+                          argument = omega arith;
+                        })
+
+                    module _ {U : List ℕ} (b : U ≡ sets Z k (itemBytes q)) where
+                      goal-stored : U ≡ sets Z k (itemBytes (matchItem (r .pairs .first) (s .top) (s .easy)))
+                      goal-stored = b ∙ ap (λ (c : Item). sets Z k (itemBytes c)) g
+
+                      goal-kept : Kept Z U k
+                      goal-kept = kept-sets (itemBytes q) Z U k k b (omega arith) (omega (arith, forced-whole, forced-room))
+
+                      from-value : Kept X U o
+                      from-value = kept-then X Y U o m (d .higher) one-kept (kept-then Y Z U m k (h .higher) two-kept goal-kept)
+
+                      all-kept : Kept W U (s .top)
+                      all-kept = kept-then W X U (s .top) o (omega (arith, value-end)) value-kept from-value
+
+                      value-target : Target U (k + 8) 1 (s .top) value
+                      unfolding value
+                      value-target =
+                          let t = meant .first .target in
+                          record {
+                            part = part-kept X U o from-value (s .top) value (omega (arith, value-end)) value-part;
+                            below = omega (arith, value-end, d .higher, h .higher);
+                            normal = enclose-normal (pairsOf P (r .pairs)) (meant .t) (meant .u) (joint .body) (joint .is) (t .normal);
+                            ground = enclose-ground (pairsOf P (r .pairs)) (meant .t) (meant .u) (joint .body) (joint .is) (t .ground);
+                            few = omega arith;
+                            closed =
+                                closed-more (patternRecords - size (firstPart P (r .pairs) (y .repeated .number))) (patternRecords - 1)
+                                value (omega (arith, part-size))
+                                (enclose-closed (pairsOf P (r .pairs)) (meant .t) (meant .u) (joint .body) (joint .is) _ (t .closed));
+                            short = value-size;
+                          }
+
+                      goal-listable : Listable variables (OccursIn P) (match (var (y .repeated .number)) value)
+                      goal-listable = (
+                        suits-spine variables (OccursIn P) (var (y .repeated .number)) (firsts (pairsOf P (r .pairs)))
+                            (meant .first .suits .0),
+                        value-target .normal,
+                      )
+
+                      goal-chain : Chain Easy P U (k + 8) k (match (var (y .repeated .number)) value ∷ [])
+                      goal-chain =
+                          let f = y .repeated .variable in
+                          chain-match Easy P U (k + 8) k (matchItem (r .pairs .first) (s .top) (s .easy))
+                          (item-stored Z U k (matchItem (r .pairs .first) (s .top) (s .easy)) goal-stored
+                          (omega (arith, forced-whole, forced-room)) first-even (x .bounds .even) (x .bounds .easy-even) (omega arith))
+                          (omega (arith, x .bounds .start, value-end, d .higher, h .higher)) (omega arith) (h .even)
+                          (omega (arith, none-easy, x .bounds .start, value-end, d .higher, h .higher))
+                          (var (y .repeated .number)) value [] refl tt f value-target goal-listable none-easy
+
+                      pub decided-next : Decided 0 P W s a U (decision.Next (record { top = k + 8; easy = k; hard = rest }))
+                      unfolding Decided value
+                      decided-next = record {
+                        go = λ gs hs l st.
+                            let b₁ = d .go P hs (chain-one hs (st .hard)) reaches-one in
+                            let b₂ = h .go P (b₁ .1) (b₁ .3 .chain) reaches-two in
+                            let g₁ = goal-is P W X (s .top) o (r .first) _ (meant .t) (b₁ .0) (meant .first) value-kept (b₁ .2) in
+                            let g₂ = goal-is P W Y (s .top) m (r .second) _ (meant .u) (b₂ .0) (meant .second)
+                            (kept-then W X Y (s .top) o (omega (arith, value-end)) value-kept one-kept) (b₂ .2) in
+                            let none = no-easy P W (s .top) (s .easy) gs none-easy (st .easy) in
+                            record {
+                              gs = match (var (y .repeated .number)) value ∷ [];
+                              hs = b₂ .1;
+                              line = l;
+                              state = record {
+                                easy = goal-chain;
+                                hard = chain-kept Z U k goal-kept (k + 8) (omega arith) P Hard rest (b₂ .1) (b₂ .3 .chain);
+                                entries = holds-kept W U (s .top) all-kept (k + 8)
+                                    (omega (arith, value-end, d .higher, h .higher)) a l (st .entries);
+                                line = st .line;
+                                assigns = st .assigns;
+                                room = omega (
+                                  arith,
+                                  st .room,
+                                  two-room,
+                                  one-room,
+                                  value-end,
+                                  value-size,
+                                  b₁ .3 .weighs,
+                                  b₂ .3 .weighs,
+                                  weight-least P X o (r .first) (b₁ .0) (b₁ .2 .goal),
+                                  weight-least P Y m (r .second) (b₂ .0) (b₂ .2 .goal),
+                                );
+                              };
+                              same = λ φ v′.
+                                  let w₁ = b₁ .3 .same φ in
+                                  let w₂ = b₂ .3 .same φ in
+                                  let f =
+                                  goals-forced (pairsOf P (r .pairs)) (y .repeated .apart) (y .repeated .number) (meant .t) (meant .u) φ
+                                  (v′ (y .repeated .number) .1) (joint .body) [] (joint .is) (meant .first .target .normal) in (
+                                    λ c.
+                                        let c₁ = w₁ .0 (c .1) in
+                                        let c₂ = w₂ .0 (c₁ .1) in (
+                                          f .0 (
+                                            meets-is (b₁ .0) _ (meant .t) φ g₁ (c₁ .0),
+                                            (meets-is (b₂ .0) _ (meant .u) φ g₂ (c₂ .0), tt),
+                                          ),
+                                          c₂ .1,
+                                          c .2,
+                                        ),
+                                    λ c.
+                                        let c₁ = f .1 (c .0) in (
+                                          subst (λ (i : List Goal). All i φ) (sym none) tt,
+                                          w₁ .1 (
+                                            is-meets (b₁ .0) _ (meant .t) φ g₁ (c₁ .0),
+                                            w₂ .1 (is-meets (b₂ .0) _ (meant .u) φ g₂ (c₁ .1 .0), c .1),
+                                          ),
+                                          c .2,
+                                        ),
+                                  );
+                            };
+                        kept = all-kept .same;
+                        higher = omega (arith, value-end, d .higher, h .higher);
+                        falls = omega (arith, value-end, d .higher, h .higher, forced-room, none-easy);
+                        bounds = record {
+                          whole = length-stored (itemBytes q) Z U k b ∙ forced-whole;
+                          short = x .bounds .short;
+                          top = forced-room;
+                          start = omega arith;
+                          even = omega (arith, h .even);
+                          easy-room = omega arith;
+                          easy-even = h .even;
+                          hard-room = omega (arith, h .below);
+                          hard-even = h .list-even;
+                        };
+                      }

@@ -1,0 +1,2 @@
+pub mod Forcing
+pub mod Ordering

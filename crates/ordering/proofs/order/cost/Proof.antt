@@ -1,0 +1,67 @@
+-- `ordering::order::cost` is safe. The goal's part, its target and, of a goal to build, the argument's target are terms that stand where
+-- the goal says. Assumes nothing.
+use Rattle.ordering.proofs.Ordering.{weighs-part, weighs-entries, weighs-branches, weighs-locals, weighs-copies}
+use borrow.Author.Needs.{needs}
+use Rattle.ordering.proofs.order.cost.Statement.{statement}
+use Rattle.ordering.proofs.order.cost.Tie as tie
+
+item-at-requires : tie.Need-item-at-requires
+item-at-requires c κs = search needs
+
+end-at-requires : tie.Need-end-at-requires
+end-at-requires c κs = search (needs, weighs-part)
+
+sub-is-ground : tie.Need-sub-is-ground
+sub-is-ground c = search needs
+
+part-is-ground-start : tie.Need-part-is-ground-start
+part-is-ground-start c = search needs
+
+part-is-ground-end : tie.Need-part-is-ground-end
+part-is-ground-end c = search needs
+
+is-ground-requires : tie.Need-is-ground-requires
+is-ground-requires c κs = search (needs, weighs-entries)
+
+returns : tie.Need-returns
+returns c = search needs
+
+candidates-requires : tie.Need-candidates-requires
+candidates-requires c κs = search (needs, weighs-branches)
+
+returns-2 : tie.Need-returns-2
+returns-2 c = search needs
+
+lacks-local-requires : tie.Need-lacks-local-requires
+lacks-local-requires c κs = search (needs, weighs-locals)
+
+returns-3 : tie.Need-returns-3
+returns-3 c = search needs
+
+copies-requires : tie.Need-copies-requires
+copies-requires c κs = search (needs, weighs-copies)
+
+bodies-requires : tie.Need-bodies-requires
+bodies-requires c κs = search needs
+
+returns-4 : tie.Need-returns-4
+returns-4 c = search needs
+
+pub cost-spec : {M : Type 1} → statement M
+cost-spec =
+    tie.close
+    (tie.spec
+    item-at-requires
+    end-at-requires
+    sub-is-ground
+    part-is-ground-start
+    part-is-ground-end
+    is-ground-requires
+    returns
+    candidates-requires
+    returns-2
+    lacks-local-requires
+    returns-3
+    copies-requires
+    bodies-requires
+    returns-4)

@@ -1,0 +1,227 @@
+-- `ordering::repeated::force` meets its contract. The value that comes to both targets is the only one, so that one goal for it has the
+-- assignments of the two, whose room it takes. Assumes nothing.
+use native.Mathlib.Omega.{arith}
+use Rattle.ordering.proofs.Forcing.{ready-listed, found, decided-open, first-room, second-room, forced-joins, decided-failed}
+use Rattle.ordering.proofs.Forcing.{target-ends, target-within, forced-encloses, forced-drops, forced-drops-two, forced-room}
+use Rattle.ordering.proofs.Forcing.{forced-whole, forced-fits, decided-next}
+use borrow.Author.Needs.{needs}
+use Rattle.ordering.proofs.repeated.force.Statement.{statement}
+use Rattle.ordering.proofs.repeated.force.Tie as tie
+
+find-first-requires : tie.Need-find-first-requires
+find-first-requires c κs = search (needs, ready-listed)
+
+enum-known-search : tie.Need-enum-known-search
+enum-known-search c = search needs
+
+enum-told : tie.Need-enum-told
+enum-told c = search needs
+
+same-length : tie.Need-same-length
+same-length c = search needs
+
+returns : tie.Need-returns
+returns c = search (needs, decided-open)
+
+item-at-requires : tie.Need-item-at-requires
+item-at-requires c κs = search (needs, first-room, found)
+
+item-at-requires-2 : tie.Need-item-at-requires-2
+item-at-requires-2 c κs = search (needs, second-room, found)
+
+slice-aggregate-join-into : tie.Need-slice-aggregate-join-into
+slice-aggregate-join-into c = search needs
+
+join-into-requires : tie.Need-join-into-requires
+join-into-requires c κs = search (needs, forced-joins, found)
+
+enum-known-walk : tie.Need-enum-known-walk
+enum-known-walk c = search needs
+
+enum-told-2 : tie.Need-enum-told-2
+enum-told-2 c = search needs
+
+same-length-2 : tie.Need-same-length-2
+same-length-2 c = search needs
+
+returns-2 : tie.Need-returns-2
+returns-2 c =
+    let search-point : tie.After-search = search in
+    search (needs, decided-failed, found)
+
+sub-n : tie.Need-sub-n
+sub-n c =
+    let join-into : tie.After-join-into = search in
+    let item-at2 : tie.After-item-at2 = search in
+    let item-at : tie.After-item-at = search in
+    let search-point : tie.After-search = search in
+    let find-first : tie.After-find-first = search in
+    let start : tie.Start = search in
+    omega (
+      arith,
+      target-ends (start .pre .0) (found _ _ _ _ _ (search-point .search .given .1) (find-first .find-first .ensures))
+          (item-at .item-at .ensures .0) (item-at2 .item-at2 .ensures .0) (join-into .join-into .ensures) (c .before .walk .given .1),
+    )
+
+sub-enclose-into : tie.Need-sub-enclose-into
+sub-enclose-into c = search needs
+
+part-enclose-into-start : tie.Need-part-enclose-into-start
+part-enclose-into-start c = search needs
+
+part-enclose-into-end : tie.Need-part-enclose-into-end
+part-enclose-into-end c =
+    let walk : tie.After-walk = search in
+    let join-into : tie.After-join-into = search in
+    let item-at2 : tie.After-item-at2 = search in
+    let item-at : tie.After-item-at = search in
+    let search-point : tie.After-search = search in
+    let find-first : tie.After-find-first = search in
+    let start : tie.Start = search in
+    omega (
+      arith,
+      target-within (start .pre .0) (found _ _ _ _ _ (search-point .search .given .1) (find-first .find-first .ensures))
+          (item-at .item-at .ensures .0) (item-at2 .item-at2 .ensures .0) (join-into .join-into .ensures) (walk .walk .given .1),
+    )
+
+enclose-into-requires : tie.Need-enclose-into-requires
+enclose-into-requires c κs =
+    let walk : tie.After-walk = search in
+    let join-into : tie.After-join-into = search in
+    let item-at2 : tie.After-item-at2 = search in
+    let item-at : tie.After-item-at = search in
+    let search-point : tie.After-search = search in
+    let find-first : tie.After-find-first = search in
+    let start : tie.Start = search in
+    forced-encloses (start .pre .0) (found _ _ _ _ _ (search-point .search .given .1) (find-first .find-first .ensures))
+    (item-at .item-at .ensures .0) (item-at2 .item-at2 .ensures .0) (join-into .join-into .ensures) (walk .walk .given .1) (omega arith)
+
+without-requires : tie.Need-without-requires
+without-requires c κs =
+    let enclose-into : tie.After-enclose-into = search in
+    let walk : tie.After-walk = search in
+    let join-into : tie.After-join-into = search in
+    let item-at2 : tie.After-item-at2 = search in
+    let item-at : tie.After-item-at = search in
+    let search-point : tie.After-search = search in
+    let find-first : tie.After-find-first = search in
+    let start : tie.Start = search in
+    search (needs, forced-drops, found)
+
+without-requires-2 : tie.Need-without-requires-2
+without-requires-2 c κs =
+    let without : tie.After-without = search in
+    let enclose-into : tie.After-enclose-into = search in
+    let walk : tie.After-walk = search in
+    let join-into : tie.After-join-into = search in
+    let item-at2 : tie.After-item-at2 = search in
+    let item-at : tie.After-item-at = search in
+    let search-point : tie.After-search = search in
+    let find-first : tie.After-find-first = search in
+    let start : tie.Start = search in
+    search (needs, forced-drops-two, found)
+
+match-item-requires : tie.Need-match-item-requires
+match-item-requires c κs = search needs
+
+put-item-requires : tie.Need-put-item-requires
+put-item-requires c κs =
+    let without2 : tie.After-without2 = search in
+    let without : tie.After-without = search in
+    let enclose-into : tie.After-enclose-into = search in
+    let walk : tie.After-walk = search in
+    let join-into : tie.After-join-into = search in
+    let item-at2 : tie.After-item-at2 = search in
+    let item-at : tie.After-item-at = search in
+    let search-point : tie.After-search = search in
+    let find-first : tie.After-find-first = search in
+    let start : tie.Start = search in (
+      omega (
+        arith,
+        forced-room (start .pre .0) (found _ _ _ _ _ (search-point .search .given .1) (find-first .find-first .ensures))
+            (item-at .item-at .ensures .0) (item-at2 .item-at2 .ensures .0) (join-into .join-into .ensures)
+            (walk .walk .given .1) (omega arith)
+            (enclose-into .enclose-into .ensures) (without .without .ensures) (without2 .without2 .ensures),
+        forced-whole (start .pre .0)
+            (found _ _ _ _ _ (search-point .search .given .1) (find-first .find-first .ensures)) (item-at .item-at .ensures .0)
+            (item-at2 .item-at2 .ensures .0) (join-into .join-into .ensures) (walk .walk .given .1) (omega arith)
+            (enclose-into .enclose-into .ensures) (without .without .ensures) (without2 .without2 .ensures),
+      ),
+      forced-fits (start .pre .0) (found _ _ _ _ _ (search-point .search .given .1) (find-first .find-first .ensures))
+          (item-at .item-at .ensures .0) (item-at2 .item-at2 .ensures .0) (join-into .join-into .ensures)
+          (walk .walk .given .1) (omega arith)
+          (enclose-into .enclose-into .ensures) (without .without .ensures) (without2 .without2 .ensures) (start .pre .1)
+          (c .before .match-item .ensures),
+    )
+
+add-t32 : tie.Need-add-t32
+add-t32 c =
+    let without2 : tie.After-without2 = search in
+    let without : tie.After-without = search in
+    let enclose-into : tie.After-enclose-into = search in
+    let walk : tie.After-walk = search in
+    let join-into : tie.After-join-into = search in
+    let item-at2 : tie.After-item-at2 = search in
+    let item-at : tie.After-item-at = search in
+    let search-point : tie.After-search = search in
+    let find-first : tie.After-find-first = search in
+    let start : tie.Start = search in
+    omega (
+      arith,
+      forced-room (start .pre .0) (found _ _ _ _ _ (search-point .search .given .1) (find-first .find-first .ensures))
+          (item-at .item-at .ensures .0) (item-at2 .item-at2 .ensures .0) (join-into .join-into .ensures)
+          (walk .walk .given .1) (omega arith)
+          (enclose-into .enclose-into .ensures) (without .without .ensures) (without2 .without2 .ensures),
+    )
+
+same-length-3 : tie.Need-same-length-3
+same-length-3 c = search needs
+
+returns-3 : tie.Need-returns-3
+returns-3 c =
+    let put-item : tie.After-put-item = search in
+    let match-item : tie.After-match-item = search in
+    let without2 : tie.After-without2 = search in
+    let without : tie.After-without = search in
+    let enclose-into : tie.After-enclose-into = search in
+    let walk : tie.After-walk = search in
+    let join-into : tie.After-join-into = search in
+    let item-at2 : tie.After-item-at2 = search in
+    let item-at : tie.After-item-at = search in
+    let search-point : tie.After-search = search in
+    let find-first : tie.After-find-first = search in
+    let start : tie.Start = search in
+    decided-next (start .pre .0) (found _ _ _ _ _ (search-point .search .given .1) (find-first .find-first .ensures))
+    (item-at .item-at .ensures .0) (item-at2 .item-at2 .ensures .0) (join-into .join-into .ensures) (walk .walk .given .1) (omega arith)
+    (enclose-into .enclose-into .ensures) (without .without .ensures) (without2 .without2 .ensures) (start .pre .1)
+    (match-item .match-item .ensures) (put-item .put-item .ensures)
+
+pub force-spec : {M : Type 1} → statement M
+force-spec =
+    tie.close
+    (tie.spec
+    find-first-requires
+    enum-known-search
+    enum-told
+    same-length
+    returns
+    item-at-requires
+    item-at-requires-2
+    slice-aggregate-join-into
+    join-into-requires
+    enum-known-walk
+    enum-told-2
+    same-length-2
+    returns-2
+    sub-n
+    sub-enclose-into
+    part-enclose-into-start
+    part-enclose-into-end
+    enclose-into-requires
+    without-requires
+    without-requires-2
+    match-item-requires
+    put-item-requires
+    add-t32
+    same-length-3
+    returns-3)

@@ -1,0 +1,184 @@
+// Which of the goals put off is taken first. The one that is likely to branch least is brought to the front of their list; any order has
+// the same assignments, so that nothing depends on how well this is judged.
+
+use agenda::Agenda;
+use agenda::ITEM;
+use agenda::Item;
+use assignments::Entry;
+use records::RECORD;
+use records::VARIABLES;
+ghost use mathlib.Core.Path.{_≡_};
+ghost use Prim.Native.Nat.{_<_, _≤_};
+ghost use Rattle.records.specs.Parts.{Whole};
+ghost use Rattle.agenda.specs.State.{Ready};
+ghost use Rattle.ordering.specs.Forwarding.{Forwarded};
+ghost use Rattle.ordering.specs.Ordering.{Reaches, Branches, Weighs, Ranks, Drops, Dropped, linked as linkedTo};
+
+// What a body counts for: it leads on to a goal of its own, and so to more than one way of an application does.
+const BODY: usize = 4;
+
+// The cost of a goal to build whose argument has very many copies.
+const MOST_BODIES: usize = 16380;
+
+// The cost of the bodies that so many copies give, or `MOST_BODIES` if it is more: at each copy a body has its local or the copy, and its
+// local at one of them.
+fn bodies(copies: usize) -> usize {
+    let mut n = 0;
+    let mut i = 0;
+    while i < copies {
+        n = 2 * n + BODY;
+        if MOST_BODIES <= n {
+            return MOST_BODIES;
+        }
+        i += 1;
+    }
+    n
+}
+
+// 1 if the part of p at byte `argument` may sweep to the part of work at byte `at`, moved out of binders, and 0 if it can't.
+fn candidate(p: &[u8], argument: usize, work: &[u8], at: usize) -> usize
+    requires { ⌜ Whole (now p) argument × Whole (now work) at ⌝ }
+    ensures { λ r. ⌜ r ≤ 1 ⌝ }
+{
+    if agenda::heads::heads_agree(p, argument, work, at) {
+        return 1;
+    }
+    0
+}
+
+// In how many ways the application at byte `part` of p comes to the target, about: the two that need no target for its argument, and one
+// for each part of the target that the argument may sweep to. A flexible argument may sweep to any.
+fn candidates(p: &[u8], part: usize, work: &[u8], target: usize) -> usize
+    requires { ⌜ Branches (now p) part (now work) target ⌝ }
+{
+    let argument = records::end_at(p, part + RECORD);
+    let end = records::end_at(work, target);
+    let n = (end - target) / RECORD;
+    if !abstractions::is_rigid(p, argument) {
+        return 2 + n;
+    }
+    let mut count = 2;
+    let mut k = 0;
+    while k < n {
+        count += candidate(p, argument, work, target + RECORD * k);
+        k += 1;
+    }
+    count
+}
+
+// In how many ways the goal at byte `at` goes on, about. A goal without open variables is decided, and an application has its candidates. A
+// goal to build has its bodies: where the head lacks a local of the argument one is left.
+fn cost(p: &[u8], work: &[u8], at: usize, a: [Entry; VARIABLES]) -> usize
+    requires { ⌜ Weighs (now p) (now work) at ⌝ }
+{
+    let item = agenda::item_at(work, at);
+    let part = item.part;
+    let end = records::end_at(p, part);
+    if builds::ground::is_ground(&p[part..end], a) {
+        return 0;
+    }
+    if item.kind == Item::MATCH {
+        return candidates(p, part, work, item.target);
+    }
+    if agenda::locals::lacks_local(p, part, work, item.argument) {
+        return 1;
+    }
+    let copies = abstractions::copies(work, item.target, 0, item.argument);
+    bodies(copies.count)
+}
+
+// A goal of a list, and its cost.
+struct Choice {
+    goal: usize,
+    cost: usize,
+}
+
+// The first goal of least cost in a list that has one.
+fn cheapest(p: &[u8], work: &[u8], list: usize, a: [Entry; VARIABLES]) -> Choice
+    requires { ⌜ Ranks (now p) (now work) list ⌝ }
+    ensures { λ r. ⌜ Reaches (now (work .entry)) list (r .goal) ⌝ }
+{
+    let own = cost(p, work, list, a);
+    let item = agenda::item_at(work, list);
+    let next = item.next;
+    if next == 0 {
+        return Choice {
+            goal: list,
+            cost: own,
+        };
+    }
+    let best = cheapest(p, work, next, a);
+    if best.cost < own {
+        return best;
+    }
+    Choice {
+        goal: list,
+        cost: own,
+    }
+}
+
+// Where a list of goals begins, and the first free byte behind what was written.
+pub struct Rest {
+    pub list: usize,
+    pub top: usize,
+}
+
+// A goal with another one next.
+fn linked(item: Item, next: usize) -> Item
+    ensures { λ r. ⌜ r ≡ linkedTo item next ⌝ }
+{
+    Item {
+        part: item.part,
+        kind: item.kind,
+        target: item.target,
+        next,
+        argument: item.argument,
+    }
+}
+
+// A list of goals without the one at byte `goal`. Goals aren't changed where they stand:
+// those before it are written anew, from byte `top` on.
+pub fn without(work: &mut [u8], top: usize, list: usize, goal: usize) -> Rest
+    requires { ⌜ Drops (now work) top list goal ⌝ }
+    ensures { λ r. ⌜ Dropped (now (work .entry)) top list goal (now (work .exit)) (r .list) (r .top) ⌝ }
+{
+    let item = agenda::item_at(work, list);
+    if list == goal {
+        return Rest {
+            list: item.next,
+            top,
+        };
+    }
+    let rest = without(work, top, item.next, goal);
+    let at = rest.top;
+    agenda::put_item(work, at, linked(item, rest.list));
+    Rest {
+        list: at,
+        top: at + ITEM,
+    }
+}
+
+// Brings the cheapest of the goals put off to the front of their list. Where it is there already, as the only one is, nothing is written.
+pub fn bring_forward(p: &[u8], work: &mut [u8], s: Agenda, a: [Entry; VARIABLES]) -> Agenda
+    requires { ⌜ Ready 0 (now p) (now work) s a × (s .easy ≡ 0) × (0 < s .hard) ⌝ }
+    ensures { λ r. ⌜ Forwarded (now (p .entry)) (now (work .entry)) s a (now (work .exit)) r ⌝ }
+{
+    let first = agenda::item_at(work, s.hard);
+    if first.next == 0 {
+        return s;
+    }
+    let best = cheapest(p, work, s.hard, a);
+    let goal = best.goal;
+    if goal == s.hard {
+        return s;
+    }
+    let item = agenda::item_at(work, goal);
+    let rest = without(work, s.top, s.hard, goal);
+    let at = rest.top;
+    agenda::put_item(work, at, linked(item, rest.list));
+    Agenda {
+        top: at + ITEM,
+        easy: s.easy,
+        hard: at,
+    }
+}

@@ -1,0 +1,124 @@
+-- The operations' answers, from what their steps say. Each step's rows are the next ones of the operation's. Assumes nothing.
+use mathlib.Core.Path.{_≡_, refl, sym, subst}
+use mathlib.Core.List.{List, _++_, append-assoc}
+use mathlib.Core.Logic.{inl}
+use Prim.Native.Nat.{ℕ}
+use Rattle.terms.specs.Refusal.{Row, Refused, Passed, swept, output, unmatched}
+use Rattle.terms.proofs.Refusal.{refused-first, refused-later, passed-both}
+use Rattle.refusals.specs.declared.Verdict.{Verdict}
+use Rattle.refusals.specs.declared.Refusal.{Refusal}
+use Rattle.refusals.specs.Judged.{number, Judged}
+use Rattle.rewriting.specs.declared.Match.{Match}
+use Rattle.rewriting.specs.declared.CheckAnswer.{CheckAnswer}
+use Rattle.rewriting.specs.declared.SweepAnswer.{SweepAnswer}
+use Rattle.rewriting.specs.declared.RewriteAnswer.{RewriteAnswer}
+use Rattle.rewriting.specs.Operations.{lentForCheck, lentForSweep, lentForRewrite, Checked, Swept, Rewritten}
+use Rattle.rewriting.specs.Steps.{Matched, Put}
+
+-- what the tables decide
+module _ (rows : List Row) (W : Type 0) (v : Verdict) (x : Judged rows W v) where
+  refused-lent : (more : List Row) (c : Refusal) → v ≡ Verdict.Refused c → Refused (rows ++ more) (number c)
+  unfolding Judged
+  refused-lent more c e = refused-first rows more (number c) (subst (Judged rows W) e x)
+
+  passed-lent : v ≡ Verdict.Right → Passed rows
+  unfolding Judged
+  passed-lent e = subst (Judged rows W) e x .0
+
+module _ (p r l s w : List ℕ) (W : Type 0) (v : Verdict) (x : Judged (lentForCheck p r l s w) W v) where
+  pub checked-lent : (c : Refusal) → v ≡ Verdict.Refused c → Checked p r l s w (CheckAnswer.Refused c)
+  unfolding Checked
+  checked-lent c e = refused-lent (lentForCheck p r l s w) W v x (swept p l s) c e
+
+  module _ (e : v ≡ Verdict.Right) (m : Match) (y : Matched p l s r m) where
+    pub checked-yes : m ≡ Match.Yes → Checked p r l s w CheckAnswer.Yes
+    unfolding Checked Matched
+    checked-yes q =
+        let z = subst (Matched p l s r) q y in
+        (passed-both (lentForCheck p r l s w) (swept p l s) (passed-lent (lentForCheck p r l s w) W v x e) (z .0), z .1)
+
+    pub checked-no : m ≡ Match.No → Checked p r l s w CheckAnswer.No
+    unfolding Checked Matched
+    checked-no q =
+        let z = subst (Matched p l s r) q y in
+        (passed-both (lentForCheck p r l s w) (swept p l s) (passed-lent (lentForCheck p r l s w) W v x e) (z .0), z .1)
+
+    pub checked-long : m ≡ Match.TooLong → Checked p r l s w (CheckAnswer.Refused Refusal.SweptForm)
+    unfolding Checked Matched
+    checked-long q =
+        refused-later (lentForCheck p r l s w) (swept p l s) 12 (passed-lent (lentForCheck p r l s w) W v x e) (subst (Matched p l s r) q y)
+
+module _ (p l s o w : List ℕ) (W : Type 0) (v : Verdict) (x : Judged (lentForSweep p l s o w) W v) where
+  pub swept-lent : (c : Refusal) → v ≡ Verdict.Refused c → Swept p l s o w (SweepAnswer.Refused c) o
+  unfolding Swept
+  swept-lent c e = (refused-lent (lentForSweep p l s o w) W v x (swept p l s ++ output p l s o) c e, refl)
+
+  pub swept-put : v ≡ Verdict.Right → (a : SweepAnswer) (after : List ℕ) → Put p l s o a after → Swept p l s o w a after
+  unfolding Swept Put
+  swept-put e a after y = go a y
+    where
+      go : (a : SweepAnswer) → Put p l s o a after → Swept p l s o w a after
+      go (SweepAnswer.Records n) z =
+          (passed-both (lentForSweep p l s o w) (swept p l s ++ output p l s o) (passed-lent (lentForSweep p l s o w) W v x e) (z .0), z .1)
+      go (SweepAnswer.Refused c) z = (
+        refused-later (lentForSweep p l s o w) (swept p l s ++ output p l s o) (number c)
+            (passed-lent (lentForSweep p l s o w) W v x e) (z .0),
+        z .1,
+      )
+
+module _ (p q r l s o w : List ℕ) (W : Type 0) (v : Verdict) (x : Judged (lentForRewrite p q r l s o w) W v) where
+  abbrev lent : List Row
+  lent = lentForRewrite p q r l s o w
+
+  -- the rows behind the left side's swept forms
+  abbrev right : List Row
+  right = swept q l s ++ output q l s o
+
+  pub rewritten-lent : (c : Refusal) → v ≡ Verdict.Refused c → Rewritten p q r l s o w (RewriteAnswer.Refused c) o
+  unfolding Rewritten
+  rewritten-lent c e = (refused-lent lent W v x (swept p l s ++ (unmatched p l s r ++ right)) c e, refl)
+
+  module _ (e : v ≡ Verdict.Right) (m : Match) (y : Matched p l s r m) where
+    pub rewritten-long : m ≡ Match.TooLong → Rewritten p q r l s o w (RewriteAnswer.Refused Refusal.SweptForm) o
+    unfolding Rewritten Matched
+    rewritten-long z = (
+      refused-later lent (swept p l s ++ (unmatched p l s r ++ right)) 12 (passed-lent lent W v x e)
+          (refused-first (swept p l s) (unmatched p l s r ++ right) 12 (subst (Matched p l s r) z y)),
+      refl,
+    )
+
+    pub rewritten-no : m ≡ Match.No → Rewritten p q r l s o w (RewriteAnswer.Refused Refusal.NoMatch) o
+    unfolding Rewritten Matched
+    rewritten-no z =
+        let k = subst (Matched p l s r) z y in (
+          refused-later lent (swept p l s ++ (unmatched p l s r ++ right)) 14 (passed-lent lent W v x e)
+              (refused-later (swept p l s) (unmatched p l s r ++ right) 14 (k .0) (inl (k .1, refl))),
+          refl,
+        )
+
+    -- the left side matches, and the right side is written or refused
+    module _ (z : m ≡ Match.Yes) (a : SweepAnswer) (after : List ℕ) (u : Put q l s o a after) where
+      left-passed : Passed (lent ++ (swept p l s ++ unmatched p l s r))
+      unfolding Matched
+      left-passed =
+          let k = subst (Matched p l s r) z y in
+          passed-both lent (swept p l s ++ unmatched p l s r) (passed-lent lent W v x e)
+          (passed-both (swept p l s) (unmatched p l s r) (k .0) (λ n. n (k .1), tt))
+
+      regroup : lent ++ (swept p l s ++ (unmatched p l s r ++ right)) ≡ (lent ++ (swept p l s ++ unmatched p l s r)) ++ right
+      regroup = simp append-assoc
+
+      pub rewritten-records : (n : ℕ) → a ≡ SweepAnswer.Records n → Rewritten p q r l s o w (RewriteAnswer.Records n) after
+      unfolding Rewritten Put
+      rewritten-records n f =
+          let k = subst (λ (b : SweepAnswer). Put q l s o b after) f u in
+          (subst Passed (sym regroup) (passed-both (lent ++ (swept p l s ++ unmatched p l s r)) right left-passed (k .0)), k .1)
+
+      pub rewritten-refused : (c : Refusal) → a ≡ SweepAnswer.Refused c → Rewritten p q r l s o w (RewriteAnswer.Refused c) after
+      unfolding Rewritten Put
+      rewritten-refused c f =
+          let k = subst (λ (b : SweepAnswer). Put q l s o b after) f u in (
+            subst (λ (rows : List Row). Refused rows (number c)) (sym regroup)
+                (refused-later (lent ++ (swept p l s ++ unmatched p l s r)) right (number c) left-passed (k .0)),
+            k .1,
+          )

@@ -1,0 +1,228 @@
+// Operations on an assignment that is lent: check, sweep and rewrite.
+//
+// Each judges the tables it is lent, in document 01's order, and refuses with the number of the first cause that holds; else it fills a
+// pattern from a line and a value table, sweeps it, and compares or writes what comes of it. The crate promises each answer and the bytes
+// that are left, for every input there is, refusals included: then the output table is as it was, and the work area is all zero unless its
+// own length was wrong. It rests on `refusals` for the verdicts, and on `assignments` and `sweeping` for the swept form; it searches
+// nothing.
+
+use records::RECORD;
+use refusals::Refusal;
+use refusals::Verdict;
+use sweeping::Length;
+use sweeping::SWEPT_BYTES;
+ghost use mathlib.Core.Path.{_≡_};
+ghost use Rattle.records.specs.Checks.{Recipe};
+ghost use Rattle.refusals.specs.Judged.{Judged, Ready};
+ghost use Rattle.refusals.specs.Lent.{cleared};
+ghost use Rattle.rewriting.specs.Operations.{lentForCheck, lentForSweep, lentForRewrite, Checked, Swept, Rewritten};
+ghost use Rattle.rewriting.specs.Steps.{SweptSide, Matched, Put};
+
+pub enum CheckAnswer {
+    Yes,
+    No,
+    Refused(Refusal),
+}
+
+pub enum SweepAnswer {
+    Records(usize),
+    Refused(Refusal),
+}
+
+pub enum RewriteAnswer {
+    Records(usize),
+    Refused(Refusal),
+}
+
+// Whether a filled pattern sweeps to the recipe.
+enum Match {
+    Yes,
+    No,
+    TooLong,
+}
+
+// All that check is lent: 8; pattern 1, 2, 3; recipe 4 to 7; 11.
+fn judge_check(pattern: &[u8], recipe: &[u8], line: &[u8], values: &[u8], work: &[u8]) -> Verdict
+    ensures { λ r. ⌜ Judged
+        (lentForCheck (now (pattern .entry)) (now (recipe .entry)) (now (line .entry)) (now (values .entry)) (now (work .entry)))
+        (Ready (now (pattern .entry)) (now (line .entry)) (now (values .entry)) × Recipe (now (recipe .entry))) r ⌝ }
+{
+    let sides = refusals::first(
+        refusals::judge_pattern(pattern),
+        refusals::judge_recipe(recipe),
+    );
+    let lent = refusals::first(refusals::judge_tables(line, values, work), sides);
+    match lent {
+        Verdict::Refused(c) => return Verdict::Refused(c),
+        Verdict::Right => {}
+    }
+    refusals::judge_assignment(pattern, line, values)
+}
+
+// All that sweep is lent: 8; pattern 1, 2, 3; 11.
+fn judge_sweep(pattern: &[u8], line: &[u8], values: &[u8], out: &[u8], work: &[u8]) -> Verdict
+    ensures { λ r. ⌜ Judged
+        (lentForSweep (now (pattern .entry)) (now (line .entry)) (now (values .entry)) (now (out .entry)) (now (work .entry)))
+        (Ready (now (pattern .entry)) (now (line .entry)) (now (values .entry))) r ⌝ }
+{
+    let sides = refusals::first(
+        refusals::judge_table(out, RECORD),
+        refusals::judge_pattern(pattern),
+    );
+    let lent = refusals::first(refusals::judge_tables(line, values, work), sides);
+    match lent {
+        Verdict::Refused(c) => return Verdict::Refused(c),
+        Verdict::Right => {}
+    }
+    refusals::judge_assignment(pattern, line, values)
+}
+
+// All that rewrite is lent: 8; left 1, 2, 3; recipe 4 to 7; right 1, 2, 3; 11 over both sides.
+fn judge_rewrite(
+    left: &[u8],
+    right: &[u8],
+    recipe: &[u8],
+    line: &[u8],
+    values: &[u8],
+    out: &[u8],
+    work: &[u8],
+) -> Verdict
+    ensures { λ r. ⌜ Judged (lentForRewrite (now (left .entry)) (now (right .entry)) (now (recipe .entry)) (now (line .entry))
+        (now (values .entry)) (now (out .entry)) (now (work .entry)))
+        ((Ready (now (left .entry)) (now (line .entry)) (now (values .entry))
+        × Ready (now (right .entry)) (now (line .entry)) (now (values .entry))) × Recipe (now (recipe .entry))) r ⌝ }
+{
+    let whole = refusals::judge_recipe(recipe);
+    let other = refusals::judge_pattern(right);
+    let sides = refusals::first(whole, other);
+    let terms = refusals::first(refusals::judge_pattern(left), sides);
+    let tables = refusals::first(refusals::judge_table(out, RECORD), terms);
+    let lent = refusals::first(refusals::judge_tables(line, values, work), tables);
+    match lent {
+        Verdict::Refused(c) => return Verdict::Refused(c),
+        Verdict::Right => {}
+    }
+    refusals::judge_sides(left, right, line, values)
+}
+
+// Sweeps the pattern p, filled from a line and a value table.
+fn sweep_side(p: &[u8], line: &[u8], values: &[u8], out: &mut [u8; SWEPT_BYTES]) -> Length
+    requires { ⌜ Ready (now p) (now line) (now values) ⌝ }
+    ensures { λ r. ⌜ SweptSide (now (p .entry)) (now (line .entry)) (now (values .entry)) (now (out .entry)) r (now (out .exit)) ⌝ }
+{
+    let a = assignments::entries_of(line);
+    sweeping::sweep(p, values, a, out)
+}
+
+// Whether the filled pattern p sweeps to the recipe.
+fn match_recipe(p: &[u8], line: &[u8], values: &[u8], recipe: &[u8]) -> Match
+    requires { ⌜ Ready (now p) (now line) (now values) × Recipe (now recipe) ⌝ }
+    ensures { λ r. ⌜ Matched (now (p .entry)) (now (line .entry)) (now (values .entry)) (now (recipe .entry)) r ⌝ }
+{
+    let mut swept = [0u8; SWEPT_BYTES];
+    let length = sweep_side(p, line, values, &mut swept);
+    let Length::Records(n) = length else {
+        return Match::TooLong;
+    };
+    if copying::same_bytes(&swept[0..n * RECORD], recipe) {
+        return Match::Yes;
+    }
+    Match::No
+}
+
+// Writes the swept form of the filled pattern p, if it has room.
+fn put_swept(p: &[u8], line: &[u8], values: &[u8], out: &mut [u8]) -> SweepAnswer
+    requires { ⌜ Ready (now p) (now line) (now values) ⌝ }
+    ensures { λ r. ⌜ Put (now (p .entry)) (now (line .entry)) (now (values .entry)) (now (out .entry)) r (now (out .exit)) ⌝ }
+{
+    let mut swept = [0u8; SWEPT_BYTES];
+    let length = sweep_side(p, line, values, &mut swept);
+    let Length::Records(n) = length else {
+        return SweepAnswer::Refused(Refusal::SweptForm);
+    };
+    if out.len() < n * RECORD {
+        return SweepAnswer::Refused(Refusal::Output);
+    }
+    copying::copy_into(&swept[0..n * RECORD], out, 0);
+    SweepAnswer::Records(n)
+}
+
+// Whether the assignment in a line and a value table is a match of a pattern and a recipe.
+pub fn check(
+    pattern: &[u8],
+    recipe: &[u8],
+    line: &[u8],
+    values: &[u8],
+    work: &mut [u8],
+) -> CheckAnswer
+    ensures answer { λ r. ⌜ Checked (now (pattern .entry)) (now (recipe .entry)) (now (line .entry)) (now (values .entry))
+        (now (work .entry)) r ⌝ }
+    ensures area { λ _. ⌜ now (work .exit) ≡ cleared (now (work .entry)) ⌝ }
+{
+    let verdict = judge_check(pattern, recipe, line, values, work);
+    refusals::clear(work);
+    match verdict {
+        Verdict::Refused(c) => return CheckAnswer::Refused(c),
+        Verdict::Right => {}
+    }
+    let found = match_recipe(pattern, line, values, recipe);
+    match found {
+        Match::Yes => CheckAnswer::Yes,
+        Match::No => CheckAnswer::No,
+        Match::TooLong => CheckAnswer::Refused(Refusal::SweptForm),
+    }
+}
+
+// Writes the swept form of a filled pattern.
+pub fn sweep(
+    pattern: &[u8],
+    line: &[u8],
+    values: &[u8],
+    out: &mut [u8],
+    work: &mut [u8],
+) -> SweepAnswer
+    ensures answer { λ r. ⌜ Swept (now (pattern .entry)) (now (line .entry)) (now (values .entry)) (now (out .entry)) (now (work .entry)) r
+        (now (out .exit)) ⌝ }
+    ensures area { λ _. ⌜ now (work .exit) ≡ cleared (now (work .entry)) ⌝ }
+{
+    let verdict = judge_sweep(pattern, line, values, out, work);
+    refusals::clear(work);
+    match verdict {
+        Verdict::Refused(c) => return SweepAnswer::Refused(c),
+        Verdict::Right => {}
+    }
+    put_swept(pattern, line, values, out)
+}
+
+// Writes the swept form of a filled right side, if the assignment is a match of the left side and the recipe.
+pub fn rewrite(
+    left: &[u8],
+    right: &[u8],
+    recipe: &[u8],
+    line: &[u8],
+    values: &[u8],
+    out: &mut [u8],
+    work: &mut [u8],
+) -> RewriteAnswer
+    ensures answer { λ r. ⌜ Rewritten (now (left .entry)) (now (right .entry)) (now (recipe .entry)) (now (line .entry))
+        (now (values .entry)) (now (out .entry)) (now (work .entry)) r (now (out .exit)) ⌝ }
+    ensures area { λ _. ⌜ now (work .exit) ≡ cleared (now (work .entry)) ⌝ }
+{
+    let verdict = judge_rewrite(left, right, recipe, line, values, out, work);
+    refusals::clear(work);
+    match verdict {
+        Verdict::Refused(c) => return RewriteAnswer::Refused(c),
+        Verdict::Right => {}
+    }
+    let found = match_recipe(left, line, values, recipe);
+    match found {
+        Match::No => return RewriteAnswer::Refused(Refusal::NoMatch),
+        Match::TooLong => return RewriteAnswer::Refused(Refusal::SweptForm),
+        Match::Yes => {}
+    }
+    let put = put_swept(right, line, values, out);
+    match put {
+        SweepAnswer::Refused(c) => RewriteAnswer::Refused(c),
+        SweepAnswer::Records(m) => RewriteAnswer::Records(m),
+    }
+}

@@ -1,0 +1,415 @@
+-- The step of an easy goal whose part is an abstraction or an application. The goal goes on with the part's own parts, whose targets are
+-- the target's, or it is put off as it is; no assignment brings in a local that the part lacks. Assumes nothing.
+use mathlib.Core.Path.{_≡_, refl, sym, ap, ap₂, _∙_, subst, subst₂}
+use mathlib.Core.Bool.{Bool, true}
+use mathlib.Core.Logic.{inl, inr, _↔_}
+use mathlib.Core.List.{List, [], _∷_}
+use Prim.Native.Nat.{ℕ, suc, _+_, _-_, _*_, _%_, _≤_}
+use native.Mathlib.Omega.{arith}
+use lib.ListN.{length, getD, take, drop, length-take}
+use lib.Seq.{sets}
+use Rattle.terms.specs.Figures.{variables, patternRecords, tableBytes}
+use Rattle.terms.specs.Term.{Term, app, lam, loc, con, var, size, shift, Normal, Ground, Closed}
+use Rattle.terms.specs.Table.{bytes, encode}
+use Rattle.terms.specs.Sweep.{sweep, fill}
+use Rattle.terms.specs.Refusal.{OccursIn}
+use Rattle.terms.proofs.Table.{kind, encode-length}
+use Rattle.terms.proofs.Shift.{size-shift}
+use Rattle.terms.proofs.Locals.{rigid}
+use Rattle.matching.proofs.Step.{bodyTarget, match-abstraction, bodyTarget-normal}
+use Rattle.matching.proofs.Targets.{closed-more, bodyTarget-closed, bodyTarget-ground, closed-shift}
+use Rattle.matching.proofs.Prune.{rigid-application, no-local}
+use Rattle.matching.proofs.Lister.{Sweeps}
+use Rattle.matching.proofs.Goals.{Goal, Goal.match, All, Listable}
+use Rattle.records.specs.Parts.{Part, Whole, Ends}
+use Rattle.records.proofs.Parts.{kind-at, application, abstraction, argument-part, whole-head}
+use Rattle.assignments.specs.declared.Entry.{Entry}
+use Rattle.sweeping.specs.Writers.{Source, Wrote}
+use Rattle.sweeping.proofs.Contraction.{closed-fits}
+use Rattle.sweeping.proofs.Writers.{source}
+use Rattle.copying.proofs.Stores.{written-then, stored}
+use Rattle.agenda.specs.declared.Agenda.{Agenda}
+use Rattle.agenda.specs.declared.Item.{Item}
+use Rattle.agenda.specs.declared.Step.the-variants as step
+use Rattle.agenda.specs.Items.{itemBytes}
+use Rattle.agenda.specs.State.{targetBytes, Target, Easy, Hard, Bounds}
+use Rattle.steps.specs.Steps.{Stepped}
+use Rattle.agenda.specs.Locals.{Locals, Lacks}
+use Rattle.steps.specs.Opening.{Opens, Applies, Applied}
+use Rattle.agenda.proofs.Frame.{Kept, target-kept, chain-kept, holds-kept, part-stored, kept-sets, kept-then, length-stored}
+use Rattle.steps.proofs.Opening.{Opened, opened, pushed, Pushed, dead, replaced}
+
+-- what stands in a state that is known to be there
+module _ (P W : List ℕ) (s : Agenda) (a : List Entry) (r : Item) (x : Opens P W s a r) where
+  pub known : Opened P W s r (x .ready .gs) (x .ready .hs)
+  known = opened P W s a r (x .some) (x .item) (x .ready .gs) (x .ready .hs) (x .ready .line) (x .ready .state)
+
+  pub head-whole : getD P (r .part) 0 ≡ 0 → Whole P (r .part + 4)
+  head-whole k = whole-head P (r .part) (x .part) k
+
+  pub target-head-whole : getD W (r .target) 0 ≡ 0 → Whole W (r .target + 4)
+  target-head-whole k = whole-head W (r .target) (x .target) k
+
+  pub applies : Applies W (r .target) (s .top)
+  applies =
+      let o = known in
+      let b = x .ready .bounds in
+      record {
+        tree = o .t;
+        part = o .target .part;
+        closed = closed-more (patternRecords - size (o .p)) patternRecords (o .t) (omega arith) (o .target .closed);
+        short = omega (arith, o .target .short);
+        least = x .target .least;
+        room = omega (arith, x .room, b .whole);
+      }
+
+  pub locals : Locals P (r .part) W (r .target)
+  locals =
+      let o = known in
+      record {
+        part = x .part;
+        short = x .ready .bounds .short;
+        target = record {
+          tree = o .t;
+          part = o .target .part;
+          closed = closed-more (patternRecords - size (o .p)) (0 + patternRecords) (o .t) (omega arith) (o .target .closed);
+          shallow = omega (arith, o .target .short);
+          least = x .target .least;
+        };
+      }
+
+-- `@ t #0` is written: the shifted target first into an array of its own
+module _ (W : List ℕ) (at o : ℕ) (x : Applies W at o) where
+  pub apply-source : (room : ℕ) → room ≡ targetBytes → Source (shift 1) W at 0 room 0
+  apply-source room e =
+      let n = size-shift 1 0 (x .tree) in
+      source (shift 1) W at 0 room 0 (x .tree) (x .part)
+      (closed-fits (suc patternRecords) (shift 1 0 (x .tree))
+      (closed-shift 1 0 patternRecords (suc patternRecords) (x .tree) (omega arith) (x .closed)) (omega (arith, x .short)))
+      (omega (arith, x .short)) (omega (arith, x .short))
+
+  module _ (Z Y : List ℕ) (next n : ℕ) (w : Wrote (shift 1) W at 0 Z 0 Y next n) where
+    pub apply-length : n ≡ 4 * size (x .tree)
+    apply-length = omega (arith, w .exact (x .tree) (x .part), size-shift 1 0 (x .tree))
+
+    pub apply-most : n ≤ targetBytes
+    apply-most = omega (arith, apply-length, x .short)
+
+    pub copy-room : (U : List ℕ) → U ≡ sets W o (bytes 0 0 []) → o + 4 + length (take (n - 0) (drop 0 Y)) ≤ length U
+    copy-room U e = omega (arith, length-take (n - 0) (drop 0 Y), length-stored (bytes 0 0 []) W U o e, apply-most, x .room)
+
+    pub local-room : (U X : List ℕ) → U ≡ sets W o (bytes 0 0 []) → X ≡ sets U (o + 4) (take (n - 0) (drop 0 Y)) → o + 4 + n + 4 ≤ length X
+    local-room U X e f =
+        omega (arith, length-stored (bytes 0 0 []) W U o e, length-stored (take (n - 0) (drop 0 Y)) U X (o + 4) f, apply-most, x .room)
+
+    pub applied :
+        (U X R : List ℕ) (m : ℕ) → length Z ≡ targetBytes → U ≡ sets W o (bytes 0 0 []) → X ≡ sets U (o + 4) (take (n - 0) (drop 0 Y))
+        → R ≡ sets X m (bytes 2 0 [])
+        → m ≡ o + 4 + n → Applied W at o R (m + 4)
+    applied U X R m z e f g h = record {
+      exact = λ t y. omega (arith, w .exact t y);
+      bytes = λ t y.
+          let c : take (n - 0) (drop 0 Y) ≡ encode (shift 1 0 t) =
+          stored Z Y (encode (shift 1 0 t)) n (w .bytes t y) (omega (arith, w .exact t y, encode-length (shift 1 0 t)))
+          (omega (arith, apply-most)) in
+          let d : X ≡ sets W o (bytes 0 0 (encode (shift 1 0 t))) =
+          written-then (bytes 0 0 []) (encode (shift 1 0 t)) W U X o (o + 4) e (f ∙ ap (sets U (o + 4)) c) refl in
+          written-then (bytes 0 0 (encode (shift 1 0 t))) (bytes 2 0 []) W X R o m d g
+          (omega (arith, w .exact t y, encode-length (shift 1 0 t)));
+      more = omega arith;
+      most = omega (arith, apply-most);
+    }
+
+-- an abstraction
+other-target : (t : Term) → ¬ (kind t ≡ 1) → bodyTarget t ≡ app (shift 1 0 t) (loc 0)
+other-target (app f a) n = refl
+other-target (lam b) n = absurd (n refl)
+other-target (loc i) n = refl
+other-target (con i) n = refl
+other-target (var i) n = refl
+
+module _ (P W : List ℕ) (s : Agenda) (a : List Entry) (r : Item) (x : Opens P W s a r) (k : getD P (r .part) 0 ≡ 1) where
+  -- the body's goal, whose target u stands at byte `i` of Y
+  body-goal :
+      (Y : List ℕ) (at i : ℕ) (gs hs : List Goal) (o : Opened P W s r gs hs) (u : Term) → bodyTarget (o .t) ≡ u → Part Y i u
+      → i + 4 * size u ≤ at → size u ≤ size (o .t) + 2
+      → Pushed P Y at (record { part = r .part + 4; kind = 0; target = i; next = r .next; argument = 0 }) (o .p) (o .t)
+  body-goal Y at i gs hs o u e y below short =
+      let v = abstraction P (r .part) (o .p) (o .part) k in
+      let n = ap size (v .is) in
+      let g = o .target in
+      let suits : Listable variables (OccursIn P) (match (lam (v .b)) (o .t)) =
+      subst (λ (p : Term). Listable variables (OccursIn P) (match p (o .t))) (v .is) (o .suits) in
+      let few = g .few in
+      let normal = subst Normal e (bodyTarget-normal (o .t) (g .normal)) in
+      record {
+        q = v .b;
+        u = u;
+        part = v .body;
+        target = record {
+          part = y;
+          below = below;
+          normal = normal;
+          ground = subst Ground e (bodyTarget-ground (o .t) (g .ground));
+          few = omega arith;
+          closed = subst₂ Closed (omega arith) e (bodyTarget-closed (patternRecords - size (o .p)) (o .t) (g .closed));
+          short = omega (arith, g .short);
+        };
+        suits = (suits .0, normal);
+        fewer = omega arith;
+        same = λ φ w. subst₂ (λ (p z : Term). Sweeps p (o .t) φ ↔ Sweeps (v .b) z φ) (sym (v .is)) e
+            (match-abstraction φ (v .b) (o .t) (g .normal));
+      }
+
+  pub body-pushed :
+      (X : List ℕ) → getD W (r .target) 0 ≡ 1
+      → X ≡ sets W (s .top) (itemBytes (record { part = r .part + 4; kind = 0; target = r .target + 4; next = r .next; argument = 0 }))
+      → Stepped P W s a X (step.Left (record { top = s .top + 8; easy = s .top; hard = s .hard }))
+  body-pushed X t e =
+      let b = x .ready .bounds in
+      replaced P W s a r x W X (s .top) (record { part = r .part + 4; kind = 0; target = r .target + 4; next = r .next; argument = 0 })
+      (record { same = refl; from = omega (arith, b .top, b .whole); to = omega (arith, b .top, b .whole) }) (b .whole) e (omega arith)
+      (omega arith) (b .even)
+      refl refl (omega (arith, x .part-even)) (omega (arith, x .target-even)) refl
+      (λ gs hs l y o.
+      let z = abstraction W (r .target) (o .t) (o .target .part) t in
+      let n = ap size (z .is) in
+      body-goal W (s .top) (r .target + 4) gs hs o (z .b) (ap bodyTarget (z .is)) (z .body) (omega (arith, o .target .below)) (omega arith))
+
+  pub applied-pushed :
+      (Y X : List ℕ) (end : ℕ) → ¬ (getD W (r .target) 0 ≡ 1) → Applied W (r .target) (s .top) Y end
+      → X ≡ sets Y end (itemBytes (record { part = r .part + 4; kind = 0; target = s .top; next = r .next; argument = 0 }))
+      → Stepped P W s a X (step.Left (record { top = end + 8; easy = end; hard = s .hard }))
+  applied-pushed Y X end t d e =
+      let b = x .ready .bounds in
+      let o = known P W s a r x in
+      let h = d .bytes (o .t) (o .target .part) in
+      let whole = b .whole in
+      let top = b .top in
+      let even = b .even in
+      replaced P W s a r x Y X end (record { part = r .part + 4; kind = 0; target = s .top; next = r .next; argument = 0 })
+      (kept-sets (encode (app (shift 1 0 (o .t)) (loc 0))) W Y (s .top) (s .top) h (omega arith) (omega arith))
+      (length-stored (encode (app (shift 1 0 (o .t)) (loc 0))) W Y (s .top) h ∙ whole) e (d .more) (omega (arith, d .most))
+      (omega (arith, d .exact (o .t) (o .target .part))) refl refl (omega (arith, x .part-even)) even refl
+      (λ gs hs l y o.
+      let n = d .exact (o .t) (o .target .part) in
+      let z = d .bytes (o .t) (o .target .part) in
+      body-goal Y end (s .top) gs hs o (app (shift 1 0 (o .t)) (loc 0))
+      (other-target (o .t) (λ q. t (kind-at W (r .target) (o .t) (o .target .part) ∙ q)))
+      (subst (λ (i : List ℕ). Part i (s .top) (app (shift 1 0 (o .t)) (loc 0))) (sym z)
+      (part-stored (app (shift 1 0 (o .t)) (loc 0)) W (s .top) (omega (arith, d .most, x .room))))
+      (omega (arith, n)) (omega (arith, size-shift 1 0 (o .t))))
+
+-- an application
+module _ (P W : List ℕ) (s : Agenda) (a : List Entry) (r : Item) (x : Opens P W s a r) (k : getD P (r .part) 0 ≡ 0) where
+  -- with a rigid head
+  module _ (rigid-head : (t : Term) → Part P (r .part) t → rigid t ≡ true) where
+    parts-of : (gs hs : List Goal) (o : Opened P W s r gs hs) (f b : Term) → o .p ≡ app f b → (φ : ℕ → Term)
+        → Sweeps (o .p) (o .t) φ ↔ (o .t ≡ app (sweep (fill φ f)) (sweep (fill φ b)))
+    parts-of gs hs o f b e φ =
+        let h : rigid (app f b) ≡ true = subst (λ (p : Term). rigid p ≡ true) e (rigid-head (o .p) (o .part)) in
+        subst (λ (p : Term). Sweeps p (o .t) φ ↔ (o .t ≡ app (sweep (fill φ f)) (sweep (fill φ b)))) (sym e)
+        (rigid-application φ f b (o .t) (o .target .normal) h)
+
+    pub rigid-missed : ¬ (getD W (r .target) 0 ≡ 0) → Stepped P W s a W step.Failed
+    rigid-missed n =
+        dead P W s a r x (λ gs hs l y o φ v g z.
+        let u = application P (r .part) (o .p) (o .part) k in
+        n (kind-at W (r .target) (o .t) (o .target .part) ∙ ap kind (parts-of gs hs o (u .f) (u .a) (u .is) φ .0 z)))
+
+    module _ (h i : ℕ) (t : getD W (r .target) 0 ≡ 0) (d : Ends P (r .part + 4) h) (c : Ends W (r .target + 4) i) where
+      abbrev first : Item
+      first = record { part = h; kind = 0; target = i; next = r .next; argument = 0 }
+
+      abbrev second : Item
+      second = record { part = r .part + 4; kind = 0; target = r .target + 4; next = s .top; argument = 0 }
+
+      pub parts-pushed :
+          (Y X : List ℕ) → Y ≡ sets W (s .top) (itemBytes (record { part = h; kind = 0; target = i; next = r .next; argument = 0 }))
+          → X
+          ≡ sets Y (s .top + 8) (itemBytes (record { part = r .part + 4; kind = 0; target = r .target + 4; next = s .top; argument = 0 }))
+          → Stepped P W s a X (step.Left (record { top = s .top + 8 + 8; easy = s .top + 8; hard = s .hard }))
+      unfolding Stepped
+      parts-pushed Y X e f = record {
+        go = λ gs hs l y.
+            let o = opened P W s a r (x .some) (x .item) gs hs l y in
+            let u = application P (r .part) (o .p) (o .part) k in
+            let w = application W (r .target) (o .t) (o .target .part) t in
+            let n = ap size (u .is) in
+            let m = ap size (w .is) in
+            let g = o .target in
+            let below = g .below in
+            let few = g .few in
+            let short = g .short in
+            let normal : Normal (app (w .f) (w .a)) = subst Normal (w .is) (g .normal) in
+            let ground : Ground (app (w .f) (w .a)) = subst Ground (w .is) (g .ground) in
+            let closed : Closed (patternRecords - size (o .p)) (app (w .f) (w .a)) =
+            subst (Closed (patternRecords - size (o .p))) (w .is) (g .closed) in
+            let suits : Listable variables (OccursIn P) (match (app (u .f) (u .a)) (o .t)) =
+            subst (λ (p : Term). Listable variables (OccursIn P) (match p (o .t))) (u .is) (o .suits) in
+            let head : Target W (s .top) (size (u .f)) (r .target + 4) (w .f) = record {
+              part = w .head;
+              below = omega arith;
+              normal = normal .1;
+              ground = ground .0;
+              few = omega arith;
+              closed = closed-more (patternRecords - size (o .p)) (patternRecords - size (u .f)) (w .f) (omega arith) (closed .0);
+              short = omega arith;
+            } in
+            let argument : Target W (s .top) (size (u .a)) i (w .a) = record {
+              part = argument-part W (r .target) i (o .t) c w;
+              below = omega (arith, c .exact (w .f) (w .head));
+              normal = normal .2;
+              ground = ground .1;
+              few = omega arith;
+              closed = closed-more (patternRecords - size (o .p)) (patternRecords - size (u .a)) (w .a) (omega arith) (closed .1);
+              short = omega arith;
+            } in
+            let chain =
+            pushed Easy P W Y (s .top) first e (omega arith) (omega arith) even refl (omega arith) part-even target-even next-even refl
+            (u .a) (w .a) (o .rest) tt
+            (argument-part P (r .part) h (o .p) d u) argument ((suits .0 .0 .1, λ j q. suits .0 .1 j (inr q)), normal .2) (o .chain) in
+            record {
+              gs = match (u .f) (w .f) ∷ match (u .a) (w .a) ∷ o .rest;
+              hs = hs;
+              line = l;
+              state = record {
+                easy =
+                    pushed Easy P Y X (s .top + 8) second f (omega arith) (omega (arith, written)) (omega (arith, even)) refl (omega arith)
+                    (omega arith) (omega arith) even refl (u .f) (w .f)
+                    (match (u .a) (w .a) ∷ o .rest) tt (u .head)
+                    (target-kept W Y (s .top) from (s .top + 8) (omega arith) (size (u .f)) (r .target + 4) (w .f) head)
+                    ((suits .0 .0 .0, λ j q. suits .0 .1 j (inl q)), normal .1) chain;
+                hard = chain-kept W X (s .top) all (s .top + 8 + 8) (omega arith) P Hard (s .hard) hs (y .hard);
+                entries = holds-kept W X (s .top) all (s .top + 8 + 8) (omega arith) a l (y .entries);
+                line = y .line;
+                assigns = y .assigns;
+                room = omega (arith, o .room);
+              };
+              same = λ φ v.
+                  let q = parts-of gs hs o (u .f) (u .a) (u .is) φ in (
+                    λ z.
+                        let j : All (match (o .p) (o .t) ∷ o .rest) φ = subst (λ (p : List Goal). All p φ) (o .is) (z .0) in
+                        let b : app (w .f) (w .a) ≡ app (sweep (fill φ (u .f))) (sweep (fill φ (u .a))) = sym (w .is) ∙ q .0 (j .0) in
+                        let b1 : sweep (fill φ (u .f)) ≡ w .f = cc in
+                        let b2 : sweep (fill φ (u .a)) ≡ w .a = cc in
+                        ((b1, (b2, j .1)), z .1, z .2),
+                    λ z. (
+                      subst (λ (p : List Goal). All p φ) (sym (o .is)) (q .1 (w .is ∙ sym (ap₂ app (z .0 .0) (z .0 .1 .0))), z .0 .1 .1),
+                      z .1,
+                      z .2,
+                    ),
+                  );
+            };
+        kept = all .same;
+        higher = omega arith;
+        falls = omega arith;
+        bounds = record {
+          whole = length-stored (itemBytes second) Y X (s .top + 8) f ∙ written;
+          short = x .ready .bounds .short;
+          top = omega arith;
+          start = omega arith;
+          even = omega arith;
+          easy-room = omega arith;
+          easy-even = omega arith;
+          hard-room = omega (arith, x .ready .bounds .hard-room);
+          hard-even = x .ready .bounds .hard-even;
+        };
+      }
+        where
+          whole : length W ≡ tableBytes
+          whole = x .ready .bounds .whole
+
+          written : length Y ≡ tableBytes
+          written = length-stored (itemBytes first) W Y (s .top) e ∙ whole
+
+          even : s .top % 4 ≡ 0
+          even = x .ready .bounds .even
+
+          part-even : h % 4 ≡ 0
+          part-even =
+              let o = known P W s a r x in
+              let u = application P (r .part) (o .p) (o .part) k in
+              omega (arith, d .exact (u .f) (u .head), x .part-even)
+
+          target-even : i % 4 ≡ 0
+          target-even =
+              let o = known P W s a r x in
+              let u = application W (r .target) (o .t) (o .target .part) t in
+              omega (arith, c .exact (u .f) (u .head), x .target-even)
+
+          next-even : r .next % 4 ≡ 0
+          next-even = x .next-even
+
+          from : Kept W Y (s .top)
+          from = kept-sets (itemBytes first) W Y (s .top) (s .top) e (omega arith) (omega (arith, x .room, whole))
+
+          all : Kept W X (s .top)
+          all = kept-then W Y X (s .top) (s .top + 8) (omega arith) from
+              (kept-sets (itemBytes second) Y X (s .top + 8) (s .top + 8) f (omega arith) (omega (arith, x .room, written)))
+
+  -- the target has a local that it lacks
+  pub flexible-missed : (b : Bool) → b ≡ true → Lacks P (r .part) W (r .target) b → Stepped P W s a W step.Failed
+  unfolding Lacks
+  flexible-missed b e h =
+      let j : Lacks P (r .part) W (r .target) true = subst (Lacks P (r .part) W (r .target)) e h in
+      dead P W s a r x (λ gs hs l y o φ v g z.
+      let q = j .1 (o .p) (o .t) (o .part) (o .target .part) in
+      no-local φ v (o .p) (o .t) (j .0) (q .0) (q .1) z)
+
+  -- it is put off
+  pub put-off :
+      (X : List ℕ) → X ≡ sets W (s .top) (itemBytes (record { part = r .part; kind = 0; target = r .target; next = s .hard; argument = 0 }))
+      → Stepped P W s a X (step.Left (record { top = s .top + 8; easy = r .next; hard = s .top }))
+  unfolding Stepped
+  put-off X e = record {
+    go = λ gs hs l y.
+        let o = opened P W s a r (x .some) (x .item) gs hs l y in
+        let u = application P (r .part) (o .p) (o .part) k in
+        record {
+          gs = o .rest;
+          hs = match (o .p) (o .t) ∷ hs;
+          line = l;
+          state = record {
+            easy = chain-kept W X (s .top) j (s .top + 8) (omega arith) P Easy (r .next) (o .rest) (o .chain);
+            hard =
+                pushed Hard P W X (s .top) q e (omega (arith, b .start)) (omega (arith, x .room, b .whole)) (b .even) refl
+                (omega (arith, b .hard-room)) (x .part-even) (x .target-even)
+                (b .hard-even) refl (o .p) (o .t) hs (subst (λ (p : Term). Hard (match p (o .t))) (sym (u .is)) tt) (o .part) (o .target)
+                (o .suits) (y .hard);
+            entries = holds-kept W X (s .top) j (s .top + 8) (omega arith) a l (y .entries);
+            line = y .line;
+            assigns = y .assigns;
+            room = omega (arith, o .room);
+          };
+          same = λ φ v. (
+            λ z.
+                let w : All (match (o .p) (o .t) ∷ o .rest) φ = subst (λ (p : List Goal). All p φ) (o .is) (z .0) in
+                (w .1, (w .0, z .1), z .2),
+            λ z. (subst (λ (p : List Goal). All p φ) (sym (o .is)) (z .1 .0, z .0), z .1 .1, z .2),
+          );
+        };
+    kept = j .same;
+    higher = omega arith;
+    falls = omega (arith, x .room, x .falls, b .easy-room);
+    bounds = record {
+      whole = length-stored (itemBytes q) W X (s .top) e ∙ b .whole;
+      short = b .short;
+      top = omega (arith, x .room);
+      start = omega arith;
+      even = omega (arith, b .even);
+      easy-room = omega (arith, b .easy-room, x .falls);
+      easy-even = x .next-even;
+      hard-room = omega arith;
+      hard-even = b .even;
+    };
+  }
+    where
+      b : Bounds P W s
+      b = x .ready .bounds
+
+      q : Item
+      q = record { part = r .part; kind = 0; target = r .target; next = s .hard; argument = 0 }
+
+      j : Kept W X (s .top)
+      j = kept-sets (itemBytes q) W X (s .top) (s .top) e (omega arith) (omega (arith, x .room, b .whole))

@@ -1,0 +1,39 @@
+-- `steps::step_flexible` meets its contract. A local that the part lacks rules out every assignment; else the goal moves as it is
+-- to those put off. Assumes nothing.
+use Rattle.steps.proofs.Descents.{locals, flexible-missed, put-off}
+use borrow.Author.Needs.{needs}
+use Rattle.steps.proofs.step_flexible.Statement.{statement}
+use Rattle.steps.proofs.step_flexible.Tie as tie
+
+lacks-local-requires : tie.Need-lacks-local-requires
+lacks-local-requires c κs = search (needs, locals)
+
+same-length : tie.Need-same-length
+same-length c = search needs
+
+returns : tie.Need-returns
+returns c = search (needs, flexible-missed)
+
+put-item-requires : tie.Need-put-item-requires
+put-item-requires c κs = search needs
+
+add-t14 : tie.Need-add-t14
+add-t14 c = search needs
+
+same-length-2 : tie.Need-same-length-2
+same-length-2 c = search needs
+
+returns-2 : tie.Need-returns-2
+returns-2 c = search (needs, put-off)
+
+pub step-flexible-spec : {M : Type 1} → statement M
+step-flexible-spec =
+    tie.close
+    (tie.spec
+    lacks-local-requires
+    same-length
+    returns
+    put-item-requires
+    add-t14
+    same-length-2
+    returns-2)

@@ -1,0 +1,158 @@
+// The closed normal terms up to a number of records over the constants 0 to 2, found by going through all runs of records.
+
+use notation::put_number;
+use notation::put_record;
+use records::Kind;
+use records::RECORD;
+use test_scan::scan::is_value;
+ghost use Prim.Native.Nat.{_≤_};
+ghost use lib.ListN.{length};
+
+// Each of the ten digits stands for one record: `@`, `\`, the locals 0 to 4, the constants 0 to 2. So runs of up to six records are the
+// decimal numbers, and no closed term of so few records has another local.
+const DIGITS: usize = 10;
+
+const FIRST_LOCAL: usize = 2;
+
+const FIRST_CONSTANT: usize = 7;
+
+// The most records of a term.
+const LARGEST: usize = 6;
+
+// How far the tables of the pool are filled, in bytes.
+pub struct Filled {
+    pub entries: usize,
+    pub terms: usize,
+}
+
+fn kind_of(digit: usize) -> u8 {
+    if digit == 0 {
+        return Kind::APPLICATION.code;
+    }
+    if digit == 1 {
+        return Kind::ABSTRACTION.code;
+    }
+    if digit < FIRST_CONSTANT {
+        return Kind::LOCAL.code;
+    }
+    Kind::CONSTANT.code
+}
+
+fn number_of(digit: usize) -> usize {
+    if digit < FIRST_LOCAL {
+        return 0;
+    }
+    if digit < FIRST_CONSTANT {
+        return digit - FIRST_LOCAL;
+    }
+    digit - FIRST_CONSTANT
+}
+
+fn put_digit(out: &mut [u8], at: usize, digit: usize) -> usize
+    requires { ⌜ at ≤ length (now out) ⌝ }
+    ensures { λ r. ⌜ r ≤ length (now (out .exit)) ⌝ }
+{
+    put_record(out, at, kind_of(digit), number_of(digit))
+}
+
+fn put_digits(out: &mut [u8], at: usize, number: usize, size: usize) -> usize
+    requires { ⌜ at ≤ length (now out) ⌝ }
+    ensures { λ r. ⌜ r ≤ length (now (out .exit)) ⌝ }
+{
+    let mut rest = number;
+    let mut end = at;
+    let mut i = 0;
+    while i < size {
+        end = put_digit(out, end, rest % DIGITS);
+        rest /= DIGITS;
+        i += 1;
+    }
+    end
+}
+
+// How many runs of so many records there are.
+fn runs(size: usize) -> usize {
+    match size {
+        0 => 1,
+        1 => 10,
+        2 => 100,
+        3 => 1000,
+        4 => 10000,
+        5 => 100000,
+        _ => 1000000,
+    }
+}
+
+// Adds the entry of the term that stands in the bytes from `at` on; `before` records stand before the table of terms.
+fn put_entry(entries: &mut [u8], filled: Filled, next: usize, before: usize) -> Filled {
+    let end = filled.entries;
+    let at = filled.terms;
+    if entries.len() < end {
+        return filled;
+    }
+    if next < at {
+        return filled;
+    }
+    if 65536 < next {
+        return filled;
+    }
+    let middle = put_number(entries, end, before % 65536 + at / RECORD);
+    Filled {
+        entries: put_number(entries, middle, (next - at) / RECORD),
+        terms: next,
+    }
+}
+
+// Adds the run of records that a number stands for, if it is a closed normal term.
+fn add(
+    terms: &mut [u8],
+    entries: &mut [u8],
+    filled: Filled,
+    number: usize,
+    size: usize,
+    before: usize,
+) -> Filled {
+    let at = filled.terms;
+    if terms.len() < at {
+        return filled;
+    }
+    let next = put_digits(terms, at, number, size);
+    if next < at {
+        return filled;
+    }
+    if is_value(&terms[at..next]) {
+        return put_entry(entries, filled, next, before);
+    }
+    filled
+}
+
+fn add_size(
+    terms: &mut [u8],
+    entries: &mut [u8],
+    filled: Filled,
+    size: usize,
+    before: usize,
+) -> Filled {
+    let all = runs(size);
+    let mut now_filled = filled;
+    let mut number = 0;
+    while number < all {
+        now_filled = add(terms, entries, now_filled, number, size, before);
+        number += 1;
+    }
+    now_filled
+}
+
+// Fills both tables, and gives the bytes of the entries.
+pub fn fill(terms: &mut [u8], entries: &mut [u8], before: usize) -> usize {
+    let mut filled = Filled {
+        entries: 0,
+        terms: 0,
+    };
+    let mut size = 1;
+    while size <= LARGEST {
+        filled = add_size(terms, entries, filled, size, before);
+        size += 1;
+    }
+    filled.entries
+}
