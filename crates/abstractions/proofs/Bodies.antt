@@ -23,9 +23,9 @@ use Rattle.records.proofs.Parts.{size-some, whole, kind-at, application, abstra
 use Rattle.records.proofs.Parts.{ends-app, ends-lam, ends-leaf}
 use Rattle.sweeping.specs.Writers.{Fits, Wrote}
 use Rattle.copying.proofs.Stores.{written-then}
-use Rattle.abstractions.specs.Tests.{Compares, Shifted, Compared}
+use Rattle.shifting.specs.Tests.{Compares, Shifted, Compared}
 use Rattle.abstractions.specs.Bodies.{chosenIn, Counting, Counts, Choosing, Chose, Body}
-use Rattle.abstractions.proofs.Tests.{compared-ends, compared-yes, compared-no}
+use Rattle.shifting.proofs.Tests.{compared-ends, compared-yes, compared-no}
 
 -- what is neither application nor abstraction has no parts
 leaf-at : (l : List ℕ) (at : ℕ) (t : Term) → Part l at t → ¬ (getD l at 0 ≡ 0) → ¬ (getD l at 0 ≡ 1) → Leaf t

@@ -15,9 +15,9 @@ use Rattle.records.specs.declared.Walk.the-variants.{Upto, No}
 use Rattle.records.specs.Parts.{Part, Whole, Ends}
 use Rattle.records.proofs.Parts.{Application, whole-head, whole-body, whole-argument, kind-at, leaf-size, application, abstraction}
 use Rattle.records.proofs.Parts.{argument-part, ends-app, ends-lam, ends-leaf}
-use Rattle.abstractions.specs.Tests.{Shifted, Compared}
+use Rattle.shifting.specs.Tests.{Shifted, Compared}
 use Rattle.abstractions.specs.Occurrences.{Looks, CopyAt, NoneBefore, Before, Earlier}
-use Rattle.abstractions.proofs.Tests.{heads-same, bodies-same, compared-yes, compared-no}
+use Rattle.shifting.proofs.Tests.{heads-same, bodies-same, compared-yes, compared-no}
 
 -- the j-th part of a term is the term itself, or a part of its own parts
 module _ (R : ℕ → ℕ × Term → Type 0) (d : ℕ) where

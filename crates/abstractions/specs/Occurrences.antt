@@ -24,7 +24,7 @@ use Rattle.records.specs.Parts.{Part, Whole, Ends}
 use Rattle.records.specs.Tests.{Says}
 use Rattle.records.specs.declared.Walk.{Walk}
 use Rattle.records.specs.declared.Walk.the-variants.{Upto, No}
-use Rattle.abstractions.specs.Tests.{Shifted}
+use Rattle.shifting.specs.Tests.{Shifted}
 
 abbrev pub DepthOf : List ℕ → ℕ → ℕ → ℕ → Type 0
 DepthOf l at j r = (t : Term) → Part l at t → j < size t → r ≡ partAt 0 t j .0

@@ -14,7 +14,7 @@ use Rattle.records.specs.Tests.{Asks, Walked}
 use Rattle.records.specs.declared.Ask.the-variants.{Other}
 use Rattle.records.specs.declared.Walk.{Walk}
 use Rattle.records.specs.declared.Walk.the-variants.{Upto}
-use Rattle.abstractions.specs.Locals.{Marked}
+use Rattle.shifting.specs.Locals.{Marked}
 use Rattle.agenda.specs.Locals.{Unused, Lacks}
 
 pub not-unused : (P : List ℕ) (i k m : ℕ) → Unused P i k m false

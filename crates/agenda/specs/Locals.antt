@@ -10,7 +10,7 @@ use lib.ListN.{length}
 use Rattle.terms.specs.Figures.{patternRecords}
 use Rattle.terms.specs.Term.{Term, uses}
 use Rattle.records.specs.Parts.{Part, Whole}
-use Rattle.abstractions.specs.Locals.{Marks}
+use Rattle.shifting.specs.Locals.{Marks}
 
 unfoldable pub Unused : List ℕ → ℕ → ℕ → ℕ → Bool → Type 0
 Unused P i k m true = (m ≡ 1) × ((p : Term) → Part P i p → uses k p ≡ false)

@@ -30,7 +30,7 @@ pub fn lacks_local(p: &[u8], i: usize, work: &[u8], j: usize) -> bool
     ensures { λ r. ⌜ Lacks (now (p .entry)) i (now (work .entry)) j r ⌝ }
 {
     let mut marks = [0u8; PATTERN_RECORDS];
-    abstractions::loose_locals(work, j, 0, &mut marks);
+    shifting::loose_locals(work, j, 0, &mut marks);
     let mut k = 0;
     while k < PATTERN_RECORDS {
         if is_unused(p, i, k, marks[k]) {

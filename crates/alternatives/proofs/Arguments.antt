@@ -31,7 +31,7 @@ use Rattle.sweeping.specs.Writers.{Wrote}
 use Rattle.copying.proofs.Stores as Stores
 use Rattle.assignments.specs.declared.Entry.{Entry}
 use Rattle.skeletons.specs.Outlined.{MayBe}
-use Rattle.abstractions.specs.Lowering.{Lowers, Lowered, Leaves, Movable}
+use Rattle.shifting.specs.Lowering.{Lowers, Lowered, Leaves, Movable}
 use Rattle.abstractions.specs.Occurrences.{DepthOf, Looks, Earlier}
 use Rattle.abstractions.proofs.Occurrences.{part-at}
 use Rattle.agenda.specs.declared.Agenda.{Agenda}

@@ -9,8 +9,8 @@ use lib.ListN.{getD, replicate, length-replicate}
 use Rattle.terms.specs.Figures.{patternRecords}
 use Rattle.terms.specs.Term.{Term, uses}
 use Rattle.records.specs.Parts.{Part}
-use Rattle.abstractions.specs.Locals.{Marks, Marked}
-use Rattle.abstractions.proofs.Locals.{marking, mark-true, mark-false}
+use Rattle.shifting.specs.Locals.{Marks, Marked}
+use Rattle.shifting.proofs.Locals.{marking, mark-true, mark-false}
 use Rattle.agenda.specs.Locals.{Unused}
 use Rattle.alternatives.specs.Applications.{Missing, Misses}
 

@@ -26,7 +26,7 @@ use Rattle.matching.proofs.Occurrences.{partAt, Copy, First}
 use Rattle.records.specs.Parts.{Part, Whole, Ends}
 use Rattle.records.specs.declared.Walk.{Walk}
 use Rattle.records.specs.declared.Walk.the-variants.{Upto, No}
-use Rattle.abstractions.specs.Locals.{Marks}
+use Rattle.shifting.specs.Locals.{Marks}
 use Rattle.assignments.specs.declared.Entry.{Entry}
 use Rattle.agenda.specs.declared.Agenda.{Agenda}
 use Rattle.agenda.specs.declared.Ways.{Ways}

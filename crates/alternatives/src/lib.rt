@@ -39,7 +39,7 @@ pub fn ways(p: &[u8], work: &[u8], s: Agenda, a: [Entry; VARIABLES]) -> Ways
     let target = goal.target;
     let end = records::end_at(work, target);
     let argument = records::end_at(p, head);
-    let rigid = abstractions::is_rigid(p, argument);
+    let rigid = shifting::is_rigid(p, argument);
     let walk = records::ask_at(p, argument, Ask::Below, PATTERN_RECORDS);
     let skeleton = builds::outlines::skeleton_at(p, argument, walk, work, a);
     let lacking = agenda::locals::lacks_local(p, head, work, target);
@@ -115,9 +115,9 @@ fn misses_local(p: &[u8], i: usize, work: &[u8], j: usize, e: usize) -> bool
     ensures { λ r. ⌜ Misses (now (p .entry)) i (now (work .entry)) j e r ⌝ }
 {
     let mut target = [0u8; PATTERN_RECORDS];
-    abstractions::loose_locals(work, j, 0, &mut target);
+    shifting::loose_locals(work, j, 0, &mut target);
     let mut argument = [0u8; PATTERN_RECORDS];
-    abstractions::loose_locals(work, e, 0, &mut argument);
+    shifting::loose_locals(work, e, 0, &mut argument);
     let mut k = 0;
     while k < PATTERN_RECORDS {
         if is_missing(p, i, k, target[k], argument[k]) {
@@ -136,7 +136,7 @@ fn place_argument(work: &mut [u8], top: usize, at: usize, j: usize, depth: usize
 {
     let part = at + RECORD * j;
     let mut e = [0u8; TARGET_BYTES];
-    let moved = abstractions::lower_into(work, part, 0, depth, &mut e, 0);
+    let moved = shifting::lower_into(work, part, 0, depth, &mut e, 0);
     let Walk::Upto(end) = moved else {
         return Walk::No;
     };

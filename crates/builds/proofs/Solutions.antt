@@ -16,10 +16,10 @@ use Rattle.records.specs.declared.Ask.the-variants.{Other}
 use Rattle.records.specs.declared.Walk.{Walk}
 use Rattle.records.specs.declared.Walk.the-variants.{Upto, No}
 use Rattle.records.proofs.Parts.{kind-at, abstraction, whole-body}
-use Rattle.abstractions.specs.declared.Places.{Places}
-use Rattle.abstractions.specs.declared.Pairing.{Pairing}
-use Rattle.abstractions.specs.declared.Pairing.the-variants as pairing
-use Rattle.abstractions.specs.Substitution.{Substitutes, Substituted}
+use Rattle.shifting.specs.declared.Places.{Places}
+use Rattle.shifting.specs.declared.Pairing.{Pairing}
+use Rattle.shifting.specs.declared.Pairing.the-variants as pairing
+use Rattle.shifting.specs.Substitution.{Substitutes, Substituted}
 use Rattle.builds.specs.Builds.{Solving, Solved}
 
 module _ (W : List ℕ) (v e t : ℕ) where

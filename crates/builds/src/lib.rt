@@ -9,7 +9,6 @@
 pub mod ground;
 pub mod outlines;
 
-use abstractions::Pairing;
 use agenda::Agenda;
 use agenda::Branch;
 use agenda::Item;
@@ -22,6 +21,7 @@ use records::RECORD;
 use records::VALUE_RECORDS;
 use records::VARIABLES;
 use records::Walk;
+use shifting::Pairing;
 ghost use Prim.Native.Nat.{_≤_};
 ghost use lib.ListN.{length};
 ghost use Rattle.agenda.specs.State.{Ready, relinking};
@@ -104,7 +104,7 @@ pub fn is_solved(work: &[u8], v: usize, argument: usize, target: usize) -> bool
     if let Walk::Upto(_) = unused {
         return false;
     }
-    let pairing = abstractions::is_substituted(work, v + RECORD, 0, argument, target);
+    let pairing = shifting::is_substituted(work, v + RECORD, 0, argument, target);
     match pairing {
         Pairing::Upto(_) => true,
         Pairing::No => false,

@@ -59,7 +59,7 @@ fn apply(f: &[u8], a: &[u8], out: &mut [u8; PATTERN_BYTES]) -> Length
     if f[0] != Kind::ABSTRACTION.code {
         return join(f, a, out);
     }
-    if abstractions::is_rigid(a, 0) {
+    if shifting::is_rigid(a, 0) {
         return contract_redex(f, a, out);
     }
     if guards::is_guarded(records::body_of(f), 0) {

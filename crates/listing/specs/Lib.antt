@@ -1,4 +1,2 @@
 pub mod Outcome
 pub mod Writers
-pub mod Order
-pub mod Laying

@@ -22,7 +22,8 @@ use Rattle.matching.proofs.Partial.{lists-full}
 use Rattle.matching.proofs.Listing.{full-sort}
 use Rattle.records.specs.Checks.{Pattern, Recipe}
 use Rattle.listing.specs.declared.Tally.{Tally}
-use Rattle.listing.specs.Outcome.{Outcome, outcome, Tables, InLineOrder, Arranges, Arranged}
+use Rattle.listing.specs.Outcome.{Outcome, outcome, Tables}
+use Rattle.arranging.specs.Arranged.{InLineOrder, Arranges, Arranged}
 use Rattle.listing.proofs.Stores.{stores-count, stores-records, stores-lengths, stores-begin, line-table-length, value-table-length}
 use Rattle.search.specs.Collected.{Tallied, nothing, Collected}
 use Rattle.refusals.specs.declared.Refusal.{Refusal}

@@ -18,7 +18,8 @@ use Rattle.terms.specs.Refusal.{Passed, listing}
 use Rattle.terms.proofs.Members.{Distinct}
 use Rattle.records.specs.Checks.{Pattern, Recipe}
 use Rattle.listing.specs.declared.Tally.{Tally}
-use Rattle.listing.specs.Outcome.{Tables, InLineOrder}
+use Rattle.listing.specs.Outcome.{Tables}
+use Rattle.arranging.specs.Arranged.{InLineOrder}
 use Rattle.refusals.specs.declared.Refusal.{Refusal}
 use Rattle.refusals.specs.Judged.{number}
 use Rattle.matcher.specs.declared.ListAnswer.{ListAnswer}

@@ -66,7 +66,7 @@ fn copy_lines(
     let n = RECORD * records;
     copying::copy_into(&rows[0..m], lines, 0);
     copying::copy_into(&terms[0..n], values, 0);
-    listing::arrange(lines, count, values, records, work);
+    arranging::arrange(lines, count, values, records, work);
     ListAnswer::Lines(count)
 }
 

@@ -54,7 +54,7 @@ fn candidates(p: &[u8], part: usize, work: &[u8], target: usize) -> usize
     let argument = records::end_at(p, part + RECORD);
     let end = records::end_at(work, target);
     let n = (end - target) / RECORD;
-    if !abstractions::is_rigid(p, argument) {
+    if !shifting::is_rigid(p, argument) {
         return 2 + n;
     }
     let mut count = 2;

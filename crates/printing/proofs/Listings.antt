@@ -11,9 +11,9 @@ use lib.Seq.{take-at, drop-at, drop-drop}
 use Rattle.terms.specs.Figures.{variables, tableBytes}
 use Rattle.terms.specs.Listing.{Line}
 use Rattle.terms.specs.Layout.{valueRecords, valuesRecords, lineBytes, lineValues, lineTable, valueTable}
-use Rattle.listing.specs.Order.{Standing}
+use Rattle.arranging.specs.Order.{Standing}
 use Rattle.listing.specs.Outcome.{Laid}
-use Rattle.listing.proofs.Comparing.{laid-standing, next-standing, value-within}
+use Rattle.arranging.proofs.Comparing.{laid-standing, next-standing, value-within}
 use Rattle.listing.proofs.Stores.{Entire, line-table-length, value-table-length}
 use Rattle.listing.proofs.Writers.{line-bytes-length, line-values-length}
 use Rattle.printing.specs.Text.{Within, Printable}

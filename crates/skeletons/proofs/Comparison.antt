@@ -20,9 +20,9 @@ use Rattle.records.specs.declared.Walk.{Walk}
 use Rattle.records.specs.declared.Walk.the-variants as walk
 use Rattle.records.proofs.Parts.{size-some, whole, kind-at, number-at, application, abstraction, argument-part, ends-app, ends-lam}
 use Rattle.records.proofs.Parts.{ends-leaf, leaf-size}
-use Rattle.abstractions.specs.declared.Places.{Places}
-use Rattle.abstractions.specs.declared.Pairing.{Pairing}
-use Rattle.abstractions.specs.declared.Pairing.the-variants.{Upto, No}
+use Rattle.shifting.specs.declared.Places.{Places}
+use Rattle.shifting.specs.declared.Pairing.{Pairing}
+use Rattle.shifting.specs.declared.Pairing.the-variants.{Upto, No}
 use Rattle.skeletons.specs.Outlined.{Comparable, MayBe}
 use Rattle.skeletons.specs.Compared.{Compares, Compared}
 use Rattle.skeletons.proofs.Tests.{variable-at, no-variable}

@@ -8,8 +8,8 @@ use Rattle.terms.specs.Figures.{tableBytes}
 use Rattle.terms.specs.Term.{Term}
 use Rattle.matching.proofs.Skeletons.{Fits}
 use Rattle.records.specs.Parts.{Part, Whole, Ends}
-use Rattle.abstractions.specs.declared.Pairing.{Pairing}
-use Rattle.abstractions.specs.declared.Pairing.the-variants.{Upto, No}
+use Rattle.shifting.specs.declared.Pairing.{Pairing}
+use Rattle.shifting.specs.declared.Pairing.the-variants.{Upto, No}
 
 pub record Compares (c : List ℕ) (b : ℕ) (s : List ℕ) (t : ℕ) : Type 0 where
   pub skeleton : Whole c b

@@ -7,14 +7,14 @@
 // record, looks for holes in them, applies them, and compares them with terms. It promises that the swept part fits what it writes. It
 // rests on `sweeping` for single contractions, on `assignments` for values, and on `abstractions` for the answer of a walk over two parts.
 
-use abstractions::Pairing;
-use abstractions::Places;
 use assignments::Entry;
 use records::Ask;
 use records::Kind;
 use records::RECORD;
 use records::VARIABLES;
 use records::Walk;
+use shifting::Pairing;
+use shifting::Places;
 use sweeping::Length;
 use sweeping::SWEPT_BYTES;
 ghost use mathlib.Core.Path.{_≡_};

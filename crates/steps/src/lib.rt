@@ -250,7 +250,7 @@ pub fn step(p: &[u8], work: &mut [u8], s: Agenda, a: [Entry; VARIABLES]) -> Step
     if kind != Kind::APPLICATION.code {
         return step_record(p, work, s, a, item);
     }
-    if abstractions::is_rigid(p, part) {
+    if shifting::is_rigid(p, part) {
         return step_rigid(p, work, s, a, item);
     }
     step_flexible(p, work, s, a, item)

@@ -15,7 +15,7 @@ use Rattle.abstractions.proofs.body_into.Reads as body-into
 use Rattle.abstractions.proofs.body_into.Kinds as body-into-kinds
 use Rattle.abstractions.proofs.+body_into.Lts-body_into as body-into-lts
 use Rattle.abstractions.proofs.choice_into.Reads as choice-into-reads
-use Rattle.abstractions.proofs.copy_end.Reads as copy-end-reads
+use Rattle.shifting.proofs.copy_end.Reads as copy-end-reads
 use Rattle.records.proofs.put_record.Reads as put-record-reads
 use Rattle.sweeping.proofs.shift_leaf_into.Reads as shift-leaf-into-reads
 use Rattle.abstractions.proofs.+body_into.{statement}

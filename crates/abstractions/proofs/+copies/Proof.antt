@@ -13,7 +13,7 @@ use borrow.Fn.PlainCycle.{Measures, is, falls, and}
 use Rattle.abstractions.proofs.copies.Reads as copies
 use Rattle.abstractions.proofs.copies.Kinds as copies-kinds
 use Rattle.abstractions.proofs.+copies.Lts-copies as copies-lts
-use Rattle.abstractions.proofs.copy_end.Reads as copy-end-reads
+use Rattle.shifting.proofs.copy_end.Reads as copy-end-reads
 use Rattle.abstractions.proofs.+copies.{statement}
 use Rattle.abstractions.proofs.+copies.Tie.{close}
 
