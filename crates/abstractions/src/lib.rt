@@ -1,10 +1,10 @@
-// Occurrences of a part in a target.
+// Occurrences of a part in a target, and the bodies that they give.
 //
 // An application whose head is unknown comes to a target in as many ways as an argument can be found in it. To list them the search asks
-// how deep a part of the target stands, whether it can be moved out of the binders above it, whether the same was found earlier, which
-// locals a part uses, and whether a part is another one shifted, or another with a term put for a local. Each function walks over parts by
-// their positions and promises its answer for the very terms that stand there. It rests on `records` for single records and parts, on
-// `sweeping` for what a writer leaves, and on `matching` for the numbering of parts.
+// how deep a part of the target stands, whether the same was found earlier, how many copies of an argument there are, and for the body in
+// which some of them are replaced. Each function walks over parts by their positions and promises its answer for the very terms that stand
+// there. It rests on `shifting` to compare terms under binders, on `records` and `sweeping` for reading and writing them, and on `matching`
+// for the numbering of parts and copies.
 
 use records::Kind;
 use records::RECORD;

@@ -4,7 +4,7 @@
 // `top`, where nothing is changed, so that all branches of a search share them and going back costs nothing. The crate reads and writes
 // goals, and tells what their heads and locals show. Its definitions say what an agenda means, what a step may make of it, and that the
 // work area suffices; the steps themselves are the crates above it. It rests on `matching` for the mathematics, on `records` and
-// `abstractions` for single terms, and on `assignments` for how entries hold a line.
+// `shifting` for single terms, and on `assignments` for how entries hold a line.
 
 pub mod heads;
 pub mod locals;

@@ -1,8 +1,8 @@
 // The lines of a listing brought into document 01's order.
 //
-// The tables hold lines in the order in which they were found. They are compared entry by entry, sorted by merging over the work area, and their values
-// are laid out anew behind one another. The crate promises that the tables are those of the same lines in order, with nothing else changed. It rests on
-// `listing` for how a line and its values stand, and on `copying`.
+// The tables hold lines in the order in which they were found. They are compared entry by entry, sorted by merging over the work area, and
+// their values are laid out anew behind one another. The crate promises that the tables are those of the same lines in order, with nothing
+// else changed. It rests on `listing` for how a line and its values stand, and on `copying` for bytes.
 
 use assignments::Entry;
 use assignments::LINE;

@@ -5,7 +5,7 @@
 // a constant an abstraction meets no argument, so that the reduct has the pattern's own listing, as `matching` shows. The crate goes
 // bottom-up through the parts of a table and writes the reduct of each into an array of its own. It promises that what it writes is the
 // table of the reduct, and says "too long" where that of some part is above 32 records. It rests on `records` for single records and parts,
-// on `abstractions` for the test of an argument, and on `sweeping` for the substitution.
+// on `shifting` for the test of an argument, and on `sweeping` for the substitution.
 
 mod guards;
 

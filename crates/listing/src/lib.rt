@@ -1,10 +1,8 @@
-// The lines that a search finds, and the tables of a listing.
+// The lines that a search finds, in the tables of a listing.
 //
-// A line that is found is counted, and written where it still fits both tables; so a first pass over empty tables only counts, and a second
-// pass over tables that are large enough writes every line. The tables then hold the lines in the order in which they were found, and
-// `arrange` brings lines and values into document 01's order. The crate promises that the tables are those of exactly the lines found, with
-// nothing else changed, and after `arrange` those of the same lines in order. It rests on `records` for single words, on `assignments` for
-// the entries of a line, and on `sweeping` for copying bytes.
+// A line that is found is counted, and written where it still fits both tables. The tables then hold the lines in the order in which they
+// were found. The crate promises that the tables are those of exactly the lines found, with nothing else changed. It rests on `records` for
+// single words, on `assignments` for the entries of a line, and on `copying` for bytes.
 
 use assignments::Entry;
 use assignments::LINE;

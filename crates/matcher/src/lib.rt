@@ -4,7 +4,7 @@
 // listing, or says that it has no room. It promises its answer and the bytes it leaves for every input there is, refusals included: a
 // refusal leaves the tables as they were, 9 is given exactly if every full listing has more lines than are lent, and the work area is all
 // zero unless its own length was wrong. It rests on `refusals` for the verdicts, on `contraction` and `search` for the lines, and on
-// `listing` for their order.
+// `arranging` for their order.
 
 mod listings;
 

@@ -3,7 +3,7 @@
 // A listing is printed line by line: each assigned entry as its numbers and the records of its value, in hexadecimal digits. The crate
 // promises that the text of each printed line is the one that document 01 gives, and that it stays within the tables of a listing. What
 // goes to standard output, and in which order, no contract can say: the programs' outputs are compared with stored ones. It rests on
-// `records`, `assignments`, `listing` and, for copying bytes, on `sweeping`.
+// `records`, `assignments`, `listing`, `arranging` and, for copying bytes, on `copying`.
 
 use assignments::Entry;
 use assignments::LINE;

@@ -5,8 +5,8 @@
 // ways in turn, a goal to build with each choice among the copies of its argument. The functions call each other in one cycle; each call
 // finds less room above the agenda, or an earlier goal at its head, so that the search ends. The crate promises that the lines it has found
 // are exactly the lines of some list that is sound, covers every assignment and names each once, for these goals and these entries, stored
-// one after the other; or that such a list has more lines than the limit. It rests on `agenda` for single steps and on `listing` for what
-// becomes of a found line.
+// one after the other; or that such a list has more lines than the limit. It rests on `agenda` and the crates of its steps, and on
+// `listing` for what becomes of a found line.
 
 use agenda::Agenda;
 use agenda::Branch;

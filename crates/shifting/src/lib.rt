@@ -1,8 +1,9 @@
 // Terms compared and moved under binders.
 //
-// The search asks of the parts of a target whether one is another shifted, or another with a term put for a local, whether it can be moved out of the
-// binders above it, which loose locals it has, and whether its head is rigid. Each function walks over parts by their positions and promises its answer
-// for the very terms that stand there. It rests on `records` for single records and parts, and on `sweeping` for what a writer leaves.
+// The search asks of the parts of a target whether one is another shifted, or another with a term put for a local, whether it can be moved
+// out of the binders above it, which loose locals it has, and whether its head is rigid. Each function walks over parts by their positions
+// and promises its answer for the very terms that stand there. It rests on `records` for single records and parts, and on `sweeping` for
+// what a writer leaves.
 
 use records::Kind;
 use records::RECORD;

@@ -5,7 +5,7 @@
 // skeleton with some term in place of each hole, a closed one where the part that the hole stands for is closed; so a target that doesn't
 // fit the skeleton is never met, and a skeleton without a hole is the swept part itself. The crate writes skeletons, a hole as a variable's
 // record, looks for holes in them, applies them, and compares them with terms. It promises that the swept part fits what it writes. It
-// rests on `sweeping` for single contractions, on `assignments` for values, and on `abstractions` for the answer of a walk over two parts.
+// rests on `sweeping` for single contractions, on `assignments` for values, and on `shifting` for the answer of a walk over two parts.
 
 use assignments::Entry;
 use records::Ask;
