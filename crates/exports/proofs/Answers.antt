@@ -22,8 +22,9 @@ use Rattle.refusals.specs.Judged.{number}
 use Rattle.rewriting.specs.declared.SweepAnswer.{SweepAnswer}
 use Rattle.rewriting.specs.declared.RewriteAnswer.{RewriteAnswer}
 use Rattle.rewriting.specs.Operations.{lentForSweep, lentForRewrite, Written, Swept, Rewritten}
-use Rattle.matcher.specs.declared.ListAnswer.{ListAnswer}
-use Rattle.matcher.specs.Operations.{lentForList, WrittenLines, Listed}
+use Rattle.enumeration.specs.declared.ListAnswer.{ListAnswer}
+use Rattle.enumeration.specs.Written.{WrittenLines}
+use Rattle.matcher.specs.Operations.{lentForList, Listed}
 use Rattle.exports.specs.Answers.{refusalCode}
 
 -- a line table has at most 2,048 lines

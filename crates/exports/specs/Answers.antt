@@ -12,7 +12,7 @@ use Rattle.rewriting.specs.declared.CheckAnswer.{CheckAnswer}
 use Rattle.rewriting.specs.declared.SweepAnswer.{SweepAnswer}
 use Rattle.rewriting.specs.declared.RewriteAnswer.{RewriteAnswer}
 use Rattle.rewriting.specs.Operations.{Checked, Swept, Rewritten}
-use Rattle.matcher.specs.declared.ListAnswer.{ListAnswer}
+use Rattle.enumeration.specs.declared.ListAnswer.{ListAnswer}
 use Rattle.matcher.specs.Operations.{Listed}
 
 abbrev pub refusalCode : Refusal → ℤ

@@ -5,7 +5,7 @@
 // operation may give on these tables, and that the tables and the work area are left as the operation leaves them. It rests on `matcher`
 // and `rewriting`; the static library is built from it.
 
-use matcher::ListAnswer;
+use enumeration::ListAnswer;
 use refusals::Refusal;
 use rewriting::CheckAnswer;
 use rewriting::RewriteAnswer;

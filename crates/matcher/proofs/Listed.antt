@@ -21,9 +21,10 @@ use Rattle.refusals.specs.declared.Verdict.{Verdict}
 use Rattle.refusals.specs.declared.Refusal.{Refusal}
 use Rattle.refusals.specs.Judged.{number, Judged, firstOf}
 use Rattle.refusals.proofs.Judging.{judged-more, judged-first}
-use Rattle.matcher.specs.declared.ListAnswer.{ListAnswer}
-use Rattle.matcher.specs.Operations.{lentForList, lentLines, lentRecords, ListingOf, NoRoom, Listed, TooMany, NineExactly}
-use Rattle.matcher.specs.Steps.{Listable, Enumerated}
+use Rattle.enumeration.specs.declared.ListAnswer.{ListAnswer}
+use Rattle.enumeration.specs.Written.{lentLines, lentRecords, ListingOf, NoRoom, Enumerated}
+use Rattle.matcher.specs.Operations.{lentForList, Listed, TooMany, NineExactly}
+use Rattle.enumeration.specs.Steps.{Listable}
 
 -- the tables that list is lent, judged
 pub judged-list :

@@ -3,24 +3,16 @@
 // It judges the tables it is lent, in document 01's order, and refuses with the number of the first cause that holds; else it writes a full
 // listing, or says that it has no room. It promises its answer and the bytes it leaves for every input there is, refusals included: a
 // refusal leaves the tables as they were, 9 is given exactly if every full listing has more lines than are lent, and the work area is all
-// zero unless its own length was wrong. It rests on `refusals` for the verdicts, on `contraction` and `search` for the lines, and on
-// `arranging` for their order.
-
-mod listings;
+// zero unless its own length was wrong. It rests on `refusals` for the verdicts, and on `enumeration` for the listing.
 
 use assignments::LINE;
-use refusals::Refusal;
+use enumeration::ListAnswer;
 use refusals::Verdict;
 ghost use mathlib.Core.Path.{_≡_};
 ghost use Rattle.refusals.specs.Judged.{Judged};
 ghost use Rattle.refusals.specs.Lent.{cleared};
 ghost use Rattle.matcher.specs.Operations.{lentForList, Listed, NineExactly};
-ghost use Rattle.matcher.specs.Steps.{Listable};
-
-pub enum ListAnswer {
-    Lines(usize),
-    Refused(Refusal),
-}
+ghost use Rattle.enumeration.specs.Steps.{Listable};
 
 // All that list is lent: 8; pattern 1, 2, 3; recipe 4 to 7.
 fn judge_list(pattern: &[u8], recipe: &[u8], lines: &[u8], values: &[u8], work: &[u8]) -> Verdict
@@ -61,7 +53,7 @@ pub fn list(
         }
         Verdict::Right => {}
     }
-    let answer = listings::enumerate(pattern, recipe, lines, values, work);
+    let answer = enumeration::enumerate(pattern, recipe, lines, values, work);
     refusals::clear(work);
     answer
 }

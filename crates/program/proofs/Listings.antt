@@ -5,8 +5,9 @@ use mathlib.Core.List.{List}
 use Prim.Native.Nat.{ℕ, _≤_}
 use lib.ListN.{length}
 use Rattle.terms.specs.Figures.{tableBytes}
-use Rattle.matcher.specs.Operations.{Listed, WrittenLines}
-use Rattle.matcher.specs.declared.ListAnswer.{ListAnswer}
+use Rattle.enumeration.specs.Written.{WrittenLines}
+use Rattle.matcher.specs.Operations.{Listed}
+use Rattle.enumeration.specs.declared.ListAnswer.{ListAnswer}
 use Rattle.printing.specs.Text.{Printable}
 use Rattle.printing.proofs.Listings.{printable}
 

@@ -5,8 +5,8 @@
 // outputs are compared with stored ones. It promises that it is safe and ends; `matcher` promises the listing, and `printing` the text of
 // each printed line. It rests on these two.
 
+use enumeration::ListAnswer;
 use libc::close;
-use matcher::ListAnswer;
 use records::PATTERN_RECORDS;
 use records::RECIPE_RECORDS;
 use records::RECORD;

@@ -1,0 +1,2 @@
+pub mod Reducts
+pub mod Searches
