@@ -14,17 +14,18 @@ use Rattle.terms.specs.Term.{Term, app, lam, loc, con, var, size, shift}
 use Rattle.terms.specs.Table.{bytes, encode}
 use Rattle.terms.proofs.Shift.{size-shift}
 use Rattle.terms.proofs.Table.{encode-length}
-use Rattle.matching.proofs.Bodies.{copies, choose, body, Leaf, copies-here, body-here, copies-app, body-app, copies-lam, body-lam}
+use Rattle.matching.specs.Bodies.{copies, choose, body}
+use Rattle.matching.proofs.Bodies.{Leaf, copies-here, body-here, copies-app, body-app, copies-lam, body-lam}
 use Rattle.matching.proofs.Bodies.{copies-leaf, body-leaf}
 use Rattle.records.specs.declared.Walk.{Walk}
 use Rattle.records.specs.declared.Walk.the-variants.{Upto, No}
 use Rattle.records.specs.Parts.{Part, Whole}
 use Rattle.records.proofs.Parts.{size-some, whole, kind-at, application, abstraction, argument-part, whole-head, whole-body, whole-argument}
 use Rattle.records.proofs.Parts.{ends-app, ends-lam, ends-leaf}
-use Rattle.sweeping.specs.Writers.{Fits, Wrote}
+use Rattle.sweeping.specs.Writers.{NumbersFit, Wrote}
 use Rattle.copying.proofs.Stores.{written-then}
-use Rattle.shifting.specs.Tests.{Compares, Shifted, Compared}
-use Rattle.abstractions.specs.Bodies.{chosenIn, Counting, Counts, Choosing, Chose, Body}
+use Rattle.shifting.specs.Tests.{PartsComparable, Shifted, PartsCompared}
+use Rattle.abstractions.specs.Bodies.{chosenIn, Counting, CopiesCounted, BodySource, Chose, Body}
 use Rattle.shifting.proofs.Tests.{compared-ends, compared-yes, compared-no}
 
 -- what is neither application nor abstraction has no parts
@@ -40,23 +41,24 @@ size-choose true d t = size-some t
 size-choose false d t = omega (arith, size-shift 1 d t)
 
 -- the term at byte `at` of l, below d binders, is no copy of the one at byte e
-pub record Apart (l : List ℕ) (at d e : ℕ) : Type 0 where
+pub record NoCopy (l : List ℕ) (at d e : ℕ) : Type 0 where
   pub differs : (t y : Term) → Part l at t → Part l e y → ¬ (t ≡ shift d 0 y)
 
 module _ (l : List ℕ) (at d e : ℕ) where
-  pub no-copy : (w : Walk) → w ≡ No → Compared l at e (Shifted d 0) w → Apart l at d e
+  pub no-copy : (w : Walk) → w ≡ No → PartsCompared l at e (Shifted d 0) w → NoCopy l at d e
   no-copy w i x = record { differs = λ t y u v. compared-no l at e (Shifted d 0) w x t y u v i }
 
   -- the count, part by part
-  pub counts-copy : (h : ℕ) (w : Walk) → w ≡ Upto h → Compared l at e (Shifted d 0) w → Counts l at d e h 1
+  pub counts-copy : (h : ℕ) (w : Walk) → w ≡ Upto h → PartsCompared l at e (Shifted d 0) w → CopiesCounted l at d e h 1
   counts-copy h w i x = let n = compared-ends l at e (Shifted d 0) h w i x in record {
     ends = n;
     few = n .more;
     exact = λ t y u v. sym (copies-here y d t (compared-yes l at e (Shifted d 0) w x t y u v h i));
   }
 
-  pub counts-application : (h next n m : ℕ) → Apart l at d e → getD l at 0 ≡ 0 → Counts l (at + 4) d e h n → Counts l h d e next m
-      → Counts l at d e next (n + m)
+  pub counts-application : (h next n m : ℕ) → NoCopy l at d e → getD l at 0 ≡ 0 → CopiesCounted l (at + 4) d e h n
+      → CopiesCounted l h d e next m
+      → CopiesCounted l at d e next (n + m)
   counts-application h next n m far z x y = record {
     ends = ends-app l at h next z (x .ends) (y .ends);
     few = omega (arith, x .few, y .few);
@@ -67,7 +69,8 @@ module _ (l : List ℕ) (at d e : ℕ) where
         ap₂ _+_ (x .exact (a .f) s (a .head) v) (y .exact (a .a) s (argument-part l at h t (x .ends) a) v) ∙ sym p;
   }
 
-  pub counts-abstraction : (next n : ℕ) → Apart l at d e → getD l at 0 ≡ 1 → Counts l (at + 4) (d + 1) e next n → Counts l at d e next n
+  pub counts-abstraction : (next n : ℕ) → NoCopy l at d e → getD l at 0 ≡ 1 → CopiesCounted l (at + 4) (d + 1) e next n
+      → CopiesCounted l at d e next n
   counts-abstraction next n far z x = record {
     ends = ends-lam l at next z (x .ends);
     few = omega (arith, x .few);
@@ -78,7 +81,7 @@ module _ (l : List ℕ) (at d e : ℕ) where
         x .exact (a .b) s (a .body) v ∙ ap (λ (j : ℕ). copies s j (a .b)) (add-one d) ∙ sym p;
   }
 
-  pub counts-leaf : Apart l at d e → Whole l at → ¬ (getD l at 0 ≡ 0) → ¬ (getD l at 0 ≡ 1) → Counts l at d e (at + 4) 0
+  pub counts-leaf : NoCopy l at d e → Whole l at → ¬ (getD l at 0 ≡ 0) → ¬ (getD l at 0 ≡ 1) → CopiesCounted l at d e (at + 4) 0
   counts-leaf far x n m = record {
     ends = ends-leaf l at n m x;
     few = omega arith;
@@ -87,7 +90,7 @@ module _ (l : List ℕ) (at d e : ℕ) where
 
   -- what counting the parts needs
   module _ (x : Counting l at d e) where
-    pub counting-compares : Compares l at e 0 d
+    pub counting-compares : PartsComparable l at e 0 d
     counting-compares = record {
       first = x .target;
       second = x .argument;
@@ -104,7 +107,7 @@ module _ (l : List ℕ) (at d e : ℕ) where
     pub counting-head : getD l at 0 ≡ 0 → Counting l (at + 4) d e
     counting-head z = counting (at + 4) d (whole-head l at (x .target) z) (omega arith)
 
-    pub counting-argument : (h n : ℕ) → getD l at 0 ≡ 0 → Counts l (at + 4) d e h n → Counting l h d e
+    pub counting-argument : (h n : ℕ) → getD l at 0 ≡ 0 → CopiesCounted l (at + 4) d e h n → Counting l h d e
     counting-argument h n z y = counting h d (whole-argument l at h (x .target) z (y .ends)) (omega (arith, y .ends .more))
 
     pub counting-body : getD l at 0 ≡ 1 → Counting l (at + 4) (d + 1) e
@@ -124,7 +127,7 @@ module _ (l : List ℕ) (at d : ℕ) (m : List ℕ) (k : ℕ) (out : List ℕ) (
 
 -- the bytes of a body, part by part
 module _ (l : List ℕ) (at d e : ℕ) (m : List ℕ) (k : ℕ) (out : List ℕ) (o : ℕ) where
-  pub body-copy : (p : List ℕ) (h end : ℕ) (w : Walk) → w ≡ Upto h → Compared l at e (Shifted d 0) w → Whole l at
+  pub body-copy : (p : List ℕ) (h end : ℕ) (w : Walk) → w ≡ Upto h → PartsCompared l at e (Shifted d 0) w → Whole l at
       → Chose l at d m k out o p end → Body l at d e m k out o p h end (k + 1)
   body-copy p h end w i x a y =
       let n = compared-ends l at e (Shifted d 0) h w i x in
@@ -140,7 +143,7 @@ module _ (l : List ℕ) (at d e : ℕ) (m : List ℕ) (k : ℕ) (out : List ℕ)
         bytes = λ t s u v. y .bytes t u ∙ ap (λ (z : Term). sets out o (encode z)) (sym (f t s u v));
       }
 
-  module _ (far : Apart l at d e) where
+  module _ (far : NoCopy l at d e) where
     pub body-application : (p q r : List ℕ) (h n i next end j : ℕ) → getD l at 0 ≡ 0 → p ≡ sets out o (bytes 0 0 [])
         → Body l (at + 4) d e m k p (o + 4) q h n i → Body l h d e m i q n r next end j → Body l at d e m k out o r next end j
     body-application p q r h n i next end j z b x y = record {
@@ -220,8 +223,8 @@ module _ (l : List ℕ) (at d e : ℕ) (m : List ℕ) (k : ℕ) (out : List ℕ)
 
 -- what writing a body needs: the locals of a term with few binders above it have numbers that fit
 module _ (l : List ℕ) (at d e last k room o : ℕ) (t : Term) (p : Part l at t) where
-  choosing : Whole l e → length l ≤ tableBytes → Fits (shift 1 d t) → d + size t ≤ numbers → o + 4 * size t ≤ room → k + size t ≤ last
-      → Choosing l at d e last k room o
+  choosing : Whole l e → length l ≤ tableBytes → NumbersFit (shift 1 d t) → d + size t ≤ numbers → o + 4 * size t ≤ room → k + size t ≤ last
+      → BodySource l at d e last k room o
   choosing a h f s r c = record {
     source = record {
       tree = t;
@@ -238,11 +241,11 @@ module _ (l : List ℕ) (at d e last k room o : ℕ) (t : Term) (p : Part l at t
   }
 
 -- what writing the parts' bodies needs
-module _ (l : List ℕ) (at d e last k room o : ℕ) (x : Choosing l at d e last k room o) where
+module _ (l : List ℕ) (at d e last k room o : ℕ) (x : BodySource l at d e last k room o) where
   pub choosing-whole : Whole l at
   choosing-whole = whole l at (x .source .tree) (x .source .part)
 
-  pub choosing-compares : Compares l at e 0 d
+  pub choosing-compares : PartsComparable l at e 0 d
   choosing-compares = record {
     first = choosing-whole;
     second = x .argument;
@@ -257,33 +260,33 @@ module _ (l : List ℕ) (at d e last k room o : ℕ) (x : Choosing l at d e last
   choosing-choice = omega (arith, x .choices, x .source .part .some)
 
   module _ (rest : ℕ) (same-room : rest ≡ room) where
-    pub choosing-head : getD l at 0 ≡ 0 → Choosing l (at + 4) d e last k rest (o + 4)
+    pub choosing-head : getD l at 0 ≡ 0 → BodySource l (at + 4) d e last k rest (o + 4)
     choosing-head z =
         let s = x .source in
         let a = application l at (s .tree) (s .part) z in
         let n = ap size (a .is) in
-        let f : Fits (shift 1 d (app (a .f) (a .a))) = subst (λ (t : Term). Fits (shift 1 d t)) (a .is) (s .fits) in
+        let f : NumbersFit (shift 1 d (app (a .f) (a .a))) = subst (λ (t : Term). NumbersFit (shift 1 d t)) (a .is) (s .fits) in
         choosing l (at + 4) d e last k rest (o + 4) (a .f) (a .head) (x .argument) (x .most) (f .0) (omega (arith, s .shallow))
         (omega (arith, s .enough, size-shift 1 d (s .tree))) (omega (arith, x .choices))
 
     pub choosing-argument : (m p q : List ℕ) (h n i : ℕ) → getD l at 0 ≡ 0 → Body l (at + 4) d e m k p (o + 4) q h n i
-        → Choosing l h d e last i rest n
+        → BodySource l h d e last i rest n
     choosing-argument m p q h n i z y =
         let s = x .source in
         let a = application l at (s .tree) (s .part) z in
         let b = ap size (a .is) in
         let g = y .ends .exact (a .f) (a .head) in
-        let f : Fits (shift 1 d (app (a .f) (a .a))) = subst (λ (t : Term). Fits (shift 1 d t)) (a .is) (s .fits) in
+        let f : NumbersFit (shift 1 d (app (a .f) (a .a))) = subst (λ (t : Term). NumbersFit (shift 1 d t)) (a .is) (s .fits) in
         choosing l h d e last i rest n (a .a) (argument-part l at h (s .tree) (y .ends) a) (x .argument) (x .most) (f .1)
         (omega (arith, s .shallow))
         (omega (arith, s .enough, size-shift 1 d (s .tree), y .short)) (omega (arith, x .choices, y .few))
 
-    pub choosing-body : getD l at 0 ≡ 1 → Choosing l (at + 4) (d + 1) e last k rest (o + 4)
+    pub choosing-body : getD l at 0 ≡ 1 → BodySource l (at + 4) (d + 1) e last k rest (o + 4)
     choosing-body z =
         let s = x .source in
         let a = abstraction l at (s .tree) (s .part) z in
         let n = ap size (a .is) in
-        let f : Fits (shift 1 (suc d) (a .b)) = subst (λ (t : Term). Fits (shift 1 d t)) (a .is) (s .fits) in
+        let f : NumbersFit (shift 1 (suc d) (a .b)) = subst (λ (t : Term). NumbersFit (shift 1 d t)) (a .is) (s .fits) in
         choosing l (at + 4) (d + 1) e last k rest (o + 4) (a .b) (a .body) (x .argument) (x .most)
-        (subst (λ (j : ℕ). Fits (shift 1 j (a .b))) (sym (add-one d)) f)
+        (subst (λ (j : ℕ). NumbersFit (shift 1 j (a .b))) (sym (add-one d)) f)
         (omega (arith, s .shallow)) (omega (arith, s .enough, size-shift 1 d (s .tree))) (omega (arith, x .choices))

@@ -9,7 +9,7 @@ use native.Mathlib.Numerals.{add-one}
 use lib.ListN.{length, getD, set}
 use lib.Seq.{getD-set-same, getD-set-other}
 use Rattle.terms.specs.Term.{Term, app, lam, size}
-use Rattle.matching.proofs.Occurrences.{partAt}
+use Rattle.matching.specs.Occurrences.{partAt}
 use Rattle.records.specs.Parts.{Part, Whole, Ends}
 use Rattle.records.proofs.Parts.{whole, leaf-size, application, abstraction, argument-part, ends-app, ends-lam, ends-leaf}
 use Rattle.abstractions.specs.Occurrences.{DepthOf, DepthSource, WroteDepths}

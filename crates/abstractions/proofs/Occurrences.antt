@@ -9,14 +9,15 @@ use native.Mathlib.Omega.{arith}
 use native.Mathlib.Decide.{decLt}
 use lib.ListN.{getD}
 use Rattle.terms.specs.Term.{Term, app, lam, loc, con, var, size}
-use Rattle.matching.proofs.Occurrences.{partAt, Copy, partAt-head, partAt-argument, partAt-first}
+use Rattle.matching.specs.Occurrences.{partAt, Copy}
+use Rattle.matching.proofs.Occurrences.{partAt-head, partAt-argument, partAt-first}
 use Rattle.records.specs.declared.Walk.{Walk}
 use Rattle.records.specs.declared.Walk.the-variants.{Upto, No}
 use Rattle.records.specs.Parts.{Part, Whole, Ends}
 use Rattle.records.proofs.Parts.{Application, whole-head, whole-body, whole-argument, kind-at, leaf-size, application, abstraction}
 use Rattle.records.proofs.Parts.{argument-part, ends-app, ends-lam, ends-leaf}
-use Rattle.shifting.specs.Tests.{Shifted, Compared}
-use Rattle.abstractions.specs.Occurrences.{Looks, CopyAt, NoneBefore, Before, Earlier}
+use Rattle.shifting.specs.Tests.{Shifted, PartsCompared}
+use Rattle.abstractions.specs.Occurrences.{Looks, CopyAt, NoneBefore, CopyBefore, Earlier}
 use Rattle.shifting.proofs.Tests.{heads-same, bodies-same, compared-yes, compared-no}
 
 -- the j-th part of a term is the term itself, or a part of its own parts
@@ -94,11 +95,11 @@ argument-index d t f a i k e n = ap₂ (partAt d) e n ∙ partAt-argument d f a 
 
 -- whether a part is a copy
 module _ (l : List ℕ) (at e d : ℕ) where
-  pub copy-yes : (h : ℕ) (w : Walk) → w ≡ Upto h → Compared l at e (Shifted d 0) w → CopyAt l at e d true
+  pub copy-yes : (h : ℕ) (w : Walk) → w ≡ Upto h → PartsCompared l at e (Shifted d 0) w → CopyAt l at e d true
   unfolding CopyAt
   copy-yes h w g q = λ x y p t. compared-yes l at e (Shifted d 0) w q x y p t h g
 
-  pub copy-no : (w : Walk) → w ≡ No → Compared l at e (Shifted d 0) w → CopyAt l at e d false
+  pub copy-no : (w : Walk) → w ≡ No → PartsCompared l at e (Shifted d 0) w → CopyAt l at e d false
   unfolding CopyAt
   copy-no w g q = λ x y p t. compared-no l at e (Shifted d 0) w q x y p t g
 
@@ -144,9 +145,9 @@ module _ (l : List ℕ) (at e d : ℕ) (x : Looks l at e d) where
       }
 
 -- looking for a copy before byte goal
-none-before : (l : List ℕ) (at goal e d h : ℕ) (w : Walk) → w ≡ Upto h → Before l at goal e d w → NoneBefore l at goal e d h
-unfolding Before
-none-before l at goal e d h w g q = let m : Before l at goal e d (Upto h) = subst (Before l at goal e d) g q in m
+none-before : (l : List ℕ) (at goal e d h : ℕ) (w : Walk) → w ≡ Upto h → CopyBefore l at goal e d w → NoneBefore l at goal e d h
+unfolding CopyBefore
+none-before l at goal e d h w g q = let m : CopyBefore l at goal e d (Upto h) = subst (CopyBefore l at goal e d) g q in m
 
 reached-end : (l : List ℕ) (at goal e d h : ℕ) → h < goal → NoneBefore l at goal e d h → Ends l at h
 reached-end l at goal e d h m x = go (x .reaches)
@@ -156,21 +157,21 @@ reached-end l at goal e d h m x = go (x .reaches)
     go (inr n) = n
 
 module _ (l : List ℕ) (at goal e d : ℕ) where
-  pub before-past : goal ≤ at → Before l at goal e d (Upto at)
-  unfolding Before
+  pub before-past : goal ≤ at → CopyBefore l at goal e d (Upto at)
+  unfolding CopyBefore
   before-past h = record { reaches = inl h; within = λ x p. omega arith; none = λ x y p q i s m. absurd (omega arith) }
 
-  pub before-here : at < goal → CopyAt l at e d true → Before l at goal e d No
-  unfolding Before CopyAt
+  pub before-here : at < goal → CopyAt l at e d true → CopyBefore l at goal e d No
+  unfolding CopyBefore CopyAt
   before-here h f = λ x y p q.
       (0, omega (arith, p .some), omega arith, index-first (λ i u. Copy u y) d x (f x y p q))
 
   module _ (f : CopyAt l at e d false) where
     module _ (z : getD l at 0 ≡ 0) where
-      pub before-stop : (w : Walk) → w ≡ No → Before l (at + 4) goal e d w → Before l at goal e d No
-      unfolding Before
+      pub before-stop : (w : Walk) → w ≡ No → CopyBefore l (at + 4) goal e d w → CopyBefore l at goal e d No
+      unfolding CopyBefore
       before-stop w g q = λ x y p t.
-          let m : Before l (at + 4) goal e d No = subst (Before l (at + 4) goal e d) g q in
+          let m : CopyBefore l (at + 4) goal e d No = subst (CopyBefore l (at + 4) goal e d) g q in
           let v = application l at x p z in
           let (i, h, s, c) = m (v .f) y (v .head) t in (
             suc i,
@@ -193,8 +194,8 @@ module _ (l : List ℕ) (at goal e d : ℕ) where
           (k x y p t v) in
           subst (λ (u : Term). (j : ℕ) → j < size u → at + 4 * j < goal → ¬ Copy (partAt d u j) y) (sym (v .is)) g i s
 
-      pub before-cut : (h : ℕ) (w : Walk) → w ≡ Upto h → goal ≤ h → Before l (at + 4) goal e d w → Before l at goal e d (Upto h)
-      unfolding Before
+      pub before-cut : (h : ℕ) (w : Walk) → w ≡ Upto h → goal ≤ h → CopyBefore l (at + 4) goal e d w → CopyBefore l at goal e d (Upto h)
+      unfolding CopyBefore
       before-cut h w g m q =
           let n = none-before l (at + 4) goal e d h w g q in
           record {
@@ -203,12 +204,12 @@ module _ (l : List ℕ) (at goal e d : ℕ) where
             none = none-app h n (λ x y p t v i r s. absurd (omega (arith, n .within (v .f) (v .head))));
           }
 
-      module _ (h : ℕ) (w : Walk) (g : w ≡ Upto h) (m : h < goal) (q : Before l (at + 4) goal e d w) where
+      module _ (h : ℕ) (w : Walk) (g : w ≡ Upto h) (m : h < goal) (q : CopyBefore l (at + 4) goal e d w) where
         pub head-ends : Ends l (at + 4) h
         head-ends = reached-end l (at + 4) goal e d h m (none-before l (at + 4) goal e d h w g q)
 
-        pub before-argument : (s : Walk) → Before l h goal e d s → Before l at goal e d s
-        unfolding Before
+        pub before-argument : (s : Walk) → CopyBefore l h goal e d s → CopyBefore l at goal e d s
+        unfolding CopyBefore
         before-argument (Upto j) o =
             record {
               reaches = go (o .reaches);
@@ -234,8 +235,8 @@ module _ (l : List ℕ) (at goal e d : ℕ) where
               subst (λ (u : ℕ × Term). Copy u y) (sym (argument-index d x (v .f) (v .a) (suc (size (v .f) + i)) i (v .is) refl)) c,
             )
 
-    pub before-body : (s : Walk) → getD l at 0 ≡ 1 → Before l (at + 4) goal e (d + 1) s → Before l at goal e d s
-    unfolding Before CopyAt
+    pub before-body : (s : Walk) → getD l at 0 ≡ 1 → CopyBefore l (at + 4) goal e (d + 1) s → CopyBefore l at goal e d s
+    unfolding CopyBefore CopyAt
     before-body (Upto h) z o = record {
       reaches = go (o .reaches);
       within = λ x p. let v = abstraction l at x p z in omega (arith, ap size (v .is), o .within (v .b) (v .body));
@@ -258,8 +259,8 @@ module _ (l : List ℕ) (at goal e d : ℕ) where
         let q : Copy (partAt d (lam (v .b)) (suc i)) y = subst (λ (n : ℕ). Copy (partAt n (v .b) i) y) k c in
         (suc i, omega (arith, ap size (v .is)), omega arith, subst (λ (u : Term). Copy (partAt d u (suc i)) y) (sym (v .is)) q)
 
-    pub before-leaf : Whole l at → ¬ (getD l at 0 ≡ 0) → ¬ (getD l at 0 ≡ 1) → Before l at goal e d (Upto (at + 4))
-    unfolding Before CopyAt
+    pub before-leaf : Whole l at → ¬ (getD l at 0 ≡ 0) → ¬ (getD l at 0 ≡ 1) → CopyBefore l at goal e d (Upto (at + 4))
+    unfolding CopyBefore CopyAt
     before-leaf a n m = record {
       reaches = inr (ends-leaf l at n m a);
       within = λ x p. omega (arith, leaf-size l at x p n m);
@@ -268,13 +269,13 @@ module _ (l : List ℕ) (at goal e d : ℕ) where
 
 -- what looking before the j-th part gives
 module _ (l : List ℕ) (at j e : ℕ) where
-  pub earlier-no : (h : ℕ) (w : Walk) → w ≡ Upto h → Before l at (at + 4 * j) e 0 w → Earlier l at j e false
+  pub earlier-no : (h : ℕ) (w : Walk) → w ≡ Upto h → CopyBefore l at (at + 4 * j) e 0 w → Earlier l at j e false
   unfolding Earlier
   earlier-no h w g q = λ x y p t i r s. none-before l at (at + 4 * j) e 0 h w g q .none x y p t i s (omega arith)
 
-  pub earlier-yes : (w : Walk) → w ≡ No → Before l at (at + 4 * j) e 0 w → Earlier l at j e true
-  unfolding Earlier Before
+  pub earlier-yes : (w : Walk) → w ≡ No → CopyBefore l at (at + 4 * j) e 0 w → Earlier l at j e true
+  unfolding Earlier CopyBefore
   earlier-yes w g q = λ x y p t.
-      let m : Before l at (at + 4 * j) e 0 No = subst (Before l at (at + 4 * j) e 0) g q in
+      let m : CopyBefore l at (at + 4 * j) e 0 No = subst (CopyBefore l at (at + 4 * j) e 0) g q in
       let (i, r, s, c) = m x y p t in
       (i, omega arith, r, c)

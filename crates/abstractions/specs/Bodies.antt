@@ -1,14 +1,15 @@
 -- What counting the copies of an argument and writing a body need, and what they leave. Copies and bodies are those of `matching`: a body
 -- is the target with some copies replaced by a local, by a choice at each.
---   chosenIn m i                         choice i is made, in the table m of choices: its byte i isn't 0
---   Counting l at d e                    terms stand in l from byte `at` and from byte e on, and d binders above the first can be counted
---   Counts l at d e next n               the term at byte `at` of l, below d binders, has n copies of the one at byte e,
---                                        and ends at byte next
---   Choosing l at d e last k room o      a body can be written from byte o on, before byte `room`, with the choices from k on,
---                                        before choice `last`
---   Chose l at d m k out o after end     the copy at byte `at` of l was written into out from byte o on, by choice k
---   Body l at d e m k out o after next end j   the body by the choices from k on was written into out from byte o on,
---                                              and choice j is the next
+--   chosenIn m i                               choice i is made, in the table m of choices: its byte i isn't 0
+--   Counting l at d e                          terms stand in l from byte `at` and from byte e on, and d binders above the first can be
+--                                              counted
+--   CopiesCounted l at d e next n              the term at byte `at` of l, below d binders, has n copies of the one at byte e, and ends at
+--                                              byte next
+--   BodySource l at d e last k room o          a body can be written from byte o on, before byte `room`, with the choices from k on, before
+--                                              choice `last`
+--   Chose l at d m k out o after end           the copy at byte `at` of l was written into out from byte o on, by choice k
+--   Body l at d e m k out o after next end j   the body by the choices from k on was written into out from byte o on, and choice j is the
+--                                              next
 use mathlib.Core.Path.{_≡_}
 use mathlib.Core.Bool.{Bool}
 use mathlib.Core.List.{List}
@@ -19,7 +20,7 @@ use lib.Seq.{sets}
 use Rattle.terms.specs.Figures.{tableBytes}
 use Rattle.terms.specs.Term.{Term, size, shift}
 use Rattle.terms.specs.Table.{encode}
-use Rattle.matching.proofs.Bodies.{copies, choose, body}
+use Rattle.matching.specs.Bodies.{copies, choose, body}
 use Rattle.records.specs.Parts.{Part, Whole, Ends}
 use Rattle.sweeping.specs.Writers.{Source}
 
@@ -33,12 +34,12 @@ pub record Counting (l : List ℕ) (at d e : ℕ) : Type 0 where
   pub most : length l ≤ tableBytes
   pub shallow : d + length l ≤ at + tableBytes
 
-pub record Counts (l : List ℕ) (at d e next n : ℕ) : Type 0 where
+pub record CopiesCounted (l : List ℕ) (at d e next n : ℕ) : Type 0 where
   pub ends : Ends l at next
   pub few : at + 4 * n ≤ next
   pub exact : (t y : Term) → Part l at t → Part l e y → n ≡ copies y d t
 
-pub record Choosing (l : List ℕ) (at d e last k room o : ℕ) : Type 0 where
+pub record BodySource (l : List ℕ) (at d e last k room o : ℕ) : Type 0 where
   pub source : Source (shift 1) l at d room o
   pub argument : Whole l e
   pub most : length l ≤ tableBytes

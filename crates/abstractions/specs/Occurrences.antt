@@ -1,16 +1,16 @@
 -- The parts of a part, numbered in table order as `matching` numbers them: how deep one stands, and whether one is a copy of a term.
---   DepthOf l at j r         r binders stand between the start of the part at byte `at` and its j-th part
---   DepthSource l at d room o     a term stands in l from byte `at` on, and the depths of its records, counted from d,
---                                 can be written from index o on,
---                            before index `room`: they fit a byte
---   WroteDepths l at d out o after r  that term ends at byte r, the depth of its j-th record stands at index o + j,
---                                     and what stands elsewhere is kept
---   Looks l at e d           terms stand in l from byte `at` and from byte e on, and d binders above the first can be counted further
---   CopyAt l at e d r        r says whether the part at byte `at` is the one at byte e, moved in below d binders
---   NoneBefore l at goal e d h  no part of the part at byte `at` that stands before byte goal is such a copy,
---                               and h is its end or in it, from goal on
---   Before l at goal e d r   the same for r, or one is
---   Earlier l at j e r       r says whether one of the first j parts of the part at byte `at` is such a copy
+--   DepthOf l at j r                   r binders stand between the start of the part at byte `at` and its j-th part
+--   DepthSource l at d room o          a term stands in l from byte `at` on, and the depths of its records, counted from d, can be written
+--                                      from index o on, before index `room`: they fit a byte
+--   WroteDepths l at d out o after r   that term ends at byte r, the depth of its j-th record stands at index o + j, and what stands
+--                                      elsewhere is kept
+--   Looks l at e d                     terms stand in l from byte `at` and from byte e on, and d binders above the first can be counted
+--                                      further
+--   CopyAt l at e d r                  r says whether the part at byte `at` is the one at byte e, moved in below d binders
+--   NoneBefore l at goal e d h         no part of the part at byte `at` that stands before byte goal is such a copy, and h is its end or in
+--                                      it, from goal on
+--   CopyBefore l at goal e d r         the same for r, or one is
+--   Earlier l at j e r                 r says whether one of the first j parts of the part at byte `at` is such a copy
 use mathlib.Core.Path.{_≡_}
 use mathlib.Core.Bool.{Bool, true, false}
 use mathlib.Core.List.{List}
@@ -19,7 +19,7 @@ use Prim.Native.Nat.{ℕ, _+_, _*_, _≤_, _<_}
 use lib.ListN.{length, getD}
 use Rattle.terms.specs.Figures.{tableBytes}
 use Rattle.terms.specs.Term.{Term, size}
-use Rattle.matching.proofs.Occurrences.{partAt, Copy}
+use Rattle.matching.specs.Occurrences.{partAt, Copy}
 use Rattle.records.specs.Parts.{Part, Whole, Ends}
 use Rattle.records.specs.Tests.{Says}
 use Rattle.records.specs.declared.Walk.{Walk}
@@ -60,9 +60,9 @@ pub record NoneBefore (l : List ℕ) (at goal e d h : ℕ) : Type 0 where
   pub within : (x : Term) → Part l at x → h ≤ at + 4 * size x
   pub none : (x y : Term) → Part l at x → Part l e y → (i : ℕ) → i < size x → at + 4 * i < goal → ¬ Copy (partAt d x i) y
 
-unfoldable pub Before : List ℕ → ℕ → ℕ → ℕ → ℕ → Walk → Type 0
-Before l at goal e d (Upto h) = NoneBefore l at goal e d h
-Before l at goal e d No = (x y : Term) → Part l at x → Part l e y → (i : ℕ) × (i < size x) × (at + 4 * i < goal) × Copy (partAt d x i) y
+unfoldable pub CopyBefore : List ℕ → ℕ → ℕ → ℕ → ℕ → Walk → Type 0
+CopyBefore l at goal e d (Upto h) = NoneBefore l at goal e d h
+CopyBefore l at goal e d No = (x y : Term) → Part l at x → Part l e y → (i : ℕ) × (i < size x) × (at + 4 * i < goal) × Copy (partAt d x i) y
 
 unfoldable pub Earlier : List ℕ → ℕ → ℕ → ℕ → Bool → Type 0
 Earlier l at j e true = (x y : Term) → Part l at x → Part l e y → (i : ℕ) × (i < j) × (i < size x) × Copy (partAt 0 x i) y

@@ -5,6 +5,10 @@
 // which some of them are replaced. Each function walks over parts by their positions and promises its answer for the very terms that stand
 // there. It rests on `shifting` to compare terms under binders, on `records` and `sweeping` for reading and writing them, and on `matching`
 // for the numbering of parts and copies.
+//
+// A body is named by the choices made at the copies, left to right, which makes both completeness and "none twice" a fact about choices;
+// each body is written in one pass over the target. It costs writing the part before the last choice again. A benchmark in which writing
+// bodies dominates would change that.
 
 use records::Kind;
 use records::RECORD;
@@ -14,8 +18,8 @@ ghost use lib.ListN.{length};
 ghost use Rattle.terms.specs.Figures.{numbers};
 ghost use Rattle.terms.specs.Term.{shift};
 ghost use Rattle.sweeping.specs.Writers.{Source};
-ghost use Rattle.abstractions.specs.Bodies.{Counting, Counts, Choosing, Chose, Body};
-ghost use Rattle.abstractions.specs.Occurrences.{DepthSource, WroteDepths, Looks, CopyAt, Before, Earlier};
+ghost use Rattle.abstractions.specs.Bodies.{Counting, CopiesCounted, BodySource, Chose, Body};
+ghost use Rattle.abstractions.specs.Occurrences.{DepthSource, WroteDepths, Looks, CopyAt, CopyBefore, Earlier};
 
 // Where a part ends, and how many copies of a term it has.
 pub struct Counted {
@@ -27,7 +31,7 @@ pub struct Counted {
 // the binders above it; within a copy no other is counted.
 pub fn copies(s: &[u8], at: usize, d: usize, e: usize) -> Counted
     requires { ⌜ Counting (now s) at d e ⌝ }
-    ensures { λ r. ⌜ Counts (now (s .entry)) at d e (r .end) (r .count) ⌝ }
+    ensures { λ r. ⌜ CopiesCounted (now (s .entry)) at d e (r .end) (r .count) ⌝ }
 {
     let walk = shifting::copy_end(s, at, e, d);
     if let Walk::Upto(end) = walk {
@@ -93,7 +97,7 @@ pub fn body_into(
     out: &mut [u8],
     o: usize,
 ) -> Built
-    requires { ⌜ Choosing (now s) at d e (length (now chosen)) k (length (now out)) o ⌝ }
+    requires { ⌜ BodySource (now s) at d e (length (now chosen)) k (length (now out)) o ⌝ }
     ensures { λ r. ⌜ Body (now (s .entry)) at d e (now (chosen .entry)) k (now (out .entry)) o (now (out .exit))
         (r .next) (r .end) (r .k) ⌝ }
 {
@@ -158,7 +162,7 @@ fn is_copy(s: &[u8], at: usize, e: usize, d: usize) -> bool
 // stops at the first.
 fn copy_before(s: &[u8], at: usize, goal: usize, e: usize, d: usize) -> Walk
     requires { ⌜ Looks (now s) at e d ⌝ }
-    ensures { λ r. ⌜ Before (now (s .entry)) at goal e d r ⌝ }
+    ensures { λ r. ⌜ CopyBefore (now (s .entry)) at goal e d r ⌝ }
 {
     if goal <= at {
         return Walk::Upto(at);

@@ -8,8 +8,9 @@ use lib.Dec.{eqb}
 use lib.ListN.{getD}
 use borrow.Author.Tests.{eqb-false}
 use Rattle.terms.specs.Term.{Term, app}
-use Rattle.terms.proofs.Locals.{rigid}
-use Rattle.matching.proofs.Prune.{Unlike, unlike-kind, unlike-head, unlike-constant}
+use Rattle.terms.specs.Heads.{rigid}
+use Rattle.matching.specs.Occurrences.{Unlike}
+use Rattle.matching.proofs.Prune.{unlike-kind, unlike-head, unlike-constant}
 use Rattle.records.specs.Record.{numberAt}
 use Rattle.records.proofs.Parts.{kind-at, number-at, application}
 use Rattle.agenda.specs.Heads.{Agree}

@@ -15,15 +15,15 @@ use Rattle.terms.specs.Listing.{Line}
 use Rattle.terms.specs.Layout.{wordAt}
 use Rattle.terms.specs.Refusal.{OccursIn}
 use Rattle.terms.proofs.Table.{encode-length}
-use Rattle.matching.proofs.Goals.{Goal, Goal.match, Goal.build, Listable}
+use Rattle.matching.specs.Goals.{Goal, Goal.match, Goal.build, Listable}
 use Rattle.records.specs.Parts.{Part}
 use Rattle.records.proofs.Parts.{part}
 use Rattle.assignments.specs.declared.Entry.{Entry}
 use Rattle.assignments.specs.declared.Entry.the-variants.{Open, Assigned}
 use Rattle.assignments.specs.Held.{EntryHeld, Holds}
 use Rattle.agenda.specs.declared.Agenda.{Agenda}
-use Rattle.agenda.specs.declared.Item.{Item}
-use Rattle.agenda.specs.Items.{itemBytes, ItemAt}
+use Rattle.agenda.specs.declared.StoredGoal.{StoredGoal}
+use Rattle.agenda.specs.Stored.{storedBytes, StoredAt}
 use Rattle.agenda.specs.State.{Target, GoalAt, Chain, State, targetAt, nextAt, argumentAt}
 
 pub record Kept (W X : List ℕ) (top : ℕ) : Type 0 where
@@ -128,7 +128,7 @@ pub state-kept :
     → State k P W s a gs hs l → State k P X s a gs hs l
 state-kept n P W X s a gs hs l k x = record {
   easy = chain-kept W X (s .top) k (s .top) (omega arith) P _ (s .easy) gs (x .easy);
-  hard = chain-kept W X (s .top) k (s .top) (omega arith) P _ (s .hard) hs (x .hard);
+  deferred = chain-kept W X (s .top) k (s .top) (omega arith) P _ (s .deferred) hs (x .deferred);
   entries = holds-kept W X (s .top) k (s .top) (omega arith) a l (x .entries);
   line = x .line;
   assigns = x .assigns;
@@ -173,13 +173,13 @@ kept-then W X Y top higher h x y = record {
 pub length-stored : (vs W X : List ℕ) (at : ℕ) → X ≡ sets W at vs → length X ≡ length W
 length-stored vs W X at e = ap length e ∙ length-sets W at vs
 
--- an item that was stored
-module _ (W X : List ℕ) (at : ℕ) (r : Item) (e : X ≡ sets W at (itemBytes r)) (room : at + 8 ≤ length W) where
-  byte : (i j : ℕ) → i < 8 → j ≡ at + i → getD X j 0 ≡ getD (itemBytes r) i 0
-  byte i j h q = ap₂ (λ (l : List ℕ) (n : ℕ). getD l n 0) e q ∙ getD-stored (itemBytes r) W at i (omega arith) (omega arith)
+-- an stored goal that was stored
+module _ (W X : List ℕ) (at : ℕ) (r : StoredGoal) (e : X ≡ sets W at (storedBytes r)) (room : at + 8 ≤ length W) where
+  byte : (i j : ℕ) → i < 8 → j ≡ at + i → getD X j 0 ≡ getD (storedBytes r) i 0
+  byte i j h q = ap₂ (λ (l : List ℕ) (n : ℕ). getD l n 0) e q ∙ getD-stored (storedBytes r) W at i (omega arith) (omega arith)
 
-  pub item-stored : r .part % 4 ≡ 0 → r .target % 4 ≡ 0 → r .next % 4 ≡ 0 → r .argument % 4 ≡ 0 → ItemAt X at r
-  item-stored a b c d = record {
+  pub goal-stored : r .part % 4 ≡ 0 → r .target % 4 ≡ 0 → r .next % 4 ≡ 0 → r .argument % 4 ≡ 0 → StoredAt X at r
+  goal-stored a b c d = record {
     part = omega (arith, byte 0 at (omega arith) (omega arith));
     kind = sym (byte 1 (at + 1) (omega arith) (omega arith));
     target = omega (arith, byte 2 (at + 2) (omega arith) (omega arith), byte 3 (at + 2 + 1) (omega arith) (omega arith));
@@ -188,7 +188,7 @@ module _ (W X : List ℕ) (at : ℕ) (r : Item) (e : X ≡ sets W at (itemBytes 
   }
 
 -- and the list that it begins
-module _ (K : Goal → Type 0) (P X : List ℕ) (top at : ℕ) (r : Item) (x : ItemAt X at r) (low : 0 < at) (room : at + 8 ≤ top)
+module _ (K : Goal → Type 0) (P X : List ℕ) (top at : ℕ) (r : StoredGoal) (x : StoredAt X at r) (low : 0 < at) (room : at + 8 ≤ top)
     (even : at % 4 ≡ 0) (falls : r .next < at) where
   pub chain-match :
       (p t : Term) (gs : List Goal) → r .kind ≡ 0 → K (match p t) → Part P (r .part) p → Target X top (size p) (r .target) t

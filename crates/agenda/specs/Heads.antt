@@ -6,8 +6,8 @@ use mathlib.Core.Bool.{Bool, true, false}
 use mathlib.Core.List.{List}
 use Prim.Native.Nat.{ℕ}
 use Rattle.terms.specs.Term.{Term}
-use Rattle.terms.proofs.Locals.{rigid}
-use Rattle.matching.proofs.Prune.{Unlike}
+use Rattle.terms.specs.Heads.{rigid}
+use Rattle.matching.specs.Occurrences.{Unlike}
 use Rattle.records.specs.Parts.{Part}
 
 unfoldable pub Agree : List ℕ → ℕ → List ℕ → ℕ → Bool → Type 0

@@ -1,5 +1,5 @@
 pub mod Heads
-pub mod Items
+pub mod Stored
 pub mod Locals
 pub mod Moves
 pub mod State

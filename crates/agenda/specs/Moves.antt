@@ -11,9 +11,8 @@ use lib.ListN.{take}
 use Rattle.terms.specs.Figures.{tableBytes}
 use Rattle.terms.specs.Term.{Term}
 use Rattle.terms.specs.Listing.{Line}
-use Rattle.matching.proofs.Lines.{Values}
-use Rattle.matching.proofs.Lists.{Predicate}
-use Rattle.matching.proofs.Goals.{Goal}
+use Rattle.matching.specs.Lists.{Values, Predicate}
+use Rattle.matching.specs.Goals.{Goal}
 use Rattle.assignments.specs.declared.Entry.{Entry}
 use Rattle.agenda.specs.declared.Agenda.{Agenda}
 use Rattle.agenda.specs.declared.Branch.{Branch}

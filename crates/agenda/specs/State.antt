@@ -1,17 +1,18 @@
 -- How the goals, targets and values of a search stand in the work area.
 --   patternAt, targetAt, nextAt, argumentAt   the four fields of a goal that stands at a byte of the work area, as bytes
---   targetBytes             the most bytes of a target
---   Target W top n at t     the term t stands in W from byte `at` on, below `top`, and is small enough for a part of n records to meet
---   GoalAt P W top at g     the goal g stands in W at byte `at`
---   Easy g, Hard g          g may stand in the list of the easy goals, or of those put off
---   Chain K P W top at gs   the goals gs, all of kind K, are a linked list in W that begins at byte `at`
---   weights k gs            the bytes that the goals gs may still take up, k more for each
---   relinking               the bytes that bringing a goal forward may take up
---   State k P W s a gs hs l the agenda s has the easy goals gs and the goals hs put off, the entries a are the line l, and the work area
+--   targetBytes                               the most bytes of a target
+--   Target W top n at t                       the term t stands in W from byte `at` on, below `top`, and is small enough for a part of n
+--                                             records to meet
+--   GoalAt P W top at g                       the goal g stands in W at byte `at`
+--   Easy g, Deferred g                        g may stand in the list of the easy goals, or of those deferred
+--   Chain K P W top at gs                     the goals gs, all of kind K, are a linked list in W that begins at byte `at`
+--   weights k gs                              the bytes that the goals gs may still take up, k more for each
+--   relinking                                 the bytes that bringing a goal forward may take up
+--   State k P W s a gs hs l the agenda s has the easy goals gs and the goals hs deferred, the entries a are the line l, and the work area
 --                           suffices for the goals but for k bytes
---   Sat gs hs l φ           φ satisfies the goals and extends the line
---   Bounds P W s            the bounds that every step needs
---   Ready k P W s a         some state stands there
+--   Sat gs hs l φ                             φ satisfies the goals and extends the line
+--   Bounds P W s                              the bounds that every step needs
+--   Ready k P W s a                           some state stands there
 use mathlib.Core.Path.{_≡_}
 use mathlib.Core.List.{List, [], _∷_}
 use Prim.Native.Nat.{ℕ, suc, _+_, _-_, _*_, _%_, _<_, _≤_}
@@ -22,9 +23,8 @@ use Rattle.terms.specs.Assignment.{Assigns}
 use Rattle.terms.specs.Listing.{Line}
 use Rattle.terms.specs.Layout.{wordAt}
 use Rattle.terms.specs.Refusal.{OccursIn}
-use Rattle.matching.proofs.Lines.{Extends}
-use Rattle.matching.proofs.Lists.{Predicate}
-use Rattle.matching.proofs.Goals.{Goal, Goal.match, Goal.build, All, Listable}
+use Rattle.matching.specs.Lists.{Extends, Predicate}
+use Rattle.matching.specs.Goals.{Goal, Goal.match, Goal.build, All, Listable}
 use Rattle.records.specs.Parts.{Part}
 use Rattle.assignments.specs.declared.Entry.{Entry}
 use Rattle.assignments.specs.Held.{Holds}
@@ -78,13 +78,13 @@ abbrev pub Easy : Goal → Type 0
 Easy (match p t) = Unit {0}
 Easy (build f t e) = ⊥
 
-abbrev pub Hard : Goal → Type 0
-Hard (match (app f a) t) = Unit {0}
-Hard (match (lam b) t) = ⊥
-Hard (match (loc n) t) = ⊥
-Hard (match (con n) t) = ⊥
-Hard (match (var n) t) = ⊥
-Hard (build f t e) = Unit {0}
+abbrev pub Deferred : Goal → Type 0
+Deferred (match (app f a) t) = Unit {0}
+Deferred (match (lam b) t) = ⊥
+Deferred (match (loc n) t) = ⊥
+Deferred (match (con n) t) = ⊥
+Deferred (match (var n) t) = ⊥
+Deferred (build f t e) = Unit {0}
 
 pub record Node (K : Goal → Type 0) (P W : List ℕ) (top at : ℕ) (g : Goal) : Type 0 where
   pub kind : K g
@@ -106,13 +106,13 @@ abbrev pub weights : ℕ → List Goal → ℕ
 weights k [] = 0
 weights k (g ∷ gs) = k + weight g + weights k gs
 
--- at most 32 goals are put off, each with a weight of 2,000 or more
+-- at most 32 goals are deferred, each with a weight of 2,000 or more
 abbrev pub relinking : ℕ
 relinking = 256
 
 pub record State (k : ℕ) (P W : List ℕ) (s : Agenda) (a : List Entry) (gs hs : List Goal) (l : Line) : Type 0 where
   pub easy : Chain Easy P W (s .top) (s .easy) gs
-  pub hard : Chain Hard P W (s .top) (s .hard) hs
+  pub deferred : Chain Deferred P W (s .top) (s .deferred) hs
   pub entries : Holds W (s .top) a l
   pub line : length l ≡ variables
   pub assigns : Assigns (OccursIn P) l
@@ -129,8 +129,8 @@ pub record Bounds (P W : List ℕ) (s : Agenda) : Type 0 where
   pub even : s .top % 4 ≡ 0
   pub easy-room : s .easy + 8 ≤ s .top
   pub easy-even : s .easy % 4 ≡ 0
-  pub hard-room : s .hard + 8 ≤ s .top
-  pub hard-even : s .hard % 4 ≡ 0
+  pub deferred-room : s .deferred + 8 ≤ s .top
+  pub deferred-even : s .deferred % 4 ≡ 0
 
 pub record Ready (k : ℕ) (P W : List ℕ) (s : Agenda) (a : List Entry) : Type 0 where
   pub gs : List Goal

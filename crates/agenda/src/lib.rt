@@ -5,6 +5,12 @@
 // goals, and tells what their heads and locals show. Its definitions say what an agenda means, what a step may make of it, and that the
 // work area suffices; the steps themselves are the crates above it. It rests on `matching` for the mathematics, on `records` and
 // `shifting` for single terms, and on `assignments` for how entries hold a line.
+//
+// The work area's budget is a sum over the goals: a goal may still take up 2,000 bytes for each record of its part of the pattern, and each
+// step takes what it writes from its goal's share. 32 records, a recipe of 96 and the first goal come to 64,400 of 65,536 bytes. The bound
+// on targets, 160 records, and that on loose locals are stated for each goal by the size of its part. Longer patterns or recipes would
+// change that. Types that several crates of the search share stand here: the kit wants no type whose name is a function's but for its
+// capital.
 
 pub mod heads;
 pub mod locals;
@@ -17,14 +23,14 @@ ghost use mathlib.Core.Path.{_≡_};
 ghost use Prim.Native.Nat.{_+_, _≤_};
 ghost use lib.ListN.{length};
 ghost use lib.Seq.{sets};
-ghost use Rattle.agenda.specs.Items.{itemBytes, ItemAt, Fits, matchItem, buildItem};
+ghost use Rattle.agenda.specs.Stored.{storedBytes, StoredAt, StoredFits, storedMatch, storedBuild};
 
 // Where a search stands in the work area: the first free byte, and where its two lists of goals begin (0: none is left). Easy goals have
-// one way to go on; the others are put off until no easy one is left.
+// one way to go on; the others are deferred until no easy one is left.
 pub struct Agenda {
     pub top: usize,
     pub easy: usize,
-    pub hard: usize,
+    pub deferred: usize,
 }
 
 // A variable that takes a value, and the agenda then.
@@ -53,7 +59,7 @@ pub struct Skeleton {
     pub length: usize,
 }
 
-// What is known of an application that was put off, before its ways are gone through: how many there are, where its argument begins in the
+// What is known of an application that was deferred, before its ways are gone through: how many there are, where its argument begins in the
 // pattern, whether the argument has a rigid head, its skeleton, whether the application's head lacks a local of the target, and how many
 // binders stand above each record of the target.
 pub struct Ways {
@@ -65,7 +71,7 @@ pub struct Ways {
     pub depths: [u8; VALUE_RECORDS],
 }
 
-// What a test of goals put off comes to: no assignment satisfies them, or the agenda that is left, or that the test doesn't apply.
+// What a test of deferred goals comes to: no assignment satisfies them, or the agenda that is left, or that the test doesn't apply.
 pub enum Decision {
     Failed,
     Next(Agenda),
@@ -81,7 +87,7 @@ pub enum Plan {
 
 // A goal of a list: the part of the pattern, its kind, its target, the next goal (0: none) and, of a goal to build, the argument's target.
 // All but the kind are positions in bytes; what stands in the work area is record numbers.
-pub struct Item {
+pub struct StoredGoal {
     pub part: usize,
     pub kind: u8,
     pub target: usize,
@@ -89,7 +95,7 @@ pub struct Item {
     pub argument: usize,
 }
 
-impl Item {
+impl StoredGoal {
     // The part sweeps to the target.
     pub const MATCH: u8 = 0;
 
@@ -98,18 +104,18 @@ impl Item {
 }
 
 // The bytes of a goal in the work area.
-pub const ITEM: usize = 8;
+pub const GOAL: usize = 8;
 
 // The most bytes of a target.
 pub const TARGET_BYTES: usize = RECORD * VALUE_RECORDS;
 
 // The goal that a part sweeps to a target.
-pub fn match_item(part: usize, target: usize, next: usize) -> Item
-    ensures { λ r. ⌜ r ≡ matchItem part target next ⌝ }
+pub fn match_goal(part: usize, target: usize, next: usize) -> StoredGoal
+    ensures { λ r. ⌜ r ≡ storedMatch part target next ⌝ }
 {
-    Item {
+    StoredGoal {
         part,
-        kind: Item::MATCH,
+        kind: StoredGoal::MATCH,
         target,
         next,
         argument: 0,
@@ -117,12 +123,12 @@ pub fn match_item(part: usize, target: usize, next: usize) -> Item
 }
 
 // The goal that a part builds a target from an argument's target.
-pub fn build_item(part: usize, target: usize, next: usize, argument: usize) -> Item
-    ensures { λ r. ⌜ r ≡ buildItem part target next argument ⌝ }
+pub fn build_goal(part: usize, target: usize, next: usize, argument: usize) -> StoredGoal
+    ensures { λ r. ⌜ r ≡ storedBuild part target next argument ⌝ }
 {
-    Item {
+    StoredGoal {
         part,
-        kind: Item::BUILD,
+        kind: StoredGoal::BUILD,
         target,
         next,
         argument,
@@ -130,12 +136,12 @@ pub fn build_item(part: usize, target: usize, next: usize, argument: usize) -> I
 }
 
 // The goal at byte `at`.
-pub fn item_at(work: &[u8], at: usize) -> Item
+pub fn goal_at(work: &[u8], at: usize) -> StoredGoal
     requires { ⌜ at + 8 ≤ length (now work) ⌝ }
-    ensures is { λ r. ⌜ ItemAt (now (work .entry)) at r ⌝ }
-    ensures fits { λ r. ⌜ Fits r ⌝ }
+    ensures is { λ r. ⌜ StoredAt (now (work .entry)) at r ⌝ }
+    ensures fits { λ r. ⌜ StoredFits r ⌝ }
 {
-    Item {
+    StoredGoal {
         part: records::wide(work[at]) * RECORD,
         kind: work[at + 1],
         target: records::word_at(work, at + 2) * RECORD,
@@ -145,16 +151,16 @@ pub fn item_at(work: &[u8], at: usize) -> Item
 }
 
 // Writes a goal at byte `at`; nothing else changes.
-pub fn put_item(work: &mut [u8], at: usize, item: Item)
-    requires { ⌜ (at + 8 ≤ length (now work)) × Fits item ⌝ }
-    ensures { λ _. ⌜ now (work .exit) ≡ sets (now (work .entry)) at (itemBytes item) ⌝ }
+pub fn put_goal(work: &mut [u8], at: usize, goal: StoredGoal)
+    requires { ⌜ (at + 8 ≤ length (now work)) × StoredFits goal ⌝ }
+    ensures { λ _. ⌜ now (work .exit) ≡ sets (now (work .entry)) at (storedBytes goal) ⌝ }
 {
-    let part = item.part / RECORD;
-    let target = item.target / RECORD;
-    let next = item.next / RECORD;
-    let argument = item.argument / RECORD;
+    let part = goal.part / RECORD;
+    let target = goal.target / RECORD;
+    let next = goal.next / RECORD;
+    let argument = goal.argument / RECORD;
     work[at] = (part % 256) as u8;
-    work[at + 1] = item.kind;
+    work[at + 1] = goal.kind;
     work[at + 2] = (target / 256 % 256) as u8;
     work[at + 3] = (target % 256) as u8;
     work[at + 4] = (next / 256 % 256) as u8;

@@ -10,14 +10,14 @@ ghost use Rattle.records.specs.Parts.{Whole};
 ghost use Rattle.agenda.specs.Locals.{Unused, Locals, Lacks};
 
 // Whether local k is marked, and the part of p at byte i doesn't use it.
-pub fn is_unused(p: &[u8], i: usize, k: usize, mark: u8) -> bool
-    requires { ⌜ Whole (now p) i × (k + length (now p) ≤ i + tableBytes) ⌝ }
-    ensures { λ r. ⌜ Unused (now (p .entry)) i k mark r ⌝ }
+pub fn is_unused(pattern: &[u8], i: usize, k: usize, mark: u8) -> bool
+    requires { ⌜ Whole (now pattern) i × (k + length (now pattern) ≤ i + tableBytes) ⌝ }
+    ensures { λ r. ⌜ Unused (now (pattern .entry)) i k mark r ⌝ }
 {
     if mark != 1 {
         return false;
     }
-    let walk = records::ask_at(p, i, Ask::Other, k);
+    let walk = records::ask_at(pattern, i, Ask::Other, k);
     match walk {
         Walk::Upto(_) => true,
         Walk::No => false,
@@ -25,15 +25,15 @@ pub fn is_unused(p: &[u8], i: usize, k: usize, mark: u8) -> bool
 }
 
 // Whether the part of work at byte j has a loose local that the part of p at byte i lacks, which no assignment can bring in.
-pub fn lacks_local(p: &[u8], i: usize, work: &[u8], j: usize) -> bool
-    requires { ⌜ Locals (now p) i (now work) j ⌝ }
-    ensures { λ r. ⌜ Lacks (now (p .entry)) i (now (work .entry)) j r ⌝ }
+pub fn lacks_local(pattern: &[u8], i: usize, work: &[u8], j: usize) -> bool
+    requires { ⌜ Locals (now pattern) i (now work) j ⌝ }
+    ensures { λ r. ⌜ Lacks (now (pattern .entry)) i (now (work .entry)) j r ⌝ }
 {
     let mut marks = [0u8; PATTERN_RECORDS];
     shifting::loose_locals(work, j, 0, &mut marks);
     let mut k = 0;
     while k < PATTERN_RECORDS {
-        if is_unused(p, i, k, marks[k]) {
+        if is_unused(pattern, i, k, marks[k]) {
             return true;
         }
         k += 1;

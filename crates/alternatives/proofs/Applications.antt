@@ -1,7 +1,7 @@
--- The ways of an application that was put off: what each writes at the top is the goals that it leaves, and the goals that are kept stand
+-- The ways of an application that was deferred: what each writes at the top is the goals that it leaves, and the goals that are kept stand
 -- where they stood. A goal's weight pays for what is written, since the parts of the application weigh less than it does. Assumes nothing.
---   Site P W s r f b t   the item r, first of those put off, is the goal that the application of f and b sweeps to t
---   Numbers P W s r      what reading that goal and writing at the top needs
+--   ApplicationSite P W s r f b t   the stored goal r, first of those deferred, is the goal that the application of f and b sweeps to t
+--   StoredBounds P W s r            what reading that goal and writing at the top needs
 use mathlib.Core.Path.{_≡_, refl, sym, ap, _∙_, subst}
 use mathlib.Core.Bool.{Bool, true}
 use mathlib.Core.List.{List, [], _∷_}
@@ -14,15 +14,16 @@ use Rattle.terms.specs.Term.{Term, app, lam, loc, con, var, size, shift}
 use Rattle.terms.specs.Table.{bytes, encode}
 use Rattle.terms.specs.Listing.{Line}
 use Rattle.terms.specs.Refusal.{OccursIn}
-use Rattle.terms.proofs.Locals.{rigid}
+use Rattle.terms.specs.Heads.{rigid}
 use Rattle.terms.proofs.Table.{kind, encode-length}
 use Rattle.terms.proofs.Shift.{size-shift}
-use Rattle.matching.proofs.Lines.{Values}
-use Rattle.matching.proofs.Partial.{total}
-use Rattle.matching.proofs.Goals.{Goal, Goal.match, Goal.build, Listable}
+use Rattle.matching.specs.Lists.{Values}
+use Rattle.matching.specs.Goals.{Goal, Goal.match, Goal.build, Listable}
+use Rattle.matching.specs.Alternatives.{constant}
+use Rattle.matching.proofs.Partial.{totalOf}
 use Rattle.matching.proofs.Alternatives.{alternative-parts, alternative-no-parts, listable-parts, listable-constant}
 use Rattle.matching.proofs.Prune.{no-local, constant-local}
-use Rattle.matching.proofs.Step.{constant, constant-normal}
+use Rattle.matching.proofs.Step.{constant-normal}
 use Rattle.matching.proofs.Targets.{closed-more, closed-shift, constant-closed, constant-ground}
 use Rattle.records.specs.Parts.{Part, Whole, Ends}
 use Rattle.records.proofs.Parts.{application, kind-at, whole}
@@ -33,23 +34,23 @@ use Rattle.copying.proofs.Stores as Stores
 use Rattle.assignments.specs.declared.Entry.{Entry}
 use Rattle.agenda.specs.declared.Agenda.{Agenda}
 use Rattle.agenda.specs.declared.Branch.{Branch}
-use Rattle.agenda.specs.declared.Item.{Item}
+use Rattle.agenda.specs.declared.StoredGoal.{StoredGoal}
 use Rattle.agenda.specs.declared.Skeleton.{Skeleton}
 use Rattle.agenda.specs.declared.Ways.{Ways}
-use Rattle.agenda.specs.Items.{itemBytes, ItemAt, Fits}
-use Rattle.agenda.specs.State.{targetBytes, Target, State, Bounds, Easy, Hard, Chain, relinking}
+use Rattle.agenda.specs.Stored.{storedBytes, StoredAt, StoredFits}
+use Rattle.agenda.specs.State.{targetBytes, Target, State, Bounds, Easy, Deferred, Chain, relinking}
 use Rattle.agenda.specs.Moves.{Question, Move, Moved, Failed, Branched}
 use Rattle.abstractions.proofs.Depths.{depth-source, depth-written}
 use Rattle.abstractions.specs.Occurrences.{DepthSource, WroteDepths}
-use Rattle.alternatives.specs.Ways.{Way, HasWays, HasDepths, Lacking, Fitting}
-use Rattle.builds.specs.Outlines.{Outlines, Sketch}
-use Rattle.builds.specs.Builds.{Pushes, Pushed, targetItem, afterItem}
-use Rattle.alternatives.specs.Applications.{Matches, Counted}
-use Rattle.agenda.specs.Items.{matchItem, buildItem}
+use Rattle.alternatives.specs.Ways.{Way, HasWays, HasDepths, HeadLacks, Fitting}
+use Rattle.builds.specs.Refuting.{SkeletonSource, PartSkeleton}
+use Rattle.builds.specs.Builds.{Pushes, StoredPushed, storedTarget, afterStored}
+use Rattle.alternatives.specs.Applications.{ApplicationDeferred, Counted}
+use Rattle.agenda.specs.Stored.{storedMatch, storedBuild}
 use Rattle.agenda.specs.Locals.{Locals, Lacks}
 use Rattle.agenda.proofs.Frame.{Kept, part-kept, part-stored, target-kept, chain-kept, holds-kept, kept-sets, kept-then, length-stored}
-use Rattle.agenda.proofs.Frame.{item-stored, chain-match}
-use Rattle.builds.proofs.Outlining.{line-values, extended-values}
+use Rattle.agenda.proofs.Frame.{goal-stored, chain-match}
+use Rattle.builds.proofs.Refutations.{line-values, extended-values}
 
 -- the head and the argument of an application that stands in a table
 pub application-parts : (l : List ℕ) (at : ℕ) (f b : Term) → Part l at (app f b) → Part l (at + 4) f × Part l (at + 4 + 4 * size f) b
@@ -66,30 +67,31 @@ argument-from l at h f b e x =
     let v = application-parts l at f b x in
     subst (λ (i : ℕ). Part l i b) (sym (e .exact f (v .0))) (v .1)
 
-pub record Site (P W : List ℕ) (s : Agenda) (r : Item) (f b t : Term) : Type 0 where
+pub record ApplicationSite (P W : List ℕ) (s : Agenda) (r : StoredGoal) (f b t : Term) : Type 0 where
   pub part : Part P (r .part) (app f b)
   pub target : Target W (s .top) (size (app f b)) (r .target) t
   pub suits : Listable variables (OccursIn P) (match (app f b) t)
-  pub next : r .next < s .hard
+  pub next : r .next < s .deferred
   pub part-even : r .part % 4 ≡ 0
   pub target-even : r .target % 4 ≡ 0
   pub next-even : r .next % 4 ≡ 0
 
-pub record Numbers (P W : List ℕ) (s : Agenda) (r : Item) : Type 0 where
+pub record StoredBounds (P W : List ℕ) (s : Agenda) (r : StoredGoal) : Type 0 where
   pub head : Whole P (r .part + 4)
   pub target : Whole W (r .target)
   pub target-low : r .target + 4 ≤ s .top
   pub part-low : r .part + 12 ≤ length P
-  pub next : r .next < s .hard
+  pub next : r .next < s .deferred
   pub room : s .top + 5744 ≤ tableBytes
 
 module _ (P W : List ℕ) (s : Agenda) (a : List Entry) where
   abbrev pub MatchState : List Goal → Line → Term → Term → Term → List Goal → Type 0
   MatchState gs l f b t hs = State relinking P W s a gs (match (app f b) t ∷ hs) l
 
-  pub site : (r : Item) (gs hs : List Goal) (l : Line) (f b t : Term) → ItemAt W (s .hard) r → MatchState gs l f b t hs → Site P W s r f b t
+  pub site : (r : StoredGoal) (gs hs : List Goal) (l : Line) (f b t : Term) → StoredAt W (s .deferred) r → MatchState gs l f b t hs
+      → ApplicationSite P W s r f b t
   site r gs hs l f b t y x =
-      let n = x .hard .0 in
+      let n = x .deferred .0 in
       record {
         part = subst (λ (i : ℕ). Part P i (app f b)) (sym (y .part)) (n .goal .part);
         target = subst (λ (i : ℕ). Target W (s .top) (size (app f b)) i t) (sym (y .target)) (n .goal .target);
@@ -100,28 +102,28 @@ module _ (P W : List ℕ) (s : Agenda) (a : List Entry) where
         next-even = omega (arith, y .next);
       }
 
-  module _ (x : Matches P W s a) where
-    -- the first goal put off is an application, in each state that stands there
+  module _ (x : ApplicationDeferred P W s a) where
+    -- the first deferred goal is an application, in each state that stands there
     pub opened :
         (gs : List Goal) (l : Line) (Q : List Goal → Type 0)
         → ((f b t : Term) (hs : List Goal) → MatchState gs l f b t hs → Q (match (app f b) t ∷ hs))
         → (hs : List Goal) → State relinking P W s a gs hs l → Q hs
-    opened gs l Q h [] y = absurd (omega (arith, x .some-hard, y .hard))
+    opened gs l Q h [] y = absurd (omega (arith, x .some-deferred, y .deferred))
     opened gs l Q h (match (app f b) t ∷ hs) y = h f b t hs y
-    opened gs l Q h (match (lam b) t ∷ hs) y = absurd (y .hard .0 .kind)
-    opened gs l Q h (match (loc n) t ∷ hs) y = absurd (y .hard .0 .kind)
-    opened gs l Q h (match (con n) t ∷ hs) y = absurd (y .hard .0 .kind)
-    opened gs l Q h (match (var n) t ∷ hs) y = absurd (y .hard .0 .kind)
-    opened gs l Q h (build f t e ∷ hs) y = absurd (omega (arith, x .kind, y .hard .0 .goal .kind))
+    opened gs l Q h (match (lam b) t ∷ hs) y = absurd (y .deferred .0 .kind)
+    opened gs l Q h (match (loc n) t ∷ hs) y = absurd (y .deferred .0 .kind)
+    opened gs l Q h (match (con n) t ∷ hs) y = absurd (y .deferred .0 .kind)
+    opened gs l Q h (match (var n) t ∷ hs) y = absurd (y .deferred .0 .kind)
+    opened gs l Q h (build f t e ∷ hs) y = absurd (omega (arith, x .kind, y .deferred .0 .goal .kind))
 
     -- the state that a way starts from
     pub from : (A : Type 0) → ((gs hs : List Goal) (l : Line) (f b t : Term) → MatchState gs l f b t hs → A) → A
     from A h = opened (x .ready .gs) (x .ready .line) (λ _. A) (λ f b t hs y. h (x .ready .gs) hs (x .ready .line) f b t y)
         (x .ready .hs) (x .ready .state)
 
-    module _ (r : Item) (y : ItemAt W (s .hard) r) where
-      pub numbers : Numbers P W s r
-      numbers = from (Numbers P W s r) (λ gs hs l f b t z.
+    module _ (r : StoredGoal) (y : StoredAt W (s .deferred) r) where
+      pub numbers : StoredBounds P W s r
+      numbers = from (StoredBounds P W s r) (λ gs hs l f b t z.
           let v = site r gs hs l f b t y z in
           let u = application-parts P (r .part) f b (v .part) in
           record {
@@ -141,15 +143,15 @@ module _ (P W : List ℕ) (s : Agenda) (a : List Entry) where
       pub argument-walkable : (h : ℕ) → Ends P (r .part + 4) h → Whole P h × (patternRecords + length P ≤ h + tableBytes)
       argument-walkable h e = (argument-whole h e, omega (arith, x .ready .bounds .short))
 
-      pub argument-outlines : (h : ℕ) → Ends P (r .part + 4) h → Outlines P h W a
-      argument-outlines h e = from (Outlines P h W a) (λ gs hs l f b t z.
+      pub argument-source : (h : ℕ) → Ends P (r .part + 4) h → SkeletonSource P h W a
+      argument-source h e = from (SkeletonSource P h W a) (λ gs hs l f b t z.
           let v = site r gs hs l f b t y z in
           record {
             tree = b;
             part = argument-from P (r .part) h f b e (v .part);
             short = x .ready .bounds .short;
             below = v .suits .0 .0 .1;
-            φ = total l;
+            φ = totalOf l;
             gives = line-values P W s a l (x .ready .bounds) (z .entries) b;
           })
 
@@ -170,7 +172,7 @@ module _ (P W : List ℕ) (s : Agenda) (a : List Entry) where
 
       pub counted :
           (h g : ℕ) (c d : Bool) (m : List ℕ) (o : ℕ) (i : Skeleton) → Ends W (r .target) h → Ends P (r .part + 4) g
-          → ((t : Term) → Part P g t → c ≡ rigid t) → Sketch P g W a (i .bytes) (i .length)
+          → ((t : Term) → Part P g t → c ≡ rigid t) → PartSkeleton P g W a (i .bytes) (i .length)
           → Lacks P (r .part + 4) W (r .target) d → WroteDepths W (r .target) 0 (replicate valueRecords 0) 0 m o
           → Counted P W s a (record { count = (h - r .target) / 4 + 2; argument = g; rigid = c; skeleton = i; lacking = d; depths = m })
       unfolding Lacks
@@ -183,11 +185,11 @@ module _ (P W : List ℕ) (s : Agenda) (a : List Entry) where
             (λ f b t us v i q. depth-written W (r .target) _ m o u i t (site r gs us l f b t y v .target .part) q) hs z;
         skeleton-table = p .table;
         skeleton-fits = λ gs hs l z. opened gs l (Fitting (p .table .tree) l) (λ f b t us v φ w q.
-            p .outline b (argument-from P (r .part) g f b j (site r gs us l f b t y v .part)) φ w
+            p .is-skeleton b (argument-from P (r .part) g f b j (site r gs us l f b t y v .part)) φ w
             (extended-values P W s a l (x .ready .bounds) (v .entries) b φ q)) hs z;
         lacking-head = λ i gs hs l z.
             let q : Lacks P (r .part + 4) W (r .target) true = subst (Lacks P (r .part + 4) W (r .target)) i n in
-            opened gs l Lacking (λ f b t us o.
+            opened gs l HeadLacks (λ f b t us o.
             let v = site r gs us l f b t y o in
             let q′ = q .1 f t (application-parts P (r .part) f b (v .part) .0) (v .target .part) in
             (q .0, q′ .0, q′ .1)) hs z;
@@ -204,7 +206,7 @@ module _ (P W : List ℕ) (s : Agenda) (a : List Entry) where
       -- no way
       pub dead :
           (i : ℕ) (X : List ℕ) → take (s .top) X ≡ take (s .top) W
-          → ((f b t : Term) (gs hs : List Goal) (l : Line) (φ : ℕ → Term) → Site P W s r f b t → Values φ
+          → ((f b t : Term) (gs hs : List Goal) (l : Line) (φ : ℕ → Term) → ApplicationSite P W s r f b t → Values φ
           → ¬ Way i gs (match (app f b) t ∷ hs) l φ)
           → Failed relinking P W s a (Way i) X
       dead i X k h = record {
@@ -233,46 +235,48 @@ pub at-way :
 at-way P W s a i j X r e x = subst (λ (n : ℕ). Branched P W s a (Way n) X r) (sym e) x
 
 -- a goal that is written
-pub stored-as : (W Y : List ℕ) (at : ℕ) (i j : Item) → i ≡ j → Y ≡ sets W at (itemBytes i) → Y ≡ sets W at (itemBytes j)
-stored-as W Y at i j p q = q ∙ ap (λ (k : Item). sets W at (itemBytes k)) p
+pub stored-as : (W Y : List ℕ) (at : ℕ) (i j : StoredGoal) → i ≡ j → Y ≡ sets W at (storedBytes i) → Y ≡ sets W at (storedBytes j)
+stored-as W Y at i j p q = q ∙ ap (λ (k : StoredGoal). sets W at (storedBytes k)) p
 
 pub fits-build :
-    (i : Item) (part target next argument : ℕ) → i ≡ buildItem part target next argument → part < 1024 → target < 262144 → next < 262144
-    → argument < 262144 → Fits i
+    (i : StoredGoal) (part target next argument : ℕ) → i ≡ storedBuild part target next argument → part < 1024 → target < 262144
+    → next < 262144
+    → argument < 262144 → StoredFits i
 fits-build i part target next argument p x y z w = rw p (record { part = x; target = y; next = z; argument = w })
 
-pub fits-match : (i : Item) (part target next : ℕ) → i ≡ matchItem part target next → part < 1024 → target < 262144 → next < 262144 → Fits i
+pub fits-match : (i : StoredGoal) (part target next : ℕ) → i ≡ storedMatch part target next → part < 1024 → target < 262144 → next < 262144
+    → StoredFits i
 fits-match i part target next p x y z = rw p (record { part = x; target = y; next = z; argument = omega arith })
 
 -- the goals that the target's own parts leave
-module _ (P W : List ℕ) (s : Agenda) (a : List Entry) (r : Item) (h e : ℕ) (Y X : List ℕ) (bounds : Bounds P W s)
+module _ (P W : List ℕ) (s : Agenda) (a : List Entry) (r : StoredGoal) (h e : ℕ) (Y X : List ℕ) (bounds : Bounds P W s)
     (eh : Ends P (r .part + 4) h) (ee : Ends W (r .target + 4) e)
-    (y : ItemAt W (s .hard) r) (n : Numbers P W s r)
-    (first : Y ≡ sets W (s .top) (itemBytes (matchItem h e (s .easy))))
-    (second : X ≡ sets Y (s .top + 8) (itemBytes (matchItem (r .part + 4) (r .target + 4) (s .top))))
+    (y : StoredAt W (s .deferred) r) (n : StoredBounds P W s r)
+    (first : Y ≡ sets W (s .top) (storedBytes (storedMatch h e (s .easy))))
+    (second : X ≡ sets Y (s .top + 8) (storedBytes (storedMatch (r .part + 4) (r .target + 4) (s .top))))
   where
     length-Y : length Y ≡ tableBytes
-    length-Y = length-stored (itemBytes (matchItem h e (s .easy))) W Y (s .top) first ∙ bounds .whole
+    length-Y = length-stored (storedBytes (storedMatch h e (s .easy))) W Y (s .top) first ∙ bounds .whole
 
     length-X : length X ≡ tableBytes
-    length-X = length-stored (itemBytes (matchItem (r .part + 4) (r .target + 4) (s .top))) Y X (s .top + 8) second ∙ length-Y
+    length-X = length-stored (storedBytes (storedMatch (r .part + 4) (r .target + 4) (s .top))) Y X (s .top + 8) second ∙ length-Y
 
     kept-first : Kept W Y (s .top)
-    kept-first = kept-sets (itemBytes (matchItem h e (s .easy))) W Y (s .top) (s .top) first (omega arith)
+    kept-first = kept-sets (storedBytes (storedMatch h e (s .easy))) W Y (s .top) (s .top) first (omega arith)
         (omega (arith, bounds .whole, bounds .top))
 
     kept-second : Kept Y X (s .top + 8)
-    kept-second = kept-sets (itemBytes (matchItem (r .part + 4) (r .target + 4) (s .top))) Y X (s .top + 8) (s .top + 8) second
+    kept-second = kept-sets (storedBytes (storedMatch (r .part + 4) (r .target + 4) (s .top))) Y X (s .top + 8) (s .top + 8) second
         (omega arith) (omega (arith, length-Y, n .room))
 
     kept-all : Kept W X (s .top)
     kept-all = kept-then W Y X (s .top) (s .top + 8) (omega arith) kept-first kept-second
 
     abbrev after : Agenda
-    after = record { top = s .top + 2 * 8; easy = s .top + 8; hard = r .next }
+    after = record { top = s .top + 2 * 8; easy = s .top + 8; deferred = r .next }
 
     parts-state :
-        (gs hs : List Goal) (l : Line) (f b t u : Term) → Site P W s r f b (app t u) → MatchState P W s a gs l f b (app t u) hs
+        (gs hs : List Goal) (l : Line) (f b t u : Term) → ApplicationSite P W s r f b (app t u) → MatchState P W s a gs l f b (app t u) hs
         → State 0 P X after a (match f t ∷ match b u ∷ gs) hs l
     parts-state gs hs l f b t u v z =
         let g = v .target in
@@ -299,33 +303,34 @@ module _ (P W : List ℕ) (s : Agenda) (a : List Entry) (r : Item) (h e : ℕ) (
           closed = closed-more (patternRecords - size (app f b)) (patternRecords - size b) u (omega arith) (g .closed .1);
           short = omega (arith, g .short);
         } in
-        let one : ItemAt Y (s .top) (matchItem h e (s .easy)) =
-        item-stored W Y (s .top) (matchItem h e (s .easy)) first (omega (arith, bounds .whole, n .room))
+        let one : StoredAt Y (s .top) (storedMatch h e (s .easy)) =
+        goal-stored W Y (s .top) (storedMatch h e (s .easy)) first (omega (arith, bounds .whole, n .room))
         (omega (arith, v .part-even)) (omega (arith, v .target-even)) (bounds .easy-even) (omega arith) in
-        let two : ItemAt X (s .top + 8) (matchItem (r .part + 4) (r .target + 4) (s .top)) =
-        item-stored Y X (s .top + 8) (matchItem (r .part + 4) (r .target + 4) (s .top)) second (omega (arith, length-Y, n .room))
+        let two : StoredAt X (s .top + 8) (storedMatch (r .part + 4) (r .target + 4) (s .top)) =
+        goal-stored Y X (s .top + 8) (storedMatch (r .part + 4) (r .target + 4) (s .top)) second (omega (arith, length-Y, n .room))
         (omega (arith, v .part-even)) (omega (arith, v .target-even)) (bounds .even) (omega arith) in
         let inner : Chain Easy P Y (s .top + 8) (s .top) (match b u ∷ gs) =
-        chain-match Easy P Y (s .top + 8) (s .top) (matchItem h e (s .easy)) one (omega (arith, bounds .start)) (omega arith) (bounds .even)
+        chain-match Easy P Y (s .top + 8) (s .top) (storedMatch h e (s .easy)) one (omega (arith, bounds .start)) (omega arith)
+        (bounds .even)
         (omega (arith, bounds .easy-room))
         b u gs refl tt (argument-from P (r .part) h f b eh (v .part))
         (target-kept W Y (s .top) kept-first (s .top + 8) (omega arith) (size b) e u argument) (o .1)
         (chain-kept W Y (s .top) kept-first (s .top + 8) (omega arith) P Easy (s .easy) gs (z .easy)) in
         record {
-          easy = chain-match Easy P X (s .top + 2 * 8) (s .top + 8) (matchItem (r .part + 4) (r .target + 4) (s .top)) two (omega arith)
+          easy = chain-match Easy P X (s .top + 2 * 8) (s .top + 8) (storedMatch (r .part + 4) (r .target + 4) (s .top)) two (omega arith)
               (omega arith) (omega (arith, bounds .even)) (omega arith)
               f t (match b u ∷ gs) refl tt (c .0)
               (target-kept W X (s .top) kept-all (s .top + 2 * 8) (omega arith) (size f) (r .target + 4) t head) (o .0)
               (chain-kept Y X (s .top + 8) kept-second (s .top + 2 * 8) (omega arith) P Easy (s .top) (match b u ∷ gs) inner);
-          hard = chain-kept W X (s .top) kept-all (s .top + 2 * 8) (omega arith) P Hard (r .next) hs
-              (subst (λ (i : ℕ). Chain Hard P W (s .top) i hs) (sym (y .next)) (z .hard .1));
+          deferred = chain-kept W X (s .top) kept-all (s .top + 2 * 8) (omega arith) P Deferred (r .next) hs
+              (subst (λ (i : ℕ). Chain Deferred P W (s .top) i hs) (sym (y .next)) (z .deferred .1));
           entries = holds-kept W X (s .top) kept-all (s .top + 2 * 8) (omega arith) a l (z .entries);
           line = z .line;
           assigns = z .assigns;
           room = omega (arith, z .room);
         }
 
-    parts : Matches P W s a → getD W (r .target) 0 ≡ 0 → Move relinking P W s a (Way 0) X after a
+    parts : ApplicationDeferred P W s a → getD W (r .target) 0 ≡ 0 → Move relinking P W s a (Way 0) X after a
     parts x k = record {
       go = λ gs hs l z. opened P W s a x gs l (λ us. Moved P X after a (Way 0 gs us l)) (λ f b t us o.
           let w = site P W s a r gs us l f b t y o in
@@ -352,33 +357,38 @@ module _ (P W : List ℕ) (s : Agenda) (a : List Entry) (r : Item) (h e : ℕ) (
         even = omega (arith, bounds .even);
         easy-room = omega arith;
         easy-even = omega (arith, bounds .even);
-        hard-room = omega (arith, n .next, bounds .hard-room);
-        hard-even = omega (arith, y .next);
+        deferred-room = omega (arith, n .next, bounds .deferred-room);
+        deferred-even = omega (arith, y .next);
       };
     }
 
 -- the same, with the goals as they were made
 pub parts-pushed :
-    (P W : List ℕ) (s : Agenda) (a : List Entry) (r : Item) (h e : ℕ) (Y X : List ℕ) (i j : Item) (x : Matches P W s a)
-    → ItemAt W (s .hard) r
-    → Ends P (r .part + 4) h → Ends W (r .target + 4) e → i ≡ matchItem h e (s .easy) → j ≡ matchItem (r .part + 4) (r .target + 4) (s .top)
-    → Y ≡ sets W (s .top) (itemBytes i) → X ≡ sets Y (s .top + 8) (itemBytes j) → getD W (r .target) 0 ≡ 0
-    → Move relinking P W s a (Way 0) X (record { top = s .top + 2 * 8; easy = s .top + 8; hard = r .next }) a
+    (P W : List ℕ) (s : Agenda) (a : List Entry) (r : StoredGoal) (h e : ℕ) (Y X : List ℕ) (i j : StoredGoal)
+    (x : ApplicationDeferred P W s a)
+    → StoredAt W (s .deferred) r
+    → Ends P (r .part + 4) h → Ends W (r .target + 4) e → i ≡ storedMatch h e (s .easy)
+    → j ≡ storedMatch (r .part + 4) (r .target + 4) (s .top)
+    → Y ≡ sets W (s .top) (storedBytes i) → X ≡ sets Y (s .top + 8) (storedBytes j) → getD W (r .target) 0 ≡ 0
+    → Move relinking P W s a (Way 0) X (record { top = s .top + 2 * 8; easy = s .top + 8; deferred = r .next }) a
 parts-pushed P W s a r h e Y X i j x y eh ee p q first second =
-    parts P W s a r h e Y X (x .ready .bounds) eh ee y (numbers P W s a x r y) (stored-as W Y (s .top) i (matchItem h e (s .easy)) p first)
-    (stored-as Y X (s .top + 8) j (matchItem (r .part + 4) (r .target + 4) (s .top)) q second) x
+    parts P W s a r h e Y X (x .ready .bounds) eh ee y (numbers P W s a x r y)
+    (stored-as W Y (s .top) i (storedMatch h e (s .easy)) p first)
+    (stored-as Y X (s .top + 8) j (storedMatch (r .part + 4) (r .target + 4) (s .top)) q second) x
 
 -- a head that lacks a local of the target is no abstraction over it
-pub constant-lacking : (P W : List ℕ) (s : Agenda) (a : List Entry) (w : Ways) → Matches P W s a → Counted P W s a w → w .lacking ≡ true
+pub constant-lacking : (P W : List ℕ) (s : Agenda) (a : List Entry) (w : Ways) → ApplicationDeferred P W s a → Counted P W s a w
+    → w .lacking ≡ true
     → Branched P W s a (Way 1) W Branch.Failed
 constant-lacking P W s a w x c e = died P W s a (Way 1) W (record {
-  none = λ gs hs l z φ v. opened P W s a x gs l (λ us. Lacking us → ¬ Way 1 gs us l φ) (λ f b t us o k p.
+  none = λ gs hs l z φ v. opened P W s a x gs l (λ us. HeadLacks us → ¬ Way 1 gs us l φ) (λ f b t us o k p.
       no-local φ v f (constant t) (k .0) (k .1) (constant-local (k .0) t ∙ k .2) (p .1 .0)) hs z (c .lacking-head e gs hs l z);
   kept = refl;
 })
 
 -- the abstraction over the target, moved in below its binder
-module _ (P W : List ℕ) (s : Agenda) (a : List Entry) (x : Matches P W s a) (r : Item) (y : ItemAt W (s .hard) r) where
+module _ (P W : List ℕ) (s : Agenda) (a : List Entry) (x : ApplicationDeferred P W s a) (r : StoredGoal)
+    (y : StoredAt W (s .deferred) r) where
   pub raises : (room : ℕ) → room ≡ targetBytes → Source (shift 1) W (r .target) 0 room 0
   raises room h = from P W s a x (Source (shift 1) W (r .target) 0 room 0) (λ gs hs l f b t z.
       let u = site P W s a r gs hs l f b t y z .target in
@@ -390,10 +400,10 @@ module _ (P W : List ℕ) (s : Agenda) (a : List Entry) (x : Matches P W s a) (r
 
   pub record Raised (c : List ℕ) : Type 0 where
     pub short : length c ≤ targetBytes
-    pub is : (f b t : Term) → Site P W s r f b t → c ≡ encode (shift 1 0 t)
+    pub is : (f b t : Term) → ApplicationSite P W s r f b t → c ≡ encode (shift 1 0 t)
 
   module _ (out after : List ℕ) (next n : ℕ) (h : length out ≡ targetBytes) (w : Wrote (shift 1) W (r .target) 0 out 0 after next n) where
-    raised-end : (f b t : Term) → Site P W s r f b t → (n ≡ 4 * size (shift 1 0 t)) × (n ≤ targetBytes)
+    raised-end : (f b t : Term) → ApplicationSite P W s r f b t → (n ≡ 4 * size (shift 1 0 t)) × (n ≤ targetBytes)
     raised-end f b t v =
         let p : n ≡ 0 + 4 * size (shift 1 0 t) = w .exact t (v .target .part) in
         (omega arith, omega (arith, size-shift 1 0 t, v .target .short))
@@ -410,7 +420,7 @@ module _ (P W : List ℕ) (s : Agenda) (a : List Entry) (x : Matches P W s a) (r
           (omega (arith, p .1));
     }
 
-  module _ (c : List ℕ) (w : Raised c) (i : Item) (ei : i ≡ matchItem (r .part + 4) (r .target) (r .next)) where
+  module _ (c : List ℕ) (w : Raised c) (i : StoredGoal) (ei : i ≡ storedMatch (r .part + 4) (r .target) (r .next)) where
     pub constant-pushes : Pushes W s i c
     constant-pushes = let n = numbers P W s a x r y in rw ei (record {
       whole = x .ready .bounds .whole;
@@ -421,18 +431,18 @@ module _ (P W : List ℕ) (s : Agenda) (a : List Entry) (x : Matches P W s a) (r
 
     -- the goal that it leaves
     module _ (X : List ℕ) (q : X ≡ sets (sets W (s .top) (bytes 1 0 c)) (s .top + 4 + length c)
-        (itemBytes (targetItem (matchItem (r .part + 4) (r .target) (r .next)) (s .top) (s .easy)))) where
+        (storedBytes (storedTarget (storedMatch (r .part + 4) (r .target) (r .next)) (s .top) (s .easy)))) where
       abbrev at : ℕ
       at = s .top + 4 + length c
 
       abbrev X₁ : List ℕ
       X₁ = sets W (s .top) (bytes 1 0 c)
 
-      abbrev next-item : Item
-      next-item = targetItem (matchItem (r .part + 4) (r .target) (r .next)) (s .top) (s .easy)
+      abbrev next-stored : StoredGoal
+      next-stored = storedTarget (storedMatch (r .part + 4) (r .target) (r .next)) (s .top) (s .easy)
 
       abbrev last : Agenda
-      last = record { top = at + 8; easy = at; hard = r .next }
+      last = record { top = at + 8; easy = at; deferred = r .next }
 
       whole-X₁ : length X₁ ≡ tableBytes
       whole-X₁ = length-stored (bytes 1 0 c) W X₁ (s .top) refl ∙ x .ready .bounds .whole
@@ -443,13 +453,13 @@ module _ (P W : List ℕ) (s : Agenda) (a : List Entry) (x : Matches P W s a) (r
 
       kept-goal : Kept X₁ X at
       kept-goal =
-          kept-sets (itemBytes next-item) X₁ X at at q (omega arith) (omega (arith, whole-X₁, numbers P W s a x r y .room, w .short))
+          kept-sets (storedBytes next-stored) X₁ X at at q (omega arith) (omega (arith, whole-X₁, numbers P W s a x r y .room, w .short))
 
       kept-both : Kept W X (s .top)
       kept-both = kept-then W X₁ X (s .top) at (omega arith) kept-target kept-goal
 
       constant-state :
-          (gs hs : List Goal) (l : Line) (f b t : Term) → Site P W s r f b t → MatchState P W s a gs l f b t hs
+          (gs hs : List Goal) (l : Line) (f b t : Term) → ApplicationSite P W s r f b t → MatchState P W s a gs l f b t hs
           → State 0 P X last a (match f (constant t) ∷ gs) hs l
       constant-state gs hs l f b t v z =
           let g = v .target in
@@ -472,16 +482,16 @@ module _ (P W : List ℕ) (s : Agenda) (a : List Entry) (x : Matches P W s a) (r
                 (closed-more (patternRecords - size (app f b)) (patternRecords - size f) t (omega arith) (g .closed));
             short = omega (arith, g .short);
           } in
-          let item : ItemAt X at next-item =
-          item-stored X₁ X at next-item q (omega (arith, whole-X₁, n .room, w .short)) (omega (arith, v .part-even)) (bounds .even)
+          let stored-goal : StoredAt X at next-stored =
+          goal-stored X₁ X at next-stored q (omega (arith, whole-X₁, n .room, w .short)) (omega (arith, v .part-even)) (bounds .even)
           (bounds .easy-even) refl in
           record {
-            easy = chain-match Easy P X (at + 8) at next-item item (omega (arith, bounds .start)) (omega arith)
+            easy = chain-match Easy P X (at + 8) at next-stored stored-goal (omega (arith, bounds .start)) (omega arith)
                 (omega (arith, bounds .even)) (omega (arith, bounds .easy-room))
                 f (constant t) gs refl tt (u .0) target (listable-constant variables (OccursIn P) f b t (v .suits))
                 (chain-kept W X (s .top) kept-both (at + 8) (omega arith) P Easy (s .easy) gs (z .easy));
-            hard = chain-kept W X (s .top) kept-both (at + 8) (omega arith) P Hard (r .next) hs
-                (subst (λ (i : ℕ). Chain Hard P W (s .top) i hs) (sym (y .next)) (z .hard .1));
+            deferred = chain-kept W X (s .top) kept-both (at + 8) (omega arith) P Deferred (r .next) hs
+                (subst (λ (i : ℕ). Chain Deferred P W (s .top) i hs) (sym (y .next)) (z .deferred .1));
             entries = holds-kept W X (s .top) kept-both (at + 8) (omega arith) a l (z .entries);
             line = z .line;
             assigns = z .assigns;
@@ -506,25 +516,27 @@ module _ (P W : List ℕ) (s : Agenda) (a : List Entry) (x : Matches P W s a) (r
             let bounds = x .ready .bounds in
             let k : length c ≡ 4 * size (shift 1 0 t) = ap length (w .is f b t v) ∙ encode-length (shift 1 0 t) in
             record {
-              whole = length-stored (itemBytes next-item) X₁ X at q ∙ whole-X₁;
+              whole = length-stored (storedBytes next-stored) X₁ X at q ∙ whole-X₁;
               short = bounds .short;
               top = omega (arith, n .room, w .short);
               start = omega (arith, bounds .start);
               even = omega (arith, bounds .even);
               easy-room = omega arith;
               easy-even = omega (arith, bounds .even);
-              hard-room = omega (arith, n .next, bounds .hard-room);
-              hard-even = v .next-even;
+              deferred-room = omega (arith, n .next, bounds .deferred-room);
+              deferred-even = v .next-even;
             });
       }
 
-    pub constant-pushed : (X : List ℕ) (s′ : Agenda) → Pushed W s i c X s′ → Branched P W s a (Way 1) X (Branch.Next s′)
+    pub constant-pushed : (X : List ℕ) (s′ : Agenda) → StoredPushed W s i c X s′ → Branched P W s a (Way 1) X (Branch.Next s′)
     constant-pushed X s′ g =
         let q : X ≡ sets (sets W (s .top) (bytes 1 0 c)) (s .top + 4 + length c)
-        (itemBytes (targetItem (matchItem (r .part + 4) (r .target) (r .next)) (s .top) (s .easy))) =
+        (storedBytes (storedTarget (storedMatch (r .part + 4) (r .target) (r .next)) (s .top) (s .easy))) =
         g .stored ∙ ap
-        (λ (k : Item). sets (sets W (s .top) (bytes 1 0 c)) (s .top + 4 + length c) (itemBytes (targetItem k (s .top) (s .easy)))) ei in
-        let e : s′ ≡ afterItem s (matchItem (r .part + 4) (r .target) (r .next)) (s .top + 4 + length c) =
-        g .agenda ∙ ap (λ (k : Item). afterItem s k (s .top + 4 + length c)) ei in
+        (λ (k : StoredGoal). sets (sets W (s .top) (bytes 1 0 c)) (s .top + 4 + length c)
+        (storedBytes (storedTarget k (s .top) (s .easy)))) ei in
+        let e : s′ ≡ afterStored s (storedMatch (r .part + 4) (r .target) (r .next)) (s .top + 4 + length c) =
+        g .agenda ∙ ap (λ (k : StoredGoal). afterStored s k (s .top + 4 + length c)) ei in
         subst (λ (o : Agenda). Branched P W s a (Way 1) X (Branch.Next o)) (sym e)
-        (live P W s a (Way 1) X (afterItem s (matchItem (r .part + 4) (r .target) (r .next)) (s .top + 4 + length c)) (constant-move X q))
+        (live P W s a (Way 1) X (afterStored s (storedMatch (r .part + 4) (r .target) (r .next)) (s .top + 4 + length c))
+        (constant-move X q))

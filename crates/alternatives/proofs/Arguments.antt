@@ -16,10 +16,11 @@ use Rattle.terms.specs.Table.{encode}
 use Rattle.terms.specs.Listing.{Line}
 use Rattle.terms.specs.Refusal.{OccursIn}
 use Rattle.terms.proofs.Table.{encode-inj, encode-length}
-use Rattle.matching.proofs.Goals.{Goal, Goal.match, Goal.build}
-use Rattle.matching.proofs.Occurrences.{partAt, First, each-part, first-lowered, first-movable, first-not-again, first-from}
+use Rattle.matching.specs.Goals.{Goal, Goal.match, Goal.build}
+use Rattle.matching.specs.Occurrences.{partAt, FirstCopy}
+use Rattle.matching.specs.Skeletons.{Fits}
+use Rattle.matching.proofs.Occurrences.{each-part, first-lowered, first-movable, first-not-again, first-from}
 use Rattle.matching.proofs.Prune.{build-local}
-use Rattle.matching.proofs.Skeletons.{Fits}
 use Rattle.matching.proofs.Alternatives.{alternative-argument, listable-argument}
 use Rattle.matching.proofs.Targets.{closed-more, part-closed, part-normal, part-ground, part-size}
 use Rattle.records.specs.Parts.{Part, Whole, Ends}
@@ -30,25 +31,27 @@ use Rattle.records.proofs.Parts.{whole}
 use Rattle.sweeping.specs.Writers.{Wrote}
 use Rattle.copying.proofs.Stores as Stores
 use Rattle.assignments.specs.declared.Entry.{Entry}
-use Rattle.skeletons.specs.Outlined.{MayBe}
+use Rattle.skeletons.specs.Skeleton.{MayBe}
 use Rattle.shifting.specs.Lowering.{Lowers, Lowered, Leaves, Movable}
 use Rattle.abstractions.specs.Occurrences.{DepthOf, Looks, Earlier}
 use Rattle.abstractions.proofs.Occurrences.{part-at}
 use Rattle.agenda.specs.declared.Agenda.{Agenda}
 use Rattle.agenda.specs.declared.Branch.{Branch}
-use Rattle.agenda.specs.declared.Item.{Item}
+use Rattle.agenda.specs.declared.StoredGoal.{StoredGoal}
 use Rattle.agenda.specs.declared.Ways.{Ways}
-use Rattle.agenda.specs.Items.{itemBytes, ItemAt}
-use Rattle.agenda.specs.State.{targetBytes, Target, State, Easy, Hard, Chain, relinking}
+use Rattle.agenda.specs.Stored.{storedBytes, StoredAt}
+use Rattle.agenda.specs.State.{targetBytes, Target, State, Easy, Deferred, Chain, relinking}
 use Rattle.agenda.specs.Moves.{Move, Moved, Failed, Branched}
 use Rattle.alternatives.specs.Ways.{Way, Fitting}
-use Rattle.alternatives.specs.Applications.{Matches, Counted, argumentOf, Places, Argument, Placed, Comparable, Misses}
+use Rattle.alternatives.specs.Applications.{ApplicationDeferred, Counted, argumentOf, Places, Argument, Placed, ArgumentComparable}
+use Rattle.alternatives.specs.Applications.{Misses}
 use Rattle.agenda.specs.Heads.{Agree}
-use Rattle.agenda.specs.Items.{matchItem, buildItem}
+use Rattle.agenda.specs.Stored.{storedMatch, storedBuild}
 use Rattle.agenda.proofs.Frame.{Kept, part-kept, part-stored, target-kept, chain-kept, holds-kept, kept-sets, kept-then, length-stored}
-use Rattle.agenda.proofs.Frame.{item-stored, chain-match, chain-build}
-use Rattle.builds.proofs.Outlining.{skeleton-part}
-use Rattle.alternatives.proofs.Applications.{application-parts, argument-from, stored-as, live, died, Site, MatchState, site, opened}
+use Rattle.agenda.proofs.Frame.{goal-stored, chain-match, chain-build}
+use Rattle.builds.proofs.Refutations.{skeleton-part}
+use Rattle.alternatives.proofs.Applications.{application-parts, argument-from, stored-as, live, died, ApplicationSite, MatchState}
+use Rattle.alternatives.proofs.Applications.{site, opened}
 use Rattle.alternatives.proofs.Applications.{from, numbers, argument-ends, dead}
 
 -- how large and how deep a part is
@@ -132,7 +135,7 @@ module _ (W : List ℕ) (top at j : ℕ) where
             (walked-upto .1 u v) (q ∙ ap (sets W top) b) (omega arith) i
 
 pub placed-no : (W : List ℕ) (top at j : ℕ) (X : List ℕ) (w : Walk) → Placed W top at j X w → w ≡ No
-    → (take top X ≡ take top W) × ((t e : Term) → Part W at t → ¬ First t j e)
+    → (take top X ≡ take top W) × ((t e : Term) → Part W at t → ¬ FirstCopy t j e)
 unfolding Placed
 placed-no W top at j X w p c = subst (Placed W top at j X) c p
 
@@ -142,7 +145,8 @@ unfolding Placed
 placed-at W top at j X w r p c = subst (Placed W top at j X) c p
 
 -- the way that tries the j-th part
-module _ (P W : List ℕ) (s : Agenda) (a : List Entry) (x : Matches P W s a) (r : Item) (y : ItemAt W (s .hard) r) (j : ℕ) where
+module _ (P W : List ℕ) (s : Agenda) (a : List Entry) (x : ApplicationDeferred P W s a) (r : StoredGoal) (y : StoredAt W (s .deferred) r)
+    (j : ℕ) where
   module _ (w : Ways) (c : Counted P W s a w) (h : j + 2 < w .count) where
     numbered : (gs hs : List Goal) (l : Line) (f b t : Term) → MatchState P W s a gs l f b t hs → j < size t
     numbered gs hs l f b t z = omega (arith, c .ways gs (match (app f b) t ∷ hs) l z)
@@ -201,7 +205,7 @@ module _ (P W : List ℕ) (s : Agenda) (a : List Entry) (x : Matches P W s a) (r
       pub part : Part X (s .top) (argumentOf t j)
       pub target : Part X (r .target) t
 
-    standing : (f b t : Term) → Site P W s r f b t → Standing f b t
+    standing : (f b t : Term) → ApplicationSite P W s r f b t → Standing f b t
     standing f b t v =
         let o = g t (v .target .part) in
         let e = argumentOf t j in
@@ -250,8 +254,8 @@ module _ (P W : List ℕ) (s : Agenda) (a : List Entry) (x : Matches P W s a) (r
           shallow = omega (arith, ending .whole);
         })
 
-    pub comparable : Comparable P (r .part + 4) X (r .target) (s .top)
-    comparable = from P W s a x (Comparable P (r .part + 4) X (r .target) (s .top)) (λ gs hs l f b t z.
+    pub comparable : ArgumentComparable P (r .part + 4) X (r .target) (s .top)
+    comparable = from P W s a x (ArgumentComparable P (r .part + 4) X (r .target) (s .top)) (λ gs hs l f b t z.
         let v = site P W s a r gs hs l f b t y z in
         let o = standing f b t v in
         record {
@@ -318,10 +322,10 @@ module _ (P W : List ℕ) (s : Agenda) (a : List Entry) (x : Matches P W s a) (r
         subst T (sym (build-local φ u f t (o .1 .0 .0) (q .0) (o .1 .0 .3) (m .0) (m .1)) ∙ ap (uses (q .0)) w ∙ m .2) tt))
 
     module _ (h : ℕ) (eh : Ends P (r .part + 4) h) (earlier : Earlier X (r .target) j (s .top) false) (Y Z : List ℕ)
-        (first : Y ≡ sets X end (itemBytes (buildItem (r .part + 4) (r .target) (r .next) (s .top))))
-        (second : Z ≡ sets Y (end + 8) (itemBytes (matchItem h (s .top) (s .easy))))
+        (first : Y ≡ sets X end (storedBytes (storedBuild (r .part + 4) (r .target) (r .next) (s .top))))
+        (second : Z ≡ sets Y (end + 8) (storedBytes (storedMatch h (s .top) (s .easy))))
       where
-        first-found : (f b t : Term) → Site P W s r f b t → First t j (argumentOf t j)
+        first-found : (f b t : Term) → ApplicationSite P W s r f b t → FirstCopy t j (argumentOf t j)
         unfolding Earlier
         first-found f b t v =
             let n = standing f b t v in
@@ -329,27 +333,27 @@ module _ (P W : List ℕ) (s : Agenda) (a : List Entry) (x : Matches P W s a) (r
             (λ i l. earlier t (argumentOf t j) (n .target) (n .part) i l (omega (arith, n .found .within)))
 
         length-Y : length Y ≡ tableBytes
-        length-Y = length-stored (itemBytes (buildItem (r .part + 4) (r .target) (r .next) (s .top))) X Y end first ∙ ending .whole
+        length-Y = length-stored (storedBytes (storedBuild (r .part + 4) (r .target) (r .next) (s .top))) X Y end first ∙ ending .whole
 
         length-Z : length Z ≡ tableBytes
-        length-Z = length-stored (itemBytes (matchItem h (s .top) (s .easy))) Y Z (end + 8) second ∙ length-Y
+        length-Z = length-stored (storedBytes (storedMatch h (s .top) (s .easy))) Y Z (end + 8) second ∙ length-Y
 
         kept-X : Kept X Y end
-        kept-X = kept-sets (itemBytes (buildItem (r .part + 4) (r .target) (r .next) (s .top))) X Y end end first (omega arith)
+        kept-X = kept-sets (storedBytes (storedBuild (r .part + 4) (r .target) (r .next) (s .top))) X Y end end first (omega arith)
             (omega (arith, ending .whole, ending .most, numbers P W s a x r y .room))
 
         kept-Y : Kept Y Z (end + 8)
-        kept-Y = kept-sets (itemBytes (matchItem h (s .top) (s .easy))) Y Z (end + 8) (end + 8) second (omega arith)
+        kept-Y = kept-sets (storedBytes (storedMatch h (s .top) (s .easy))) Y Z (end + 8) (end + 8) second (omega arith)
             (omega (arith, length-Y, ending .most, numbers P W s a x r y .room))
 
         kept-XZ : Kept X Z end
         kept-XZ = kept-then X Y Z end (end + 8) (omega arith) kept-X kept-Y
 
         abbrev last : Agenda
-        last = record { top = end + 2 * 8; easy = end + 8; hard = end }
+        last = record { top = end + 2 * 8; easy = end + 8; deferred = end }
 
         argument-state :
-            (gs hs : List Goal) (l : Line) (f b t : Term) → Site P W s r f b t → MatchState P W s a gs l f b t hs
+            (gs hs : List Goal) (l : Line) (f b t : Term) → ApplicationSite P W s r f b t → MatchState P W s a gs l f b t hs
             → State 0 P Z last a (match b (argumentOf t j) ∷ gs) (build f t (argumentOf t j) ∷ hs) l
         argument-state gs hs l f b t v z =
             let e = argumentOf t j in
@@ -383,28 +387,29 @@ module _ (P W : List ℕ) (s : Agenda) (a : List Entry) (x : Matches P W s a) (r
                   (part-closed t j e (o .found .within) (o .found .copy) (patternRecords - size (app f b)) (g .closed));
               short = omega (arith, g .short, o .few);
             } in
-            let one : ItemAt Y end (buildItem (r .part + 4) (r .target) (r .next) (s .top)) =
-            item-stored X Y end (buildItem (r .part + 4) (r .target) (r .next) (s .top)) first (omega (arith, ending .whole, n .room))
+            let one : StoredAt Y end (storedBuild (r .part + 4) (r .target) (r .next) (s .top)) =
+            goal-stored X Y end (storedBuild (r .part + 4) (r .target) (r .next) (s .top)) first (omega (arith, ending .whole, n .room))
             (omega (arith, v .part-even)) (v .target-even) (v .next-even) (bounds .even) in
-            let two : ItemAt Z (end + 8) (matchItem h (s .top) (s .easy)) =
-            item-stored Y Z (end + 8) (matchItem h (s .top) (s .easy)) second (omega (arith, length-Y, n .room))
+            let two : StoredAt Z (end + 8) (storedMatch h (s .top) (s .easy)) =
+            goal-stored Y Z (end + 8) (storedMatch h (s .top) (s .easy)) second (omega (arith, length-Y, n .room))
             (omega (arith, v .part-even, eh .exact f (c .0))) (bounds .even) (bounds .easy-even) (omega arith) in
-            let rest : Chain Hard P W (s .top) (r .next) hs =
-            subst (λ (i : ℕ). Chain Hard P W (s .top) i hs) (sym (y .next)) (z .hard .1) in
-            let built : Chain Hard P Y (end + 8) end (build f t e ∷ hs) =
-            chain-build Hard P Y (end + 8) end (buildItem (r .part + 4) (r .target) (r .next) (s .top)) one (omega arith) (omega arith)
-            (ending .even) (omega (arith, n .next, bounds .hard-room))
+            let rest : Chain Deferred P W (s .top) (r .next) hs =
+            subst (λ (i : ℕ). Chain Deferred P W (s .top) i hs) (sym (y .next)) (z .deferred .1) in
+            let built : Chain Deferred P Y (end + 8) end (build f t e ∷ hs) =
+            chain-build Deferred P Y (end + 8) end (storedBuild (r .part + 4) (r .target) (r .next) (s .top)) one (omega arith)
+            (omega arith)
+            (ending .even) (omega (arith, n .next, bounds .deferred-room))
             f t e hs refl tt (c .0) (target-kept W Y (s .top) kept-WY (end + 8) (omega arith) (suc (size f)) (r .target) t old)
             (target-kept X Y end kept-X (end + 8) (omega arith) (suc (size f)) (s .top) e (new (suc (size f)) (omega (arith, c .1 .some))))
             (suits .1)
-            (chain-kept W Y (s .top) kept-WY (end + 8) (omega arith) P Hard (r .next) hs rest) in
+            (chain-kept W Y (s .top) kept-WY (end + 8) (omega arith) P Deferred (r .next) hs rest) in
             record {
-              easy = chain-match Easy P Z (end + 2 * 8) (end + 8) (matchItem h (s .top) (s .easy)) two (omega arith) (omega arith)
+              easy = chain-match Easy P Z (end + 2 * 8) (end + 8) (storedMatch h (s .top) (s .easy)) two (omega arith) (omega arith)
                   (omega (arith, ending .even)) (omega (arith, bounds .easy-room))
                   b e gs refl tt (argument-from P (r .part) h f b eh (v .part))
                   (target-kept X Z end kept-XZ (end + 2 * 8) (omega arith) (size b) (s .top) e (new (size b) (omega arith))) (suits .0)
                   (chain-kept W Z (s .top) kept-WZ (end + 2 * 8) (omega arith) P Easy (s .easy) gs (z .easy));
-              hard = chain-kept Y Z (end + 8) kept-Y (end + 2 * 8) (omega arith) P Hard end (build f t e ∷ hs) built;
+              deferred = chain-kept Y Z (end + 8) kept-Y (end + 2 * 8) (omega arith) P Deferred end (build f t e ∷ hs) built;
               entries = holds-kept W Z (s .top) kept-WZ (end + 2 * 8) (omega arith) a l (z .entries);
               line = z .line;
               assigns = z .assigns;
@@ -442,18 +447,19 @@ module _ (P W : List ℕ) (s : Agenda) (a : List Entry) (x : Matches P W s a) (r
             even = omega (arith, ending .even);
             easy-room = omega arith;
             easy-even = omega (arith, ending .even);
-            hard-room = omega arith;
-            hard-even = ending .even;
+            deferred-room = omega arith;
+            deferred-even = ending .even;
           };
         }
 
     -- the same, with the goals as they were made
-    pub found : (h : ℕ) (e : Bool) (i k : Item) (Y Z : List ℕ) → Ends P (r .part + 4) h → Earlier X (r .target) j (s .top) e → e ≡ false
-        → i ≡ buildItem (r .part + 4) (r .target) (r .next) (s .top) → k ≡ matchItem h (s .top) (s .easy)
-        → Y ≡ sets X end (itemBytes i) → Z ≡ sets Y (end + 8) (itemBytes k)
-        → Branched P W s a (Way (suc (suc j))) Z (Branch.Next (record { top = end + 2 * 8; easy = end + 8; hard = end }))
+    pub found : (h : ℕ) (e : Bool) (i k : StoredGoal) (Y Z : List ℕ) → Ends P (r .part + 4) h → Earlier X (r .target) j (s .top) e
+        → e ≡ false
+        → i ≡ storedBuild (r .part + 4) (r .target) (r .next) (s .top) → k ≡ storedMatch h (s .top) (s .easy)
+        → Y ≡ sets X end (storedBytes i) → Z ≡ sets Y (end + 8) (storedBytes k)
+        → Branched P W s a (Way (suc (suc j))) Z (Branch.Next (record { top = end + 2 * 8; easy = end + 8; deferred = end }))
     found h e i k Y Z eh b c p q first second =
-        live P W s a (Way (suc (suc j))) Z (record { top = end + 2 * 8; easy = end + 8; hard = end })
+        live P W s a (Way (suc (suc j))) Z (record { top = end + 2 * 8; easy = end + 8; deferred = end })
         (argument-move h eh (subst (Earlier X (r .target) j (s .top)) c b) Y Z
-        (stored-as X Y end i (buildItem (r .part + 4) (r .target) (r .next) (s .top)) p first)
-        (stored-as Y Z (end + 8) k (matchItem h (s .top) (s .easy)) q second))
+        (stored-as X Y end i (storedBuild (r .part + 4) (r .target) (r .next) (s .top)) p first)
+        (stored-as Y Z (end + 8) k (storedMatch h (s .top) (s .easy)) q second))

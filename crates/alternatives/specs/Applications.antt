@@ -1,15 +1,16 @@
--- What the ways of an application that was put off need.
---   Matches P W s a              the first goal put off is an application that has to sweep to a target
---   Counted P W s a w            what w says of its ways holds
---   argumentOf t j               the j-th part of t, moved out of the binders above it
---   Places W top at j            the term of W at byte `at` is a target with a j-th part,
---                                and there is room for another one from byte `top` on
---   Argument W top t j X r       the j-th part of t uses none of the binders above it, and stands moved out of them in X from byte `top` on
---   Placed W top at j X r        the same of the term of W at byte `at`; or its j-th part is no argument
---   Missing P i k m n b          if b, local k is marked by m and not by n, and the term of P at byte i doesn't use it
---   Comparable P i W j e         terms stand there, and each loose local of the two targets has a mark
---   Misses P i W j e b           if b, the term of W at byte j has a loose local that neither the one at byte e nor the one of
---                                P at byte i uses
+-- What the ways of an application that was deferred need.
+--   ApplicationDeferred P W s a    the first deferred goal is an application that has to sweep to a target
+--   Counted P W s a w              what w says of its ways holds
+--   argumentOf t j                 the j-th part of t, moved out of the binders above it
+--   Places W top at j              the term of W at byte `at` is a target with a j-th part, and there is room for another one from byte
+--                                  `top` on
+--   Argument W top t j X r         the j-th part of t uses none of the binders above it, and stands moved out of them in X from byte `top`
+--                                  on
+--   Placed W top at j X r          the same of the term of W at byte `at`; or its j-th part is no argument
+--   Missing P i k m n b            if b, local k is marked by m and not by n, and the term of P at byte i doesn't use it
+--   ArgumentComparable P i W j e   terms stand there, and each loose local of the two targets has a mark
+--   Misses P i W j e b             if b, the term of W at byte j has a loose local that neither the one at byte e nor the one of P at byte
+--                                  i uses
 use mathlib.Core.Path.{_≡_}
 use mathlib.Core.Bool.{Bool, true, false}
 use mathlib.Core.List.{List}
@@ -20,9 +21,9 @@ use Rattle.terms.specs.Figures.{patternRecords, valueRecords, tableBytes}
 use Rattle.terms.specs.Term.{Term, size, unshift, uses}
 use Rattle.terms.specs.Table.{encode}
 use Rattle.terms.specs.Listing.{Line}
-use Rattle.terms.proofs.Locals.{rigid}
-use Rattle.matching.proofs.Goals.{Goal}
-use Rattle.matching.proofs.Occurrences.{partAt, Copy, First}
+use Rattle.terms.specs.Heads.{rigid}
+use Rattle.matching.specs.Goals.{Goal}
+use Rattle.matching.specs.Occurrences.{partAt, Copy, FirstCopy}
 use Rattle.records.specs.Parts.{Part, Whole, Ends}
 use Rattle.records.specs.declared.Walk.{Walk}
 use Rattle.records.specs.declared.Walk.the-variants.{Upto, No}
@@ -31,22 +32,22 @@ use Rattle.assignments.specs.declared.Entry.{Entry}
 use Rattle.agenda.specs.declared.Agenda.{Agenda}
 use Rattle.agenda.specs.declared.Ways.{Ways}
 use Rattle.agenda.specs.State.{targetBytes, State, Ready, patternAt, relinking}
-use Rattle.alternatives.specs.Ways.{HasWays, HasDepths, Lacking, Fitting}
-use Rattle.builds.specs.Outlines.{Prefix}
+use Rattle.alternatives.specs.Ways.{HasWays, HasDepths, HeadLacks, Fitting}
+use Rattle.builds.specs.Refuting.{Prefix}
 
-pub record Matches (P W : List ℕ) (s : Agenda) (a : List Entry) : Type 0 where
+pub record ApplicationDeferred (P W : List ℕ) (s : Agenda) (a : List Entry) : Type 0 where
   pub ready : Ready relinking P W s a
-  pub some-hard : 0 < s .hard
-  pub kind : getD W (s .hard + 1) 0 ≡ 0
+  pub some-deferred : 0 < s .deferred
+  pub kind : getD W (s .deferred + 1) 0 ≡ 0
 
 pub record Counted (P W : List ℕ) (s : Agenda) (a : List Entry) (w : Ways) : Type 0 where
   pub ways : (gs hs : List Goal) (l : Line) → State relinking P W s a gs hs l → HasWays (w .count) hs
-  pub argument : Ends P (patternAt W (s .hard) + 4) (w .argument)
+  pub argument : Ends P (patternAt W (s .deferred) + 4) (w .argument)
   pub rigid-argument : (t : Term) → Part P (w .argument) t → w .rigid ≡ rigid t
   pub depths-are : (gs hs : List Goal) (l : Line) → State relinking P W s a gs hs l → HasDepths (w .depths) hs
   pub skeleton-table : Prefix (w .skeleton .bytes) (w .skeleton .length)
   pub skeleton-fits : (gs hs : List Goal) (l : Line) → State relinking P W s a gs hs l → Fitting (skeleton-table .tree) l hs
-  pub lacking-head : w .lacking ≡ true → (gs hs : List Goal) (l : Line) → State relinking P W s a gs hs l → Lacking hs
+  pub lacking-head : w .lacking ≡ true → (gs hs : List Goal) (l : Line) → State relinking P W s a gs hs l → HeadLacks hs
 
 abbrev pub argumentOf : Term → ℕ → Term
 argumentOf t j = unshift (partAt 0 t j .0) 0 (partAt 0 t j .1)
@@ -67,13 +68,13 @@ pub record Argument (W : List ℕ) (top : ℕ) (t : Term) (j : ℕ) (X : List �
 
 unfoldable pub Placed : List ℕ → ℕ → ℕ → ℕ → List ℕ → Walk → Type 0
 Placed W top at j X (Upto r) = (t : Term) → Part W at t → Argument W top t j X r
-Placed W top at j X No = (take top X ≡ take top W) × ((t e : Term) → Part W at t → ¬ First t j e)
+Placed W top at j X No = (take top X ≡ take top W) × ((t e : Term) → Part W at t → ¬ FirstCopy t j e)
 
 unfoldable pub Missing : List ℕ → ℕ → ℕ → ℕ → ℕ → Bool → Type 0
 Missing P i k m n true = (m ≡ 1) × ¬ (n ≡ 1) × ((f : Term) → Part P i f → uses k f ≡ false)
 Missing P i k m n false = Unit {0}
 
-pub record Comparable (P : List ℕ) (i : ℕ) (W : List ℕ) (j e : ℕ) : Type 0 where
+pub record ArgumentComparable (P : List ℕ) (i : ℕ) (W : List ℕ) (j e : ℕ) : Type 0 where
   pub part : Whole P i
   pub short : length P ≤ 4 * patternRecords
   pub target : Marks W j 0 patternRecords

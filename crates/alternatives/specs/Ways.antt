@@ -1,8 +1,8 @@
--- The ways of an application that was put off.
---   Way i            the assignments by which the first goal put off, an application, comes to its target in the i-th way
+-- The ways of an application that was deferred.
+--   Way i            the assignments by which the first deferred goal, an application, comes to its target in the i-th way
 --   HasWays n hs     the first goal of hs has n ways
 --   HasDepths m hs   m has the number of binders above each record of its target
---   Lacking hs       its head lacks a loose local of its target
+--   HeadLacks hs     its head lacks a loose local of its target
 --   Fitting x l hs   its argument fits the skeleton x under each assignment that extends the line l
 use mathlib.Core.Path.{_≡_}
 use mathlib.Core.Bool.{true, false}
@@ -12,11 +12,11 @@ use lib.ListN.{getD}
 use Rattle.terms.specs.Term.{Term, app, lam, loc, con, var, size, uses}
 use Rattle.terms.specs.Sweep.{sweep, fill}
 use Rattle.terms.specs.Listing.{Line}
-use Rattle.matching.proofs.Occurrences.{partAt}
-use Rattle.matching.proofs.Lines.{Values, Extends}
-use Rattle.matching.proofs.Goals.{Goal, Goal.match, Goal.build, All}
-use Rattle.matching.proofs.Alternatives.{Alternative}
-use Rattle.matching.proofs.Skeletons.{Fits}
+use Rattle.matching.specs.Occurrences.{partAt}
+use Rattle.matching.specs.Lists.{Values, Extends}
+use Rattle.matching.specs.Goals.{Goal, Goal.match, Goal.build, All}
+use Rattle.matching.specs.Alternatives.{Alternative}
+use Rattle.matching.specs.Skeletons.{Fits}
 use Rattle.agenda.specs.Moves.{Question}
 
 abbrev pub Way : ℕ → Question
@@ -38,14 +38,14 @@ HasDepths m [] = ⊥
 HasDepths m (match p t ∷ hs) = (j : ℕ) → j < size t → getD m j 0 ≡ partAt 0 t j .0
 HasDepths m (build f t e ∷ hs) = ⊥
 
-abbrev pub Lacking : List Goal → Type 0
-Lacking [] = ⊥
-Lacking (match (app f a) t ∷ hs) = (k : ℕ) × (uses k f ≡ false) × (uses k t ≡ true)
-Lacking (match (lam b) t ∷ hs) = ⊥
-Lacking (match (loc n) t ∷ hs) = ⊥
-Lacking (match (con n) t ∷ hs) = ⊥
-Lacking (match (var n) t ∷ hs) = ⊥
-Lacking (build f t e ∷ hs) = ⊥
+abbrev pub HeadLacks : List Goal → Type 0
+HeadLacks [] = ⊥
+HeadLacks (match (app f a) t ∷ hs) = (k : ℕ) × (uses k f ≡ false) × (uses k t ≡ true)
+HeadLacks (match (lam b) t ∷ hs) = ⊥
+HeadLacks (match (loc n) t ∷ hs) = ⊥
+HeadLacks (match (con n) t ∷ hs) = ⊥
+HeadLacks (match (var n) t ∷ hs) = ⊥
+HeadLacks (build f t e ∷ hs) = ⊥
 
 abbrev pub Fitting : Term → Line → List Goal → Type 0
 Fitting x l [] = ⊥

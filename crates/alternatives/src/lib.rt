@@ -1,14 +1,19 @@
-// The ways of an application that was put off: its head is an open variable, or has one.
+// The ways of an application that was deferred: its head is an open variable, or has one.
 //
 // Such an application comes to its target by the target's own parts, by a head that throws the argument away, or by an argument that is
 // found at one of the target's parts. The crate counts the ways, and tries one: it promises that the agenda it leaves has exactly the
 // assignments of that way, or that there are none. It rests on `agenda` for goals, on `builds` for heads and skeletons, and on `matching`
 // for why there are no other ways.
+//
+// Ways are numbers: 0 for the target's own parts, 1 for the constant function, 2 + j for the argument whose first occurrence is the
+// target's part j. One function takes a number and leaves the next agenda, so that the loop over them has one law. What is known of an
+// application is found once, before its ways are gone through, and a part whose head differs from a rigid argument's is passed over before
+// anything is written: most parts of most targets.
 
 use agenda::Agenda;
 use agenda::Branch;
-use agenda::ITEM;
-use agenda::Item;
+use agenda::GOAL;
+use agenda::StoredGoal;
 use agenda::TARGET_BYTES;
 use agenda::Ways;
 use assignments::Entry;
@@ -24,25 +29,25 @@ ghost use lib.ListN.{length};
 ghost use Rattle.terms.specs.Figures.{tableBytes};
 ghost use Rattle.records.specs.Parts.{Whole};
 ghost use Rattle.abstractions.specs.Occurrences.{DepthOf};
-ghost use Rattle.alternatives.specs.Applications.{Matches, Counted, Places, Placed, Missing, Comparable, Misses};
+ghost use Rattle.alternatives.specs.Applications.{ApplicationDeferred, Counted, Places, Placed, Missing, ArgumentComparable, Misses};
 ghost use Rattle.alternatives.specs.Ways.{Way};
 ghost use Rattle.agenda.specs.Moves.{Branched};
 
-// The ways in which the first goal put off, an application, can come to its target: by the target's own parts, by a head that throws its
+// The ways in which the first deferred goal, an application, can come to its target: by the target's own parts, by a head that throws its
 // argument away, and by each part of the target as the argument's.
-pub fn ways(p: &[u8], work: &[u8], s: Agenda, a: [Entry; VARIABLES]) -> Ways
-    requires { ⌜ Matches (now p) (now work) s a ⌝ }
-    ensures { λ r. ⌜ Counted (now (p .entry)) (now (work .entry)) s a r ⌝ }
+pub fn ways(pattern: &[u8], work: &[u8], agenda: Agenda, entries: [Entry; VARIABLES]) -> Ways
+    requires { ⌜ ApplicationDeferred (now pattern) (now work) agenda entries ⌝ }
+    ensures { λ r. ⌜ Counted (now (pattern .entry)) (now (work .entry)) agenda entries r ⌝ }
 {
-    let goal = agenda::item_at(work, s.hard);
+    let goal = agenda::goal_at(work, agenda.deferred);
     let head = goal.part + RECORD;
     let target = goal.target;
     let end = records::end_at(work, target);
-    let argument = records::end_at(p, head);
-    let rigid = shifting::is_rigid(p, argument);
-    let walk = records::ask_at(p, argument, Ask::Below, PATTERN_RECORDS);
-    let skeleton = builds::outlines::skeleton_at(p, argument, walk, work, a);
-    let lacking = agenda::locals::lacks_local(p, head, work, target);
+    let argument = records::end_at(pattern, head);
+    let rigid = shifting::is_rigid(pattern, argument);
+    let walk = records::ask_at(pattern, argument, Ask::Below, PATTERN_RECORDS);
+    let skeleton = builds::refuting::skeleton_at(pattern, argument, walk, work, entries);
+    let lacking = agenda::locals::lacks_local(pattern, head, work, target);
     let mut depths = [0u8; VALUE_RECORDS];
     abstractions::depths_into(work, target, 0, &mut depths, 0);
     Ways {
@@ -56,63 +61,73 @@ pub fn ways(p: &[u8], work: &[u8], s: Agenda, a: [Entry; VARIABLES]) -> Ways
 }
 
 // The target's own parts: its head is the head's target, and its argument the argument's.
-fn split(p: &[u8], work: &mut [u8], s: Agenda, a: [Entry; VARIABLES]) -> Branch
-    requires { ⌜ Matches (now p) (now work) s a ⌝ }
-    ensures { λ r. ⌜ Branched (now (p .entry)) (now (work .entry)) s a (Way 0) (now (work .exit)) r ⌝ }
+fn split(pattern: &[u8], work: &mut [u8], agenda: Agenda, entries: [Entry; VARIABLES]) -> Branch
+    requires { ⌜ ApplicationDeferred (now pattern) (now work) agenda entries ⌝ }
+    ensures { λ r. ⌜ Branched (now (pattern .entry)) (now (work .entry)) agenda entries (Way 0) (now (work .exit)) r ⌝ }
 {
-    let goal = agenda::item_at(work, s.hard);
+    let goal = agenda::goal_at(work, agenda.deferred);
     let target = goal.target;
     if work[target] != Kind::APPLICATION.code {
         return Branch::Failed;
     }
-    let argument = records::end_at(p, goal.part + RECORD);
+    let argument = records::end_at(pattern, goal.part + RECORD);
     let end = records::end_at(work, target + RECORD);
-    agenda::put_item(work, s.top, agenda::match_item(argument, end, s.easy));
-    agenda::put_item(
+    agenda::put_goal(
         work,
-        s.top + ITEM,
-        agenda::match_item(goal.part + RECORD, target + RECORD, s.top),
+        agenda.top,
+        agenda::match_goal(argument, end, agenda.easy),
+    );
+    agenda::put_goal(
+        work,
+        agenda.top + GOAL,
+        agenda::match_goal(goal.part + RECORD, target + RECORD, agenda.top),
     );
     Branch::Next(Agenda {
-        top: s.top + 2 * ITEM,
-        easy: s.top + ITEM,
-        hard: goal.next,
+        top: agenda.top + 2 * GOAL,
+        easy: agenda.top + GOAL,
+        deferred: goal.next,
     })
 }
 
 // A head that throws its argument away: it is the abstraction over the target, moved in below the binder. A head that lacks a local of the
 // target lacks it in that abstraction too.
-fn constant_head(p: &[u8], work: &mut [u8], s: Agenda, a: [Entry; VARIABLES], w: Ways) -> Branch
-    requires { ⌜ Matches (now p) (now work) s a × Counted (now p) (now work) s a w ⌝ }
-    ensures { λ r. ⌜ Branched (now (p .entry)) (now (work .entry)) s a (Way 1) (now (work .exit)) r ⌝ }
+fn constant_head(
+    pattern: &[u8],
+    work: &mut [u8],
+    agenda: Agenda,
+    entries: [Entry; VARIABLES],
+    ways: Ways,
+) -> Branch
+    requires { ⌜ ApplicationDeferred (now pattern) (now work) agenda entries × Counted (now pattern) (now work) agenda entries ways ⌝ }
+    ensures { λ r. ⌜ Branched (now (pattern .entry)) (now (work .entry)) agenda entries (Way 1) (now (work .exit)) r ⌝ }
 {
-    if w.lacking {
+    if ways.lacking {
         return Branch::Failed;
     }
-    let goal = agenda::item_at(work, s.hard);
+    let goal = agenda::goal_at(work, agenda.deferred);
     let mut b = [0u8; TARGET_BYTES];
     let moved = sweeping::shift_into(work, goal.target, 1, 0, &mut b, 0);
     let n = moved.end;
-    let head = agenda::match_item(goal.part + RECORD, goal.target, goal.next);
-    Branch::Next(builds::push_abstraction(work, s, head, &b[0..n]))
+    let head = agenda::match_goal(goal.part + RECORD, goal.target, goal.next);
+    Branch::Next(builds::push_abstraction(work, agenda, head, &b[0..n]))
 }
 
 // Whether local k is marked by `target` and not by `argument`, and the part of p at byte i doesn't use it.
-fn is_missing(p: &[u8], i: usize, k: usize, target: u8, argument: u8) -> bool
-    requires { ⌜ Whole (now p) i × (k + length (now p) ≤ i + tableBytes) ⌝ }
-    ensures { λ r. ⌜ Missing (now (p .entry)) i k target argument r ⌝ }
+fn is_missing(pattern: &[u8], i: usize, k: usize, target: u8, argument: u8) -> bool
+    requires { ⌜ Whole (now pattern) i × (k + length (now pattern) ≤ i + tableBytes) ⌝ }
+    ensures { λ r. ⌜ Missing (now (pattern .entry)) i k target argument r ⌝ }
 {
     if argument == 1 {
         return false;
     }
-    agenda::locals::is_unused(p, i, k, target)
+    agenda::locals::is_unused(pattern, i, k, target)
 }
 
 // Whether the target at byte j has a loose local that neither the argument's target at byte e nor the head, the part of p at byte i, uses.
 // Nothing brings in such a local.
-fn misses_local(p: &[u8], i: usize, work: &[u8], j: usize, e: usize) -> bool
-    requires { ⌜ Comparable (now p) i (now work) j e ⌝ }
-    ensures { λ r. ⌜ Misses (now (p .entry)) i (now (work .entry)) j e r ⌝ }
+fn misses_local(pattern: &[u8], i: usize, work: &[u8], j: usize, e: usize) -> bool
+    requires { ⌜ ArgumentComparable (now pattern) i (now work) j e ⌝ }
+    ensures { λ r. ⌜ Misses (now (pattern .entry)) i (now (work .entry)) j e r ⌝ }
 {
     let mut target = [0u8; PATTERN_RECORDS];
     shifting::loose_locals(work, j, 0, &mut target);
@@ -120,7 +135,7 @@ fn misses_local(p: &[u8], i: usize, work: &[u8], j: usize, e: usize) -> bool
     shifting::loose_locals(work, e, 0, &mut argument);
     let mut k = 0;
     while k < PATTERN_RECORDS {
-        if is_missing(p, i, k, target[k], argument[k]) {
+        if is_missing(pattern, i, k, target[k], argument[k]) {
             return true;
         }
         k += 1;
@@ -148,71 +163,80 @@ fn place_argument(work: &mut [u8], top: usize, at: usize, j: usize, depth: usize
 // The argument found at the j-th part of the target: it sweeps to that part, moved out of the binders above it, and the head builds the
 // target from it. Of parts that give the same argument the first one counts. The quick tests come first.
 fn find_argument(
-    p: &[u8],
+    pattern: &[u8],
     work: &mut [u8],
-    s: Agenda,
-    a: [Entry; VARIABLES],
+    agenda: Agenda,
+    entries: [Entry; VARIABLES],
     j: usize,
-    w: Ways,
+    ways: Ways,
 ) -> Branch
-    requires { ⌜ Matches (now p) (now work) s a × Counted (now p) (now work) s a w × (j + 2 < w .count) ⌝ }
-    ensures { λ r. ⌜ Branched (now (p .entry)) (now (work .entry)) s a (Way (suc (suc j))) (now (work .exit)) r ⌝ }
+    requires { ⌜ ApplicationDeferred (now pattern) (now work) agenda entries × Counted (now pattern) (now work) agenda entries ways
+        × (j + 2 < ways .count) ⌝ }
+    ensures { λ r. ⌜ Branched (now (pattern .entry)) (now (work .entry)) agenda entries (Way (suc (suc j))) (now (work .exit)) r ⌝ }
 {
-    let goal = agenda::item_at(work, s.hard);
-    let argument = w.argument;
-    if w.rigid {
-        if !agenda::heads::heads_agree(p, argument, work, goal.target + RECORD * j) {
+    let goal = agenda::goal_at(work, agenda.deferred);
+    let argument = ways.argument;
+    if ways.rigid {
+        if !agenda::heads::heads_agree(pattern, argument, work, goal.target + RECORD * j) {
             return Branch::Failed;
         }
     }
-    let depths = w.depths;
+    let depths = ways.depths;
     let depth = records::wide(depths[j]);
-    let placed = place_argument(work, s.top, goal.target, j, depth);
+    let placed = place_argument(work, agenda.top, goal.target, j, depth);
     let Walk::Upto(end) = placed else {
         return Branch::Failed;
     };
-    let skeleton = w.skeleton;
+    let skeleton = ways.skeleton;
     let bytes = skeleton.bytes;
     let n = skeleton.length;
-    if !skeletons::may_be(&bytes[0..n], work, s.top) {
+    if !skeletons::may_be(&bytes[0..n], work, agenda.top) {
         return Branch::Failed;
     }
-    if abstractions::occurs_before(work, goal.target, j, s.top) {
+    if abstractions::occurs_before(work, goal.target, j, agenda.top) {
         return Branch::Failed;
     }
     let head = goal.part + RECORD;
-    if w.lacking {
-        if misses_local(p, head, work, goal.target, s.top) {
+    if ways.lacking {
+        if misses_local(pattern, head, work, goal.target, agenda.top) {
             return Branch::Failed;
         }
     }
-    agenda::put_item(
+    agenda::put_goal(
         work,
         end,
-        agenda::build_item(head, goal.target, goal.next, s.top),
+        agenda::build_goal(head, goal.target, goal.next, agenda.top),
     );
-    agenda::put_item(
+    agenda::put_goal(
         work,
-        end + ITEM,
-        agenda::match_item(argument, s.top, s.easy),
+        end + GOAL,
+        agenda::match_goal(argument, agenda.top, agenda.easy),
     );
     Branch::Next(Agenda {
-        top: end + 2 * ITEM,
-        easy: end + ITEM,
-        hard: end,
+        top: end + 2 * GOAL,
+        easy: end + GOAL,
+        deferred: end,
     })
 }
 
-// The i-th way in which the first goal put off, an application, comes to its target.
-pub fn way(p: &[u8], work: &mut [u8], s: Agenda, a: [Entry; VARIABLES], i: usize, w: Ways) -> Branch
-    requires { ⌜ Matches (now p) (now work) s a × Counted (now p) (now work) s a w × (i < w .count) ⌝ }
-    ensures { λ r. ⌜ Branched (now (p .entry)) (now (work .entry)) s a (Way i) (now (work .exit)) r ⌝ }
+// The i-th way in which the first deferred goal, an application, comes to its target.
+pub fn way(
+    pattern: &[u8],
+    work: &mut [u8],
+    agenda: Agenda,
+    entries: [Entry; VARIABLES],
+    i: usize,
+    ways: Ways,
+) -> Branch
+    requires { ⌜ ApplicationDeferred (now pattern) (now work) agenda entries × Counted (now pattern) (now work) agenda entries ways
+        × (i < ways .count) ⌝ }
+    ensures { λ r. ⌜ Branched (now (pattern .entry)) (now (work .entry)) agenda entries (Way i) (now (work .exit)) r ⌝ }
 {
     if i == 0 {
-        return split(p, work, s, a);
+        return split(pattern, work, agenda, entries);
     }
     if i == 1 {
-        return constant_head(p, work, s, a, w);
+        return constant_head(pattern, work, agenda, entries, ways);
     }
-    find_argument(p, work, s, a, i - 2, w)
+    find_argument(pattern, work, agenda, entries, i - 2, ways)
 }

@@ -9,8 +9,8 @@ use lib.ListN.{length, take, drop, length-append, length-drop}
 use lib.Seq.{drop-drop, drop-at, take-at, length-take-le}
 use Rattle.terms.specs.Figures.{variables}
 use Rattle.terms.specs.Listing.{Line}
-use Rattle.terms.specs.Layout.{valueRecords, lineValues, lineTable, valuesRecords, valueTable}
-use Rattle.terms.proofs.Members.{Distinct}
+use Rattle.terms.specs.Layout.{lineValueRecords, lineValues, lineTable, valuesRecords, valueTable}
+use Rattle.terms.specs.Members.{Distinct}
 use Rattle.listing.specs.Outcome.{Lines, Tables}
 use Rattle.arranging.specs.Arranged.{Sorted, Arranges, Arranged}
 use Rattle.arranging.specs.Laying.{LayOut, LaidOut}
@@ -24,19 +24,20 @@ table-lines : (values : List ℕ) (k : ℕ) (ls : List Line) → Entire ls → d
     → 4 * (k + valuesRecords ls) ≤ length values → Lines values (lineTable k ls) ls
 table-lines values k [] e d h = refl
 table-lines values k (l ∷ ls) e d h =
-    let j : 4 * k + 4 * valueRecords l ≡ 4 * (k + valueRecords l) = omega arith in (
+    let j : 4 * k + 4 * lineValueRecords l ≡ 4 * (k + lineValueRecords l) = omega arith in (
       record {
         first = k;
-        rest = lineTable (k + valueRecords l) ls;
+        rest = lineTable (k + lineValueRecords l) ls;
         behind = valueTable ls;
         line = refl;
         stand = d;
         within = omega arith;
         entries = e l (inl refl);
       },
-      table-lines values (k + valueRecords l) ls (λ m p. e m (inr p))
-          (ap (λ (i : ℕ). drop i values) (sym j) ∙ sym (drop-drop (4 * valueRecords l) (4 * k) values) ∙ ap (drop (4 * valueRecords l)) d
-          ∙ drop-at (lineValues l) (valueTable ls) (4 * valueRecords l) (line-values-length l))
+      table-lines values (k + lineValueRecords l) ls (λ m p. e m (inr p))
+          (ap (λ (i : ℕ). drop i values) (sym j) ∙ sym (drop-drop (4 * lineValueRecords l) (4 * k) values)
+          ∙ ap (drop (4 * lineValueRecords l)) d
+          ∙ drop-at (lineValues l) (valueTable ls) (4 * lineValueRecords l) (line-values-length l))
           (omega arith),
     )
 

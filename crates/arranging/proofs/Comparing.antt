@@ -26,7 +26,8 @@ use Rattle.assignments.specs.Entries.{entryAt}
 use Rattle.assignments.proofs.Entries.{open-at, assigned-at, open-span, span-inj}
 use Rattle.arranging.specs.declared.Comparison.{Comparison}
 use Rattle.arranging.specs.declared.Comparison.the-variants.{Earlier, Same, Later}
-use Rattle.arranging.specs.Order.{Compares, openAgainst, Standing, Comparable, EntriesCompared, LinesCompared, Begin, Ordered}
+use Rattle.arranging.specs.Order.{ComparesAs, openAgainst, Standing, LinesComparable, EntriesCompared, LinesCompared, TwoLines}
+use Rattle.arranging.specs.Order.{Ordered}
 use Rattle.listing.specs.Outcome.{Laid, Lines}
 use Rattle.listing.proofs.Writers.{line-bytes-length}
 
@@ -134,11 +135,11 @@ module _ (L : List ℕ) (i : ℕ) (X : List ℕ) where
 -- entries compared
 module _ (A B : List ℕ) (i : ℕ) (X : List ℕ) where
   both-open : entryAt A i ≡ Open → entryAt B i ≡ Open → EntriesCompared A B i X Same
-  unfolding Compares
+  unfolding ComparesAs
   both-open e f = record { exact = λ o q l m s t. not-assigned A i X o l s e ∙ sym (not-assigned B i X q m t f) }
 
   open-earlier : (y : Span) → entryAt A i ≡ Open → entryAt B i ≡ Assigned y → EntriesCompared A B i X Earlier
-  unfolding Compares
+  unfolding ComparesAs
   open-earlier y e f = record {
     exact = λ o q l m s t.
         let w = read-as B i X q m y t f in
@@ -150,27 +151,29 @@ module _ (A B : List ℕ) (i : ℕ) (X : List ℕ) where
   open-against (Assigned y) c e f k = rw k (open-earlier y e (sym f))
 
   pub open-later : (x : Span) → entryAt A i ≡ Assigned x → entryAt B i ≡ Open → EntriesCompared A B i X Later
-  unfolding Compares
+  unfolding ComparesAs
   open-later x e f = record {
     exact = λ o q l m s t.
         let v = read-as A i X o l x s e in
         rw (not-assigned B i X q m t f, v .is) (before-open (v .value));
   }
 
-  order-values : (v w : Term) (c : Comparison) → Compares (Lexicographic _<_) (encode v) (encode w) c → Compares Before (some v) (some w) c
-  unfolding Compares
+  order-values : (v w : Term) (c : Comparison) → ComparesAs (Lexicographic _<_) (encode v) (encode w) c
+      → ComparesAs Before (some v) (some w) c
+  unfolding ComparesAs
   order-values v w Earlier h = inr (refl, order-bytes v w .1 h)
   order-values v w Same h = ap some (encode-one v w h)
   order-values v w Later h = inr (refl, order-bytes w v .1 h)
 
   pub by-values :
       (x y : Span) → entryAt A i ≡ Assigned x → entryAt B i ≡ Assigned y → (p q : List ℕ) → p ≡ take (4 * x .count) (drop (4 * x .first) X)
-      → q ≡ take (4 * y .count) (drop (4 * y .first) X) → (c : Comparison) → Compares (Lexicographic _<_) p q c → EntriesCompared A B i X c
+      → q ≡ take (4 * y .count) (drop (4 * y .first) X) → (c : Comparison) → ComparesAs (Lexicographic _<_) p q c
+      → EntriesCompared A B i X c
   by-values x y e f p q g k c h = record {
     exact = λ o r l m s t.
         let v = read-as A i X o l x s e in
         let w = read-as B i X r m y t f in
-        let z : Compares (Lexicographic _<_) (encode (v .value)) (encode (w .value)) c = rw (g ∙ v .bytes, k ∙ w .bytes) at h in
+        let z : ComparesAs (Lexicographic _<_) (encode (v .value)) (encode (w .value)) c = rw (g ∙ v .bytes, k ∙ w .bytes) at h in
         rw (v .is, w .is) (order-values (v .value) (w .value) c z);
   }
 
@@ -195,13 +198,13 @@ module _ (A B : List ℕ) (i : ℕ) (X : List ℕ) where
     by-entries P f (o ∷ l) (q ∷ m) s t = f o q l m s t
 
     line-earlier : (c : Comparison) → c ≡ Earlier → EntriesCompared A B i X c → LinesCompared A B i X true
-    unfolding Compares
+    unfolding ComparesAs
     line-earlier c e x =
         let y : EntriesCompared A B i X Earlier = rw e at x in
         record { exact = by-entries Less (λ o q l m s t. inl (y .exact o q l m s t)) }
 
     line-later : (c : Comparison) → c ≡ Later → EntriesCompared A B i X c → LinesCompared A B i X false
-    unfolding Compares
+    unfolding ComparesAs
     line-later c e x =
         let y : EntriesCompared A B i X Later = rw e at x in
         record {
@@ -214,7 +217,7 @@ module _ (A B : List ℕ) (i : ℕ) (X : List ℕ) where
     says-next o q l m false e k = ⊎-elim (λ (z : Before o q). less-irrefl (o ∷ []) (inl (subst (Before o) (sym e) z))) (λ z. k (z .1))
 
     line-next : (c : Comparison) (r : Bool) → c ≡ Same → EntriesCompared A B i X c → LinesCompared A B (i + 1) X r → LinesCompared A B i X r
-    unfolding Compares
+    unfolding ComparesAs
     line-next c r e x k =
         let y : EntriesCompared A B i X Same = rw e at x in
         record {
@@ -223,11 +226,11 @@ module _ (A B : List ℕ) (i : ℕ) (X : List ℕ) where
               (k .exact l m (next-standing A i X o l s) (next-standing B i X q m t)));
         }
 
-    comparable-next : Comparable A B i X → Comparable A B (i + 1) X
+    comparable-next : LinesComparable A B i X → LinesComparable A B (i + 1) X
     comparable-next x = go (x .one) (x .two) (x .left) (x .right)
       where
-        go : (l m : Line) → Standing A i X l → Standing B i X m → Comparable A B (i + 1) X
-        go = by-entries (λ l m. Comparable A B (i + 1) X) (λ o q l m s t. record {
+        go : (l m : Line) → Standing A i X l → Standing B i X m → LinesComparable A B (i + 1) X
+        go = by-entries (λ l m. LinesComparable A B (i + 1) X) (λ o q l m s t. record {
           one = l;
           two = m;
           left = next-standing A i X o l s;
@@ -269,7 +272,7 @@ lines-length X A (l ∷ ls) (x, r) = omega (arith, laid-length X A l x, lines-le
 
 -- the first of two lists of lines
 module _ (A B X : List ℕ) where
-  begin-comparable : Begin A B X → Comparable A B 0 X
+  begin-comparable : TwoLines A B X → LinesComparable A B 0 X
   begin-comparable x =
       let p = laid-standing X A (x .one) (x .left) in
       let q = laid-standing X B (x .two) (x .right) in
@@ -280,10 +283,10 @@ module _ (A B X : List ℕ) where
 
   -- the entries before variable i are the same, so that the others decide
   pub record Undecided (i : ℕ) : Type 0 where
-    pub comparable : Comparable A B i X
+    pub comparable : LinesComparable A B i X
     pub decides : (r : Bool) → LinesCompared A B i X r → Ordered A B X r
 
-  pub undecided-start : Begin A B X → Undecided 0
+  pub undecided-start : TwoLines A B X → Undecided 0
   undecided-start x = record { comparable = begin-comparable x; decides = compared-ordered }
 
   module _ (i : ℕ) (x : Undecided i) where
@@ -303,7 +306,7 @@ module _ (A B X : List ℕ) where
         decides = λ r z. x .decides r (line-next A B i X h c r e y z);
       }
 
-  pub begin : (ls ms : List Line) → Lines X A ls → Lines X B ms → ¬ (length A ≡ 0) → ¬ (length B ≡ 0) → Begin A B X
+  pub begin : (ls ms : List Line) → Lines X A ls → Lines X B ms → ¬ (length A ≡ 0) → ¬ (length B ≡ 0) → TwoLines A B X
   begin [] ms x y h g = absurd (h (ap length x))
   begin (l ∷ ls) [] x y h g = absurd (g (ap length y))
   begin (l ∷ ls) (m ∷ ms) x y h g = record { one = l; two = m; left = x .0; right = y .0 }

@@ -12,7 +12,7 @@ use Rattle.terms.specs.Figures.{variables}
 use Rattle.terms.specs.Term.{Term}
 use Rattle.terms.specs.Table.{encode}
 use Rattle.terms.specs.Listing.{Line}
-use Rattle.terms.specs.Layout.{valueRecords, lineBytes, lineValues, lineTable, valuesRecords, valueTable}
+use Rattle.terms.specs.Layout.{lineValueRecords, lineBytes, lineValues, lineTable, valuesRecords, valueTable}
 use Rattle.records.proofs.Parts.{part}
 use Rattle.assignments.specs.declared.Entry.{Entry}
 use Rattle.assignments.specs.declared.Entry.the-variants.{Open}
@@ -80,9 +80,9 @@ module _ (s lines : List ℕ) (at : ℕ) (values : List ℕ) (first end : ℕ) (
   }
 
 -- bytes that begin with lines
-abbrev pub Begin : List ℕ → List ℕ → List Line → Type 0
-Begin s bytes [] = Unit {0}
-Begin s bytes (l ∷ ls) = (x : Laid s bytes l) × Begin s (x .rest) ls
+abbrev pub BeginsWith : List ℕ → List ℕ → List Line → Type 0
+BeginsWith s bytes [] = Unit {0}
+BeginsWith s bytes (l ∷ ls) = (x : Laid s bytes l) × BeginsWith s (x .rest) ls
 
 laid-longer : (s bytes more : List ℕ) (l : Line) → Laid s bytes l → Laid s (bytes ++ more) l
 laid-longer s bytes more l x = record {
@@ -95,7 +95,7 @@ laid-longer s bytes more l x = record {
   entries = x .entries;
 }
 
-lines-begin : (s bytes more : List ℕ) (ls : List Line) → Lines s bytes ls → Begin s (bytes ++ more) ls
+lines-begin : (s bytes more : List ℕ) (ls : List Line) → Lines s bytes ls → BeginsWith s (bytes ++ more) ls
 unfolding laid-longer
 lines-begin s bytes more [] h = tt
 lines-begin s bytes more (l ∷ ls) h = (laid-longer s bytes more l (h .0), lines-begin s (h .0 .rest) more ls (h .1))
@@ -112,7 +112,7 @@ lines-count s lines n ls h x =
 -- the lines that are left to lay out after i of them
 pub record Left (s lines values : List ℕ) (ms : List Line) (p w : List ℕ) (first i : ℕ) : Type 0 where
   pub rest : List Line
-  pub begin : Begin s (drop (4 * variables * i) p) rest
+  pub begin : BeginsWith s (drop (4 * variables * i) p) rest
   pub upto : i + length rest ≡ length ms
   pub records : first + valuesRecords rest ≡ valuesRecords ms
   pub bytes : sets p (4 * variables * i) (lineTable first rest) ≡ sets lines 0 (lineTable 0 ms)
@@ -129,7 +129,7 @@ laying-start s lines count values = record {
   same-values = refl;
   left = λ ms h. record {
     rest = ms;
-    begin = subst (λ (x : List ℕ). Begin s x ms) (take-append-drop (4 * variables * count) lines)
+    begin = subst (λ (x : List ℕ). BeginsWith s x ms) (take-append-drop (4 * variables * count) lines)
         (lines-begin s (take (4 * variables * count) lines) (drop (4 * variables * count) lines) ms h);
     upto = omega arith;
     records = omega arith;
@@ -151,9 +151,10 @@ pub record NextLine (s p : List ℕ) (i : ℕ) (rest : List Line) : Type 0 where
   pub others : List Line
   pub is : rest ≡ line ∷ others
   pub laid : Laid s (drop (4 * variables * i) p) line
-  pub begin : Begin s (laid .rest) others
+  pub begin : BeginsWith s (laid .rest) others
 
-next-line : (s p : List ℕ) (i : ℕ) (rest : List Line) → 1 ≤ length rest → Begin s (drop (4 * variables * i) p) rest → NextLine s p i rest
+next-line : (s p : List ℕ) (i : ℕ) (rest : List Line) → 1 ≤ length rest → BeginsWith s (drop (4 * variables * i) p) rest
+    → NextLine s p i rest
 next-line s p i [] h b = absurd (omega arith)
 next-line s p i (l ∷ ls) h b = record { line = l; others = ls; is = refl; laid = b .0; begin = b .1 }
 
@@ -204,13 +205,13 @@ module _ (s lines : List ℕ) (count : ℕ) (values p w : List ℕ) (first i : �
           ∙ drop-at (lineBytes (g .first) l) (g .rest) (4 * variables) (omega (arith, u, g .entries)) in
           record {
             rest = o;
-            begin = subst (λ (bytes : List ℕ). Begin s bytes o) (sym (behind-sets p (lineBytes first l) q (4 * variables * i)
+            begin = subst (λ (bytes : List ℕ). BeginsWith s bytes o) (sym (behind-sets p (lineBytes first l) q (4 * variables * i)
                 (4 * variables * (i + 1)) b j (omega (arith, x .room, y .same-lines)) ∙ a)) (k .begin);
             upto = omega (arith, z .upto, ap length (k .is));
             records = omega (arith, z .records, r, ap valuesRecords (k .is));
             bytes = ap₂ (λ (y : List ℕ) (k : ℕ). sets y k (lineTable next o)) b j ∙ ap (λ (k : ℕ). sets
                 (sets p (4 * variables * i) (lineBytes first l)) (4 * variables * i + length (lineBytes first l)) (lineTable k o)) r
-                ∙ sets-then (lineBytes first l) (lineTable (first + valueRecords l) o) p (4 * variables * i)
+                ∙ sets-then (lineBytes first l) (lineTable (first + lineValueRecords l) o) p (4 * variables * i)
                 ∙ ap (λ (ls : List Line). sets p (4 * variables * i) (lineTable first ls)) (sym (k .is)) ∙ z .bytes;
             copied = ap₂ (λ (y : List ℕ) (k : ℕ). sets y k (valueTable o)) c t ∙ sets-then (lineValues l) (valueTable o) w (4 * first)
                 ∙ ap (λ (ls : List Line). sets w (4 * first) (valueTable ls)) (sym (k .is)) ∙ z .copied;

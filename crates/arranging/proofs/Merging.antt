@@ -10,13 +10,14 @@ use lib.ListN.{length, take, drop, length-append, length-drop}
 use lib.Seq.{sets, drop-drop, take-all}
 use Rattle.terms.specs.Figures.{variables}
 use Rattle.terms.specs.Listing.{In, Line, Less, Rising}
-use Rattle.terms.specs.Layout.{lineBytes, valueRecords, valuesRecords}
+use Rattle.terms.specs.Layout.{lineBytes, lineValueRecords, valuesRecords}
 use Rattle.terms.proofs.Members.{in-left, in-right, in-append}
 use Rattle.terms.proofs.Order.{Compared, lt, eq, gt, less-trans, order}
 use Rattle.copying.proofs.Stores.{written-then}
 use Rattle.listing.specs.Outcome.{Laid, Lines}
 use Rattle.arranging.specs.Arranged.{Sorted}
-use Rattle.arranging.specs.Order.{Begin, Ordered, Apart, Leads, Either, Next, Merging, Chosen, MergedLine, Joined, Merged}
+use Rattle.arranging.specs.Order.{TwoLines, Ordered, Disjoint, Leads, Either, LeadsNext, Merging, NextChosen, MergedLine, SortedRun}
+use Rattle.arranging.specs.Order.{Merged}
 use Rattle.listing.proofs.Writers.{line-bytes-length}
 use Rattle.arranging.proofs.Comparing.{laid-length, laid-first, laid-rest, lines-length, begin}
 
@@ -28,7 +29,7 @@ second-part L h = take-all (length L - h) (drop h L) (omega (arith, length-drop 
 record Plus (l : Line) (rest all : List Line) : Type 0 where
   pub members : (x : Line) → In x all ↔ ((x ≡ l) ⊎ In x rest)
   pub count : length all ≡ suc (length rest)
-  pub records : valuesRecords all ≡ valueRecords l + valuesRecords rest
+  pub records : valuesRecords all ≡ lineValueRecords l + valuesRecords rest
 
 pub records-append : (ls ms : List Line) → valuesRecords (ls ++ ms) ≡ valuesRecords ls + valuesRecords ms
 records-append [] ms = omega arith
@@ -57,7 +58,7 @@ sorted-more l rest all ms p f s = record {
     λ q. ⊎-elim inl (λ z. inr (s .members x .1 z)) (p .members x .0 q),
   );
   count = ap suc (s .count) ∙ sym (p .count);
-  records = ap (valueRecords l +_) (s .records) ∙ sym (p .records);
+  records = ap (lineValueRecords l +_) (s .records) ∙ sym (p .records);
 }
 
 pub sorted-self : (ls : List Line) → Rising ls → Sorted ls ls
@@ -81,7 +82,7 @@ not-less l m h g = go (order l m)
 module _ (X A out p after : List ℕ) (o n k : ℕ) (l : Line) (x : Laid X A l) (rest all : List Line) where
   joined-more :
       Plus l rest all → ((y : Line) → In y rest → Less l y) → p ≡ sets out o (take (4 * variables) A) → k ≡ 4 * variables + n
-      → Joined X rest n p (o + 4 * variables) after → Joined X all k out o after
+      → SortedRun X rest n p (o + 4 * variables) after → SortedRun X all k out o after
   joined-more s f e q j =
       let b = lineBytes (x .first) l in
       let h : length b ≡ 4 * variables = omega (arith, line-bytes-length (x .first) l, x .entries) in
@@ -108,27 +109,27 @@ module _ (X A out p after : List ℕ) (o n k : ℕ) (l : Line) (x : Laid X A l) 
 
 -- the line that comes next
 module _ (A B X : List ℕ) where
-  next-left : ¬ (length A ≡ 0) → length B ≡ 0 → Next A B X true
+  next-left : ¬ (length A ≡ 0) → length B ≡ 0 → LeadsNext A B X true
   next-left h g = record { exact = go }
     where
-      go : (ls ms : List Line) → Lines X A ls → Lines X B ms → Rising ls → Rising ms → Apart ls ms → Leads ls ms
+      go : (ls ms : List Line) → Lines X A ls → Lines X B ms → Rising ls → Rising ms → Disjoint ls ms → Leads ls ms
       go [] ms x y u v d = absurd (h (ap length x))
       go (l ∷ ls) [] x y u v d = λ z p. ⊎-elim (u .0 z) absurd (in-append z ls [] p)
       go (l ∷ ls) (m ∷ ms) x y u v d = absurd (omega (arith, lines-length X B (m ∷ ms) y))
 
-  next-right : length A ≡ 0 → ¬ (length B ≡ 0) → Next A B X false
+  next-right : length A ≡ 0 → ¬ (length B ≡ 0) → LeadsNext A B X false
   next-right h g = record { exact = go }
     where
-      go : (ls ms : List Line) → Lines X A ls → Lines X B ms → Rising ls → Rising ms → Apart ls ms → Leads ms ls
+      go : (ls ms : List Line) → Lines X A ls → Lines X B ms → Rising ls → Rising ms → Disjoint ls ms → Leads ms ls
       go ls [] x y u v d = absurd (g (ap length y))
       go [] (m ∷ ms) x y u v d = λ z p. ⊎-elim (v .0 z) absurd (in-append z ms [] p)
       go (l ∷ ls) (m ∷ ms) x y u v d = absurd (omega (arith, lines-length X A (l ∷ ls) x))
 
-  next-earlier : ¬ (length A ≡ 0) → ¬ (length B ≡ 0) → (r : Bool) → Ordered A B X r → Next A B X r
+  next-earlier : ¬ (length A ≡ 0) → ¬ (length B ≡ 0) → (r : Bool) → Ordered A B X r → LeadsNext A B X r
   next-earlier h g r c = record { exact = λ ls ms x y u v d. go r c ls ms x y u v d }
     where
       go :
-          (r : Bool) → Ordered A B X r → (ls ms : List Line) → Lines X A ls → Lines X B ms → Rising ls → Rising ms → Apart ls ms
+          (r : Bool) → Ordered A B X r → (ls ms : List Line) → Lines X A ls → Lines X B ms → Rising ls → Rising ms → Disjoint ls ms
           → Either r (Leads ls ms) (Leads ms ls)
       go r c [] ms x y u v d = absurd (h (ap length x))
       go r c (l ∷ ls) [] x y u v d = absurd (g (ap length y))
@@ -141,21 +142,21 @@ module _ (A B X out : List ℕ) (o : ℕ) where
   merged-none : length A ≡ 0 → length B ≡ 0 → Merged A B X out o out
   merged-none h g = record { joined = go }
     where
-      go : (ls ms : List Line) → Lines X A ls → Lines X B ms → Rising ls → Rising ms → Apart ls ms
-          → Joined X (ls ++ ms) (length A + length B) out o out
+      go : (ls ms : List Line) → Lines X A ls → Lines X B ms → Rising ls → Rising ms → Disjoint ls ms
+          → SortedRun X (ls ++ ms) (length A + length B) out o out
       go [] [] x y u v d = record { order = []; sorted = sorted-self [] tt; bytes = []; lines = refl; long = omega arith; written = refl }
       go [] (m ∷ ms) x y u v d = absurd (omega (arith, lines-length X B (m ∷ ms) y))
       go (l ∷ ls) ms x y u v d = absurd (omega (arith, lines-length X A (l ∷ ls) x))
 
   module _ (p after : List ℕ) where
     merged-left :
-        Next A B X true → p ≡ sets out o (take (4 * variables) A) → Merged (drop (4 * variables) A) B X p (o + 4 * variables) after
+        LeadsNext A B X true → p ≡ sets out o (take (4 * variables) A) → Merged (drop (4 * variables) A) B X p (o + 4 * variables) after
         → Merged A B X out o after
     merged-left c e q = record { joined = λ ls ms x y u v d. go ls ms x y u v d (c .exact ls ms x y u v d) }
       where
         go :
-            (ls ms : List Line) → Lines X A ls → Lines X B ms → Rising ls → Rising ms → Apart ls ms → Leads ls ms
-            → Joined X (ls ++ ms) (length A + length B) out o after
+            (ls ms : List Line) → Lines X A ls → Lines X B ms → Rising ls → Rising ms → Disjoint ls ms → Leads ls ms
+            → SortedRun X (ls ++ ms) (length A + length B) out o after
         go [] ms x y u v d f = absurd f
         go (l ∷ ls) ms (x, s) y u v d f =
             let w = laid-rest X A l x in
@@ -163,13 +164,13 @@ module _ (A B X out : List ℕ) (o : ℕ) where
             (omega (arith, laid-length X A l x, ap length w)) (q .joined ls ms (rw w s) y (u .1) v (λ t i j. d t (inr i) j))
 
     merged-right :
-        Next A B X false → p ≡ sets out o (take (4 * variables) B) → Merged A (drop (4 * variables) B) X p (o + 4 * variables) after
+        LeadsNext A B X false → p ≡ sets out o (take (4 * variables) B) → Merged A (drop (4 * variables) B) X p (o + 4 * variables) after
         → Merged A B X out o after
     merged-right c e q = record { joined = λ ls ms x y u v d. go ls ms x y u v d (c .exact ls ms x y u v d) }
       where
         go :
-            (ls ms : List Line) → Lines X A ls → Lines X B ms → Rising ls → Rising ms → Apart ls ms → Leads ms ls
-            → Joined X (ls ++ ms) (length A + length B) out o after
+            (ls ms : List Line) → Lines X A ls → Lines X B ms → Rising ls → Rising ms → Disjoint ls ms → Leads ms ls
+            → SortedRun X (ls ++ ms) (length A + length B) out o after
         go ls [] x y u v d f = absurd f
         go ls (m ∷ ms) x (y, s) u v d f =
             let w = laid-rest X B m y in
@@ -180,19 +181,19 @@ module _ (A B X out : List ℕ) (o : ℕ) where
 
 -- the lines that are left
 module _ (A B X : List ℕ) (i j : ℕ) (x : Merging A i B j X) where
-  pub merging-begin : ¬ (i ≡ length A) → ¬ (j ≡ length B) → Begin (take (length A - i) (drop i A)) (take (length B - j) (drop j B)) X
+  pub merging-begin : ¬ (i ≡ length A) → ¬ (j ≡ length B) → TwoLines (take (length A - i) (drop i A)) (take (length B - j) (drop j B)) X
   merging-begin h g =
       rw (second-part A i, second-part B j)
       (begin (drop i A) (drop j B) X (x .one) (x .two) (x .left) (x .right) (λ z. h (omega (arith, x .left-whole, length-drop i A)))
       (λ z. g (omega (arith, x .right-whole, length-drop j B))))
 
-  pub chosen-right : i + j < length A + length B → i ≡ length A → Chosen A i B j X false
+  pub chosen-right : i + j < length A + length B → i ≡ length A → NextChosen A i B j X false
   chosen-right h e = record {
     next = next-right (drop i A) (drop j B) X (omega (arith, length-drop i A)) (λ z. omega (arith, length-drop j B));
     some = omega arith;
   }
 
-  pub chosen-left : ¬ (i ≡ length A) → j ≡ length B → Chosen A i B j X true
+  pub chosen-left : ¬ (i ≡ length A) → j ≡ length B → NextChosen A i B j X true
   chosen-left h e = record {
     next = next-left (drop i A) (drop j B) X (λ z. h (omega (arith, x .left-whole, length-drop i A))) (omega (arith, length-drop j B));
     some = omega (arith, x .left-whole);
@@ -200,7 +201,7 @@ module _ (A B X : List ℕ) (i j : ℕ) (x : Merging A i B j X) where
 
   pub chosen-earlier :
       ¬ (i ≡ length A) → ¬ (j ≡ length B) → (r : Bool) → Ordered (take (length A - i) (drop i A)) (take (length B - j) (drop j B)) X r
-      → Chosen A i B j X r
+      → NextChosen A i B j X r
   chosen-earlier h g r c =
       let k : Ordered (drop i A) (drop j B) X r = rw (second-part A i, second-part B j) at c in
       record {
@@ -214,7 +215,7 @@ module _ (A B X : List ℕ) (i j : ℕ) (x : Merging A i B j X) where
       either true = omega (arith, x .left-whole)
       either false = omega (arith, x .right-whole)
 
-  module _ (r : Bool) (c : Chosen A i B j X r) where
+  module _ (r : Bool) (c : NextChosen A i B j X r) where
     pub left-some : r ≡ true → i < length A
     left-some e = subst (λ z. Either z (i < length A) (j < length B)) e (c .some)
 
@@ -225,7 +226,7 @@ module _ (A B X : List ℕ) (i j : ℕ) (x : Merging A i B j X) where
       pub merged-line-left : r ≡ true → p ≡ sets out (i + j) (take (i + 4 * variables - i) (drop i A))
           → MergedLine A i B j X out p (i + 4 * variables) j
       merged-line-left e f =
-          let n : Next (drop i A) (drop j B) X true = subst (λ z. Next (drop i A) (drop j B) X z) e (c .next) in
+          let n : LeadsNext (drop i A) (drop j B) X true = subst (λ z. LeadsNext (drop i A) (drop j B) X z) e (c .next) in
           let k : i + 4 * variables - i ≡ 4 * variables = omega arith in
           let m : i + j + 4 * variables ≡ i + 4 * variables + j = omega arith in
           let w : drop (4 * variables) (drop i A) ≡ drop (i + 4 * variables) A = drop-drop (4 * variables) i A in
@@ -252,7 +253,7 @@ module _ (A B X : List ℕ) (i j : ℕ) (x : Merging A i B j X) where
       pub merged-line-right : r ≡ false → p ≡ sets out (i + j) (take (j + 4 * variables - j) (drop j B))
           → MergedLine A i B j X out p i (j + 4 * variables)
       merged-line-right e f =
-          let n : Next (drop i A) (drop j B) X false = subst (λ z. Next (drop i A) (drop j B) X z) e (c .next) in
+          let n : LeadsNext (drop i A) (drop j B) X false = subst (λ z. LeadsNext (drop i A) (drop j B) X z) e (c .next) in
           let k : j + 4 * variables - j ≡ 4 * variables = omega arith in
           let m : i + j + 4 * variables ≡ i + (j + 4 * variables) = omega arith in
           let w : drop (4 * variables) (drop j B) ≡ drop (j + 4 * variables) B = drop-drop (4 * variables) j B in
@@ -277,25 +278,25 @@ module _ (A B X : List ℕ) (i j : ℕ) (x : Merging A i B j X) where
           }
 
 -- merging line by line: what is left to merge, and that merging it merges the whole
-pub record Going (A B X out : List ℕ) (i j : ℕ) (now : List ℕ) : Type 0 where
+pub record MergingOn (A B X out : List ℕ) (i j : ℕ) (now : List ℕ) : Type 0 where
   pub merging : Merging A i B j X
   pub long : length now ≡ length out
   pub merged : (final : List ℕ) → Merged (drop i A) (drop j B) X now (i + j) final → Merged A B X out 0 final
 
 module _ (A B X out : List ℕ) where
-  pub going-start : Merging A 0 B 0 X → Going A B X out 0 0 out
+  pub going-start : Merging A 0 B 0 X → MergingOn A B X out 0 0 out
   going-start x = record { merging = x; long = refl; merged = λ final m. m }
 
   pub going-on :
-      (i j k m : ℕ) (now after : List ℕ) → Going A B X out i j now → length after ≡ length now → MergedLine A i B j X now after k m
-      → Going A B X out k m after
+      (i j k m : ℕ) (now after : List ℕ) → MergingOn A B X out i j now → length after ≡ length now → MergedLine A i B j X now after k m
+      → MergingOn A B X out k m after
   going-on i j k m now after g n s = record {
     merging = s .merging;
     long = n ∙ g .long;
     merged = λ final z. g .merged final (s .merged final z);
   }
 
-  pub going-end : (i j : ℕ) (now : List ℕ) → Going A B X out i j now → length A + length B ≤ i + j → Merged A B X out 0 now
+  pub going-end : (i j : ℕ) (now : List ℕ) → MergingOn A B X out i j now → length A + length B ≤ i + j → Merged A B X out 0 now
   going-end i j now g h =
       let x = g .merging in
       g .merged now

@@ -10,11 +10,12 @@ use lib.Seq.{sets, sets-eq, length-take-le, take-at, drop-at, take-append-add, d
 use Rattle.terms.specs.Figures.{variables}
 use Rattle.terms.specs.Listing.{In, Line, Rising}
 use Rattle.terms.specs.Layout.{lineBytes}
-use Rattle.terms.proofs.Members.{Distinct, in-left, in-right, in-append}
+use Rattle.terms.specs.Members.{Distinct}
+use Rattle.terms.proofs.Members.{in-left, in-right, in-append}
 use Rattle.copying.proofs.Stores.{stored}
 use Rattle.listing.specs.Outcome.{Lines}
 use Rattle.arranging.specs.Arranged.{Sorted}
-use Rattle.arranging.specs.Order.{Apart, Merges, Merged, Halves, Sorts, InOrder}
+use Rattle.arranging.specs.Order.{Disjoint, Merges, Merged, Halves, Sorts, InOrder}
 use Rattle.listing.proofs.Writers.{line-bytes-length}
 use Rattle.arranging.proofs.Comparing.{lines-length}
 use Rattle.arranging.proofs.Merging.{second-part, records-append, sorted-self}
@@ -97,7 +98,7 @@ distinct-right : (ls ms : List Line) → Distinct (ls ++ ms) → Distinct ms
 distinct-right [] ms d = d
 distinct-right (l ∷ ls) ms d = distinct-right ls ms (d .1)
 
-distinct-apart : (ls ms : List Line) → Distinct (ls ++ ms) → Apart ls ms
+distinct-apart : (ls ms : List Line) → Distinct (ls ++ ms) → Disjoint ls ms
 distinct-apart (l ∷ ls) ms d x (inl p) q = d .0 (in-right l ls ms (subst (λ y. In y ms) p q))
 distinct-apart (l ∷ ls) ms d x (inr p) q = distinct-apart ls ms (d .1) x p q
 
@@ -110,7 +111,7 @@ record Halved (X L : List ℕ) (h : ℕ) (ls : List Line) : Type 0 where
   pub right : Lines X (drop h L) two
   pub one-distinct : Distinct one
   pub two-distinct : Distinct two
-  pub apart : Apart one two
+  pub apart : Disjoint one two
 
 halved : (X L : List ℕ) (j h : ℕ) (ls : List Line) → h ≡ j * (4 * variables) → h ≤ length L → Lines X L ls → Distinct ls → Halved X L h ls
 halved X L j h ls e g x d =
@@ -143,7 +144,7 @@ sorted-halves ls ms os ps ns a b s = record {
   records = omega (arith, s .records, a .records, b .records, records-append os ps, records-append ls ms);
 }
 
-sorted-apart : (ls ms os ps : List Line) → Sorted ls os → Sorted ms ps → Apart ls ms → Apart os ps
+sorted-apart : (ls ms os ps : List Line) → Sorted ls os → Sorted ms ps → Disjoint ls ms → Disjoint os ps
 sorted-apart ls ms os ps a b d x p q = d x (a .members x .0 p) (b .members x .0 q)
 
 pub short-sorted : (L X : List ℕ) → length L ≤ 4 * variables → InOrder L X L

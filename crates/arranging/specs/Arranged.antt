@@ -11,7 +11,7 @@ use lib.ListN.{length, drop}
 use Rattle.terms.specs.Figures.{variables, tableBytes}
 use Rattle.terms.specs.Listing.{In, Line, Rising}
 use Rattle.terms.specs.Layout.{lineTable, valuesRecords, valueTable}
-use Rattle.terms.proofs.Members.{Distinct}
+use Rattle.terms.specs.Members.{Distinct}
 use Rattle.listing.specs.Outcome.{Tables}
 
 pub record Sorted (ls ms : List Line) : Type 0 where

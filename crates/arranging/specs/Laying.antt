@@ -1,11 +1,11 @@
 -- What laying out the values of lines in line order needs, and what it leaves. The lines stand in a table in any order of their values,
 -- which stand in s.
---   LayLine s L at X k      what laying out one line needs, the line at byte `at` of L, its values from record k of X on
---   LaidLine s L at X k M Y next    what it leaves
---   LayLines s L n X        what laying out the first n lines of L needs
---   LaidLines s L n X M Y   what it leaves
---   LayOut L n X k w        the same where the values stand in the first k records of X itself, with the work area w
---   LaidOut L n X k M Y     what that leaves; the bytes behind stay
+--   LayLine s L at X k             what laying out one line needs, the line at byte `at` of L, its values from record k of X on
+--   LaidLine s L at X k M Y next   what it leaves
+--   LayLines s L n X               what laying out the first n lines of L needs
+--   LaidLines s L n X M Y          what it leaves
+--   LayOut L n X k w               the same where the values stand in the first k records of X itself, with the work area w
+--   LaidOut L n X k M Y            what that leaves; the bytes behind stay
 use mathlib.Core.Path.{_≡_}
 use mathlib.Core.List.{List, _++_}
 use Prim.Native.Nat.{ℕ, _+_, _*_, _≤_}
@@ -13,18 +13,18 @@ use lib.ListN.{length, take, drop}
 use lib.Seq.{sets}
 use Rattle.terms.specs.Figures.{variables, tableBytes}
 use Rattle.terms.specs.Listing.{Line}
-use Rattle.terms.specs.Layout.{valueRecords, lineBytes, lineValues, lineTable, valuesRecords, valueTable}
+use Rattle.terms.specs.Layout.{lineValueRecords, lineBytes, lineValues, lineTable, valuesRecords, valueTable}
 use Rattle.listing.specs.Outcome.{Laid, Lines}
 
 pub record LayLine (s lines : List ℕ) (at : ℕ) (values : List ℕ) (first : ℕ) : Type 0 where
   pub line : Line
   pub laid : Laid s (drop at lines) line
   pub room : at + 4 * variables ≤ length lines
-  pub values-room : 4 * (first + valueRecords line) ≤ length values
+  pub values-room : 4 * (first + lineValueRecords line) ≤ length values
   pub values-most : length values ≤ tableBytes
 
 pub record LaidLine (s lines : List ℕ) (at : ℕ) (values : List ℕ) (first : ℕ) (lines-after values-after : List ℕ) (next : ℕ) : Type 0 where
-  pub records : (l : Line) → Laid s (drop at lines) l → next ≡ first + valueRecords l
+  pub records : (l : Line) → Laid s (drop at lines) l → next ≡ first + lineValueRecords l
   pub bytes : (l : Line) → Laid s (drop at lines) l → lines-after ≡ sets lines at (lineBytes first l)
   pub copied : (l : Line) → Laid s (drop at lines) l → values-after ≡ sets values (4 * first) (lineValues l)
 

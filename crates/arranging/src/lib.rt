@@ -14,7 +14,8 @@ ghost use lib.ListN.{length, take, drop};
 ghost use Rattle.terms.specs.Figures.{variables};
 ghost use Rattle.terms.specs.Listing.{Lexicographic};
 ghost use Rattle.arranging.specs.Arranged.{Arranges, Arranged};
-ghost use Rattle.arranging.specs.Order.{Compares, openAgainst, Comparable, EntriesCompared, Begin, Ordered, Merging, Chosen};
+ghost use Rattle.arranging.specs.Order.{ComparesAs, openAgainst, LinesComparable, EntriesCompared, TwoLines, Ordered, Merging};
+ghost use Rattle.arranging.specs.Order.{NextChosen};
 ghost use Rattle.arranging.specs.Order.{MergesLine, MergedLine, Merges, Merged, Halves, Sorts, InOrder};
 ghost use Rattle.arranging.specs.Laying.{LayLine, LaidLine, LayLines, LaidLines, LayOut, LaidOut};
 
@@ -27,7 +28,7 @@ enum Comparison {
 
 // Compares two tables: the first byte that differs decides, and a table comes before each longer one that begins with it.
 fn compare(a: &[u8], b: &[u8]) -> Comparison
-    ensures { λ r. ⌜ Compares (Lexicographic _<_) (now (a .entry)) (now (b .entry)) r ⌝ }
+    ensures { λ r. ⌜ ComparesAs (Lexicographic _<_) (now (a .entry)) (now (b .entry)) r ⌝ }
 {
     let mut i = 0;
     while i < a.len() {
@@ -60,7 +61,7 @@ fn compare_open(other: Entry) -> Comparison
 
 // Compares the entries that two lines have for variable i: open comes before assigned, and values go by their bytes.
 fn compare_entries(a: &[u8], b: &[u8], i: usize, values: &[u8]) -> Comparison
-    requires { ⌜ Comparable (now a) (now b) i (now values) × (i < variables) ⌝ }
+    requires { ⌜ LinesComparable (now a) (now b) i (now values) × (i < variables) ⌝ }
     ensures { λ r. ⌜ EntriesCompared (now (a .entry)) (now (b .entry)) i (now (values .entry)) r ⌝ }
 {
     let x = assignments::entry_at(a, i);
@@ -79,7 +80,7 @@ fn compare_entries(a: &[u8], b: &[u8], i: usize, values: &[u8]) -> Comparison
 
 // Whether the line that a begins with comes before the one that b begins with: the first entry that differs decides.
 fn before(a: &[u8], b: &[u8], values: &[u8]) -> bool
-    requires { ⌜ Begin (now a) (now b) (now values) ⌝ }
+    requires { ⌜ TwoLines (now a) (now b) (now values) ⌝ }
     ensures { λ r. ⌜ Ordered (now (a .entry)) (now (b .entry)) (now (values .entry)) r ⌝ }
 {
     let mut variable = 0;
@@ -103,7 +104,7 @@ fn before(a: &[u8], b: &[u8], values: &[u8]) -> bool
 // Whether the line that comes next is one of a: of the two that stand next it is the earlier.
 fn left_is_next(a: &[u8], i: usize, b: &[u8], j: usize, values: &[u8]) -> bool
     requires { ⌜ Merging (now a) i (now b) j (now values) × (i + j < length (now a) + length (now b)) ⌝ }
-    ensures { λ r. ⌜ Chosen (now (a .entry)) i (now (b .entry)) j (now (values .entry)) r ⌝ }
+    ensures { λ r. ⌜ NextChosen (now (a .entry)) i (now (b .entry)) j (now (values .entry)) r ⌝ }
 {
     if i == a.len() {
         return false;

@@ -6,7 +6,7 @@ use mathlib.Core.Path.{_≡_}
 use mathlib.Core.Option.{Option, none, some}
 use mathlib.Core.List.{List, [], _∷_}
 use Prim.Native.Nat.{ℕ, _+_, _*_, _≤_}
-use Rattle.terms.specs.Figures as figures
+use Rattle.terms.specs.Figures.{valueRecords}
 use Rattle.terms.specs.Term.{Term, size, Value}
 use Rattle.terms.specs.Listing.{Line}
 use Rattle.records.specs.Parts.{Part}
@@ -18,7 +18,7 @@ pub record Held (s : List ℕ) (top : ℕ) (x : Span) (v : Term) : Type 0 where
   pub part : Part s (4 * x .first) v
   pub count : x .count ≡ size v
   pub below : 4 * (x .first + x .count) ≤ top
-  pub most : size v ≤ figures.valueRecords
+  pub most : size v ≤ valueRecords
   pub value : Value v
 
 abbrev pub EntryHeld : List ℕ → ℕ → Entry → Option Term → Type 0

@@ -3,6 +3,9 @@
 // An entry is open, or assigned a run of records of the value table; eight of them, by value, are an assignment. The crate reads them from
 // a line and tells whether each variable of a pattern has a value. It promises that an entry is what the line's bytes say, and that a value
 // is found exactly if document 01's cause 11 doesn't hold. It rests on `records`.
+//
+// The entries stand in a crate of their own between `records` and `sweeping`, because the sweep reads them and the search passes the same
+// entries on.
 
 use records::Kind;
 use records::RECORD;
@@ -73,11 +76,11 @@ pub fn value_of(values: &[u8], span: Span) -> &[u8]
 }
 
 // Whether variable i is assigned a value.
-fn is_given(values: &[u8], a: [Entry; VARIABLES], i: usize) -> bool
+fn is_given(values: &[u8], entries: [Entry; VARIABLES], i: usize) -> bool
     requires { ⌜ i < variables ⌝ }
-    ensures { λ r. ⌜ Says r ((v : Term) × Given (now (values .entry)) a i v) ⌝ }
+    ensures { λ r. ⌜ Says r ((v : Term) × Given (now (values .entry)) entries i v) ⌝ }
 {
-    let e = a[i];
+    let e = entries[i];
     let Entry::Assigned(span) = e else {
         return false;
     };
@@ -121,23 +124,23 @@ fn mentions(s: &[u8], i: usize) -> bool
 }
 
 // Whether the variable i of s has no value.
-fn lacks(s: &[u8], values: &[u8], a: [Entry; VARIABLES], i: usize) -> bool
+fn lacks(s: &[u8], values: &[u8], entries: [Entry; VARIABLES], i: usize) -> bool
     requires { ⌜ i < variables ⌝ }
-    ensures { λ r. ⌜ Lacking (now (s .entry)) (now (values .entry)) a i r ⌝ }
+    ensures { λ r. ⌜ Lacking (now (s .entry)) (now (values .entry)) entries i r ⌝ }
 {
     if mentions(s, i) {
-        return !is_given(values, a, i);
+        return !is_given(values, entries, i);
     }
     false
 }
 
 // Whether each variable of s is assigned a value; entries of other variables are not read.
-pub fn all_given(s: &[u8], values: &[u8], a: [Entry; VARIABLES]) -> bool
-    ensures { λ r. ⌜ AllGiven (now (s .entry)) (now (values .entry)) a r ⌝ }
+pub fn all_given(s: &[u8], values: &[u8], entries: [Entry; VARIABLES]) -> bool
+    ensures { λ r. ⌜ AllGiven (now (s .entry)) (now (values .entry)) entries r ⌝ }
 {
     let mut i = 0;
     while i < VARIABLES {
-        if lacks(s, values, a, i) {
+        if lacks(s, values, entries, i) {
             return false;
         }
         i += 1;

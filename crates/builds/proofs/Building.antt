@@ -1,10 +1,10 @@
 -- The steps of a goal to build: a body's abstraction that is written at the top becomes the target of the goal's head, and a body that no
 -- head sweeps to leaves nothing. The state after a step stands where it says since what is below the top is kept. Assumes nothing.
---   Site P W s r f t e     the item r, first of those put off, is the goal to build f's body from t and e
---   Bodied P W s r m b     b is the table of the body that the choices m give
---   Used P W s r m u       u says whether that body uses its local
---   Numbers .. f t e       how long that table is
---   Facts .. gs hs f t e   what writing the abstraction over it needs to know
+--   BuildSite P W s r f t e   the stored goal r, first of those deferred, is the goal to build f's body from t and e
+--   Bodied P W s r m b        b is the table of the body that the choices m give
+--   UsesTold P W s r m u      u says whether that body uses its local
+--   Numbers .. f t e          how long that table is
+--   Facts .. gs hs f t e      what writing the abstraction over it needs to know
 use mathlib.Core.Path.{_≡_, refl, sym, ap, _∙_, subst}
 use mathlib.Core.Bool.{Bool, true, false}
 use mathlib.Core.Logic.{_↔_}
@@ -22,10 +22,10 @@ use Rattle.terms.specs.Listing.{Line}
 use Rattle.terms.specs.Refusal.{OccursIn}
 use Rattle.terms.proofs.Table.{encode-length}
 use Rattle.terms.proofs.Shift.{size-shift}
-use Rattle.matching.proofs.Lines.{Values}
-use Rattle.matching.proofs.Lister.{Sweeps}
-use Rattle.matching.proofs.Goals.{Goal, Goal.match, Goal.build, Listable}
-use Rattle.matching.proofs.Bodies.{copies, copies-size, body, body-uses, body-size, body-closed, body-ground, body-normal, body-eta, Some}
+use Rattle.matching.specs.Lists.{Values}
+use Rattle.matching.specs.Goals.{Sweeps, Goal, Goal.match, Goal.build, Listable}
+use Rattle.matching.specs.Bodies.{copies, body, Some}
+use Rattle.matching.proofs.Bodies.{copies-size, body-uses, body-size, body-closed, body-ground, body-normal, body-eta}
 use Rattle.matching.proofs.Targets.{closed-more, closed-shift}
 use Rattle.matching.proofs.Choices.{listable-chosen}
 use Rattle.records.specs.Parts.{Part, Tree}
@@ -34,32 +34,32 @@ use Rattle.records.proofs.Parts.{tree, whole}
 use Rattle.sweeping.proofs.Contraction.{closed-fits}
 use Rattle.copying.proofs.Stores as Stores
 use Rattle.assignments.specs.declared.Entry.{Entry}
-use Rattle.abstractions.specs.Bodies.{Choosing, Body, chosenIn}
+use Rattle.abstractions.specs.Bodies.{BodySource, Body, chosenIn}
 use Rattle.agenda.specs.declared.Agenda.{Agenda}
 use Rattle.agenda.specs.declared.Branch.{Branch}
-use Rattle.agenda.specs.declared.Item.{Item}
-use Rattle.agenda.specs.Items.{itemBytes, ItemAt, Fits}
-use Rattle.agenda.specs.State.{targetBytes, Target, State, Bounds, Ready, Easy, Hard, Chain, weights, relinking}
+use Rattle.agenda.specs.declared.StoredGoal.{StoredGoal}
+use Rattle.agenda.specs.Stored.{storedBytes, StoredAt, StoredFits}
+use Rattle.agenda.specs.State.{targetBytes, Target, State, Bounds, Ready, Easy, Deferred, Chain, weights, relinking}
 use Rattle.agenda.specs.Moves.{Move, Moved, Failed, Branched, progress}
-use Rattle.builds.specs.Choices.{Chosen}
-use Rattle.builds.specs.Builds.{Builds, AnyChosen, Pushes, Pushed, targetItem, afterItem}
-use Rattle.agenda.proofs.Frame.{Kept, part-kept, chain-kept, holds-kept, kept-sets, kept-then, length-stored, part-stored, item-stored}
+use Rattle.builds.specs.Choices.{ChosenBody}
+use Rattle.builds.specs.Builds.{Builds, AnyChosen, Pushes, StoredPushed, storedTarget, afterStored}
+use Rattle.agenda.proofs.Frame.{Kept, part-kept, chain-kept, holds-kept, kept-sets, kept-then, length-stored, part-stored, goal-stored}
 use Rattle.agenda.proofs.Frame.{chain-match}
 
-pub record Site (P W : List ℕ) (s : Agenda) (r : Item) (f t e : Term) : Type 0 where
+pub record BuildSite (P W : List ℕ) (s : Agenda) (r : StoredGoal) (f t e : Term) : Type 0 where
   pub part : Part P (r .part) f
   pub target : Target W (s .top) (suc (size f)) (r .target) t
   pub argument : Target W (s .top) (suc (size f)) (r .argument) e
   pub suits : Listable variables (OccursIn P) (build f t e)
-  pub next : r .next < s .hard
+  pub next : r .next < s .deferred
   pub part-even : r .part % 4 ≡ 0
   pub next-even : r .next % 4 ≡ 0
 
-pub record Bodied (P W : List ℕ) (s : Agenda) (r : Item) (m b : List ℕ) : Type 0 where
-  pub is : (f t e : Term) → Site P W s r f t e → b ≡ encode (body e 0 t (chosenIn m) 0)
+pub record Bodied (P W : List ℕ) (s : Agenda) (r : StoredGoal) (m b : List ℕ) : Type 0 where
+  pub is : (f t e : Term) → BuildSite P W s r f t e → b ≡ encode (body e 0 t (chosenIn m) 0)
 
-pub record Used (P W : List ℕ) (s : Agenda) (r : Item) (m : List ℕ) (u : Bool) : Type 0 where
-  pub is : (f t e : Term) → Site P W s r f t e → u ≡ uses 0 (body e 0 t (chosenIn m) 0)
+pub record UsesTold (P W : List ℕ) (s : Agenda) (r : StoredGoal) (m : List ℕ) (u : Bool) : Type 0 where
+  pub is : (f t e : Term) → BuildSite P W s r f t e → u ≡ uses 0 (body e 0 t (chosenIn m) 0)
 
 -- a choice that is made, and none
 pub choice-made : (m : List ℕ) (n i : ℕ) → i < n → ¬ (getD m i 0 ≡ 0) → AnyChosen m n true
@@ -79,9 +79,10 @@ module _ (P W : List ℕ) (s : Agenda) (a : List Entry) where
   abbrev pub BuildState : List Goal → Line → Term → Term → Term → List Goal → Type 0
   BuildState gs l f t e hs = State relinking P W s a gs (build f t e ∷ hs) l
 
-  pub site : (r : Item) (gs hs : List Goal) (l : Line) (f t e : Term) → ItemAt W (s .hard) r → BuildState gs l f t e hs → Site P W s r f t e
+  pub site : (r : StoredGoal) (gs hs : List Goal) (l : Line) (f t e : Term) → StoredAt W (s .deferred) r → BuildState gs l f t e hs
+      → BuildSite P W s r f t e
   site r gs hs l f t e y x =
-      let n = x .hard .0 in
+      let n = x .deferred .0 in
       record {
         part = subst (λ (i : ℕ). Part P i f) (sym (y .part)) (n .goal .part);
         target = subst (λ (i : ℕ). Target W (s .top) (suc (size f)) i t) (sym (y .target)) (n .goal .target);
@@ -93,22 +94,22 @@ module _ (P W : List ℕ) (s : Agenda) (a : List Entry) where
       }
 
   module _ (ready : Ready relinking P W s a) (x : Builds W s) where
-    -- the first goal put off is one to build, in each state that stands there
+    -- the first deferred goal is one to build, in each state that stands there
     pub opened :
         (gs : List Goal) (l : Line) (Q : List Goal → Type 0)
         → ((f t e : Term) (hs : List Goal) → BuildState gs l f t e hs → Q (build f t e ∷ hs))
         → (hs : List Goal) → State relinking P W s a gs hs l → Q hs
-    opened gs l Q h [] y = absurd (omega (arith, x .some-hard, y .hard))
-    opened gs l Q h (match p t ∷ hs) y = absurd (x .kind (y .hard .0 .goal .kind))
+    opened gs l Q h [] y = absurd (omega (arith, x .some-deferred, y .deferred))
+    opened gs l Q h (match p t ∷ hs) y = absurd (x .kind (y .deferred .0 .goal .kind))
     opened gs l Q h (build f t e ∷ hs) y = h f t e hs y
 
     -- the state that a step starts from
     pub from : (A : Type 0) → ((gs hs : List Goal) (l : Line) (f t e : Term) → BuildState gs l f t e hs → A) → A
     from A h = opened (ready .gs) (ready .line) (λ _. A) (λ f t e hs y. h (ready .gs) hs (ready .line) f t e y) (ready .hs) (ready .state)
 
-    module _ (r : Item) (y : ItemAt W (s .hard) r) where
-      pub choosing : (last room : ℕ) → 160 ≤ last → targetBytes ≤ room → Choosing W (r .target) 0 (r .argument) last 0 room 0
-      choosing last room h k = from (Choosing W (r .target) 0 (r .argument) last 0 room 0) (λ gs hs l f t e z.
+    module _ (r : StoredGoal) (y : StoredAt W (s .deferred) r) where
+      pub choosing : (last room : ℕ) → 160 ≤ last → targetBytes ≤ room → BodySource W (r .target) 0 (r .argument) last 0 room 0
+      choosing last room h k = from (BodySource W (r .target) 0 (r .argument) last 0 room 0) (λ gs hs l f t e z.
           let v = site r gs hs l f t e y z in
           let u = v .target in
           record {
@@ -130,7 +131,7 @@ module _ (P W : List ℕ) (s : Agenda) (a : List Entry) where
 
       module _ (m b c : List ℕ) (next n k : ℕ) (h : length b ≡ targetBytes)
           (w : Body W (r .target) 0 (r .argument) m 0 b 0 c next n k) where
-        size-end : (f t e : Term) → Site P W s r f t e → (n ≡ 4 * size (body e 0 t (chosenIn m) 0)) × (n ≤ targetBytes)
+        size-end : (f t e : Term) → BuildSite P W s r f t e → (n ≡ 4 * size (body e 0 t (chosenIn m) 0)) × (n ≤ targetBytes)
         size-end f t e v =
             let p : n ≡ 0 + 4 * size (body e 0 t (chosenIn m) 0) = w .exact t e (v .target .part) (v .argument .part) in
             (omega arith, omega (arith, body-size e 0 t (chosenIn m) 0, v .target .short))
@@ -153,7 +154,7 @@ module _ (P W : List ℕ) (s : Agenda) (a : List Entry) where
               (omega (arith, p .1));
         }
 
-        number : (f t e : Term) → Site P W s r f t e → k ≡ copies e 0 t
+        number : (f t e : Term) → BuildSite P W s r f t e → k ≡ copies e 0 t
         number f t e v = omega (arith, w .number t e (v .target .part) (v .argument .part))
 
         pub choices-within : k ≤ 160
@@ -162,7 +163,7 @@ module _ (P W : List ℕ) (s : Agenda) (a : List Entry) where
             omega (arith, number f t e v, copies-size e 0 t, v .target .short))
 
         -- the local is used where a choice is made
-        pub used-chosen : (u : Bool) → AnyChosen m k u → Used P W s r m u
+        pub used-chosen : (u : Bool) → AnyChosen m k u → UsesTold P W s r m u
         used-chosen u h = record {
           is = λ f t e v.
               answers-same (Some (chosenIn m) 0 (copies e 0 t)) u (uses 0 (body e 0 t (chosenIn m) 0))
@@ -173,16 +174,17 @@ module _ (P W : List ℕ) (s : Agenda) (a : List Entry) where
       -- a body that no head sweeps to, or that doesn't use its local, leaves nothing
       module _ (m : List ℕ) where
         none : (W′ : List ℕ) → W′ ≡ W
-            → ((f t e : Term) (φ : ℕ → Term) → Site P W s r f t e → Values φ
+            → ((f t e : Term) (φ : ℕ → Term) → BuildSite P W s r f t e → Values φ
             → ¬ (Sweeps f (lam (body e 0 t (chosenIn m) 0)) φ × (uses 0 (body e 0 t (chosenIn m) 0) ≡ true)))
-            → Failed relinking P W s a (Chosen m) W′
+            → Failed relinking P W s a (ChosenBody m) W′
         none W′ q h = record {
           none = λ gs hs l z φ v.
-              opened gs l (λ us. ¬ Chosen m gs us l φ) (λ f t e us o p. h f t e φ (site r gs us l f t e y o) v (p .1 .0)) hs z;
+              opened gs l (λ us. ¬ ChosenBody m gs us l φ) (λ f t e us o p. h f t e φ (site r gs us l f t e y o) v (p .1 .0)) hs z;
           kept = ap (take (s .top)) q;
         }
 
-        pub unused : (W′ : List ℕ) → W′ ≡ W → (u : Bool) → Used P W s r m u → u ≡ false → Branched P W s a (Chosen m) W′ Branch.Failed
+        pub unused : (W′ : List ℕ) → W′ ≡ W → (u : Bool) → UsesTold P W s r m u → u ≡ false
+            → Branched P W s a (ChosenBody m) W′ Branch.Failed
         unfolding Branched
         unused W′ q u h n = none W′ q (λ f t e φ v o p. subst T (sym (p .1) ∙ sym (h .is f t e v) ∙ n) tt)
 
@@ -191,7 +193,7 @@ module _ (P W : List ℕ) (s : Agenda) (a : List Entry) where
           pub length-is : length b ≡ 4 * size (body e 0 t (chosenIn m) 0)
           pub short : length b ≤ 624
 
-        numbers : (f t e : Term) → Site P W s r f t e → Numbers f t e
+        numbers : (f t e : Term) → BuildSite P W s r f t e → Numbers f t e
         numbers f t e v =
             let p : length b ≡ 4 * size (body e 0 t (chosenIn m) 0) =
             ap length (w .is f t e v) ∙ encode-length (body e 0 t (chosenIn m) 0) in
@@ -205,7 +207,7 @@ module _ (P W : List ℕ) (s : Agenda) (a : List Entry) where
             let v = site r gs hs l f t e y z in
             (tree b (body e 0 t (chosenIn m) 0) (w .is f t e v), omega (arith, numbers f t e v .short)))
 
-        pub pushes : Fits r → Pushes W s r b
+        pub pushes : StoredFits r → Pushes W s r b
         pushes o = from (Pushes W s r b) (λ gs hs l f t e z.
             let v = numbers f t e (site r gs hs l f t e y z) in
             record {
@@ -215,14 +217,14 @@ module _ (P W : List ℕ) (s : Agenda) (a : List Entry) where
               part = o .part;
             })
 
-        pub eta : (W′ : List ℕ) → W′ ≡ W → (u : Bool) → Equals b isEta u → u ≡ true → Branched P W s a (Chosen m) W′ Branch.Failed
+        pub eta : (W′ : List ℕ) → W′ ≡ W → (u : Bool) → Equals b isEta u → u ≡ true → Branched P W s a (ChosenBody m) W′ Branch.Failed
         unfolding Branched
         eta W′ q u h n = none m W′ q (λ f t e φ v o p.
             body-eta φ f e t (chosenIn m) (v .target .normal) (sym (h (body e 0 t (chosenIn m) 0) (w .is f t e v)) ∙ n) (p .0))
 
 -- the abstraction over the body is the target of the head
-module _ (P W : List ℕ) (s : Agenda) (r : Item) (f t e : Term) (m b X : List ℕ) (bounds : Bounds P W s) (v : Site P W s r f t e)
-    (q : X ≡ sets (sets W (s .top) (bytes 1 0 b)) (s .top + 4 + length b) (itemBytes (targetItem r (s .top) (s .easy))))
+module _ (P W : List ℕ) (s : Agenda) (r : StoredGoal) (f t e : Term) (m b X : List ℕ) (bounds : Bounds P W s) (v : BuildSite P W s r f t e)
+    (q : X ≡ sets (sets W (s .top) (bytes 1 0 b)) (s .top + 4 + length b) (storedBytes (storedTarget r (s .top) (s .easy))))
     (w : b ≡ encode (body e 0 t (chosenIn m) 0)) (room : s .top + 12 + length b ≤ tableBytes)
     (no-eta : isEta (body e 0 t (chosenIn m) 0) ≡ false)
   where
@@ -245,13 +247,13 @@ module _ (P W : List ℕ) (s : Agenda) (r : Item) (f t e : Term) (m b X : List �
     kept-first = kept-sets (bytes 1 0 b) W X₁ (s .top) (s .top) refl (omega arith) (omega (arith, bounds .whole, room))
 
     kept-second : Kept X₁ X at
-    kept-second = kept-sets (itemBytes (targetItem r (s .top) (s .easy))) X₁ X at at q (omega arith) (omega (arith, length-X₁, room))
+    kept-second = kept-sets (storedBytes (storedTarget r (s .top) (s .easy))) X₁ X at at q (omega arith) (omega (arith, length-X₁, room))
 
     pub kept-all : Kept W X (s .top)
     kept-all = kept-then W X₁ X (s .top) at (omega arith) kept-first kept-second
 
     pub length-X : length X ≡ tableBytes
-    length-X = length-stored (itemBytes (targetItem r (s .top) (s .easy))) X₁ X at q ∙ length-X₁
+    length-X = length-stored (storedBytes (storedTarget r (s .top) (s .easy))) X₁ X at q ∙ length-X₁
 
     written : Part X (s .top) (lam B)
     written =
@@ -273,19 +275,19 @@ module _ (P W : List ℕ) (s : Agenda) (r : Item) (f t e : Term) (m b X : List �
           short = omega (arith, u .short, body-size e 0 t (chosenIn m) 0);
         }
 
-    item : ItemAt X at (targetItem r (s .top) (s .easy))
-    item = item-stored X₁ X at (targetItem r (s .top) (s .easy)) q (omega (arith, length-X₁, room)) (v .part-even) (bounds .even)
+    stored-goal : StoredAt X at (storedTarget r (s .top) (s .easy))
+    stored-goal = goal-stored X₁ X at (storedTarget r (s .top) (s .easy)) q (omega (arith, length-X₁, room)) (v .part-even) (bounds .even)
         (bounds .easy-even) refl
 
     pub chain-pushed : (gs : List Goal) → Chain Easy P W (s .top) (s .easy) gs → Chain Easy P X (at + 8) at (match f (lam B) ∷ gs)
     chain-pushed gs c =
-        chain-match Easy P X (at + 8) at (targetItem r (s .top) (s .easy)) item (omega (arith, bounds .start)) (omega arith)
+        chain-match Easy P X (at + 8) at (storedTarget r (s .top) (s .easy)) stored-goal (omega (arith, bounds .start)) (omega arith)
         (omega (arith, bounds .even, size-body))
         (omega (arith, bounds .easy-room)) f (lam B) gs refl tt (v .part) target
         (listable-chosen variables (OccursIn P) f t e (chosenIn m) (v .suits) no-eta)
         (chain-kept W X (s .top) kept-all (at + 8) (omega arith) P Easy (s .easy) gs c)
 
-    pub bounds-pushed : Bounds P X (afterItem s r at)
+    pub bounds-pushed : Bounds P X (afterStored s r at)
     bounds-pushed = record {
       whole = length-X;
       short = bounds .short;
@@ -294,21 +296,21 @@ module _ (P W : List ℕ) (s : Agenda) (r : Item) (f t e : Term) (m b X : List �
       even = omega (arith, bounds .even, size-body);
       easy-room = omega arith;
       easy-even = omega (arith, bounds .even, size-body);
-      hard-room = omega (arith, v .next, bounds .hard-room);
-      hard-even = v .next-even;
+      deferred-room = omega (arith, v .next, bounds .deferred-room);
+      deferred-even = v .next-even;
     }
 
-module _ (P W : List ℕ) (s : Agenda) (a : List Entry) (ready : Ready relinking P W s a) (x : Builds W s) (r : Item)
-    (y : ItemAt W (s .hard) r) (m b : List ℕ) (w : Bodied P W s r m b) (X : List ℕ)
-    (i j : Bool) (used : Used P W s r m i) (no-eta : Equals b isEta j) (is-used : i ≡ true) (is-none : j ≡ false)
-    (q : X ≡ sets (sets W (s .top) (bytes 1 0 b)) (s .top + 4 + length b) (itemBytes (targetItem r (s .top) (s .easy))))
+module _ (P W : List ℕ) (s : Agenda) (a : List Entry) (ready : Ready relinking P W s a) (x : Builds W s) (r : StoredGoal)
+    (y : StoredAt W (s .deferred) r) (m b : List ℕ) (w : Bodied P W s r m b) (X : List ℕ)
+    (i j : Bool) (used : UsesTold P W s r m i) (no-eta : Equals b isEta j) (is-used : i ≡ true) (is-none : j ≡ false)
+    (q : X ≡ sets (sets W (s .top) (bytes 1 0 b)) (s .top + 4 + length b) (storedBytes (storedTarget r (s .top) (s .easy))))
   where
     abbrev last : Agenda
-    last = afterItem s r (s .top + 4 + length b)
+    last = afterStored s r (s .top + 4 + length b)
 
     -- what holds of the goal, however it is read
     pub record Facts (gs hs : List Goal) (f t e : Term) : Type 0 where
-      pub site : Site P W s r f t e
+      pub site : BuildSite P W s r f t e
       pub is : b ≡ encode (body e 0 t (chosenIn m) 0)
       pub uses-local : uses 0 (body e 0 t (chosenIn m) 0) ≡ true
       pub normal : isEta (body e 0 t (chosenIn m) 0) ≡ false
@@ -329,9 +331,9 @@ module _ (P W : List ℕ) (s : Agenda) (a : List Entry) (ready : Ready relinking
           within = omega (arith, z .room, n .short);
         }
 
-    move : Move relinking P W s a (Chosen m) X last a
+    move : Move relinking P W s a (ChosenBody m) X last a
     move = record {
-      go = λ gs hs l. opened P W s a ready x gs l (λ us. Moved P X last a (Chosen m gs us l)) (λ f t e us z.
+      go = λ gs hs l. opened P W s a ready x gs l (λ us. Moved P X last a (ChosenBody m gs us l)) (λ f t e us z.
           let n = facts gs us l f t e z in
           let k = kept-all P W s r f t e m b X (ready .bounds) (n .site) q (n .is) (n .within) (n .normal) in
           record {
@@ -340,8 +342,8 @@ module _ (P W : List ℕ) (s : Agenda) (a : List Entry) (ready : Ready relinking
             line = l;
             state = record {
               easy = chain-pushed P W s r f t e m b X (ready .bounds) (n .site) q (n .is) (n .within) (n .normal) gs (z .easy);
-              hard = chain-kept W X (s .top) k (last .top) (omega arith) P Hard (r .next) us
-                  (subst (λ (i : ℕ). Chain Hard P W (s .top) i us) (sym (y .next)) (z .hard .1));
+              deferred = chain-kept W X (s .top) k (last .top) (omega arith) P Deferred (r .next) us
+                  (subst (λ (i : ℕ). Chain Deferred P W (s .top) i us) (sym (y .next)) (z .deferred .1));
               entries = holds-kept W X (s .top) k (last .top) (omega arith) a l (z .entries);
               line = z .line;
               assigns = z .assigns;
@@ -360,23 +362,24 @@ module _ (P W : List ℕ) (s : Agenda) (a : List Entry) (ready : Ready relinking
           bounds-pushed P W s r f t e m b X (ready .bounds) (n .site) q (n .is) (n .within) (n .normal));
     }
 
-pub pushed :
-    (P W : List ℕ) (s : Agenda) (a : List Entry) (r : Item) (m b X : List ℕ) (s′ : Agenda) (i j : Bool) → Ready relinking P W s a
-    → Builds W s → ItemAt W (s .hard) r → Bodied P W s r m b
-    → Used P W s r m i → Equals b isEta j → i ≡ true → j ≡ false → Pushed W s r b X s′ → Branched P W s a (Chosen m) X (Branch.Next s′)
+pub stored-pushed :
+    (P W : List ℕ) (s : Agenda) (a : List Entry) (r : StoredGoal) (m b X : List ℕ) (s′ : Agenda) (i j : Bool) → Ready relinking P W s a
+    → Builds W s → StoredAt W (s .deferred) r → Bodied P W s r m b
+    → UsesTold P W s r m i → Equals b isEta j → i ≡ true → j ≡ false → StoredPushed W s r b X s′
+    → Branched P W s a (ChosenBody m) X (Branch.Next s′)
 unfolding Branched
-pushed P W s a r m b X s′ i j ready x y w used no-eta is-used is-none p =
-    subst (λ (u : Agenda). Move relinking P W s a (Chosen m) X u a) (sym (p .agenda))
+stored-pushed P W s a r m b X s′ i j ready x y w used no-eta is-used is-none p =
+    subst (λ (u : Agenda). Move relinking P W s a (ChosenBody m) X u a) (sym (p .agenda))
     (move P W s a ready x r y m b w X i j used no-eta is-used is-none (p .stored))
 
 -- a record, its body and a goal, stored one behind another
 pub stored-abstraction :
-    (W : List ℕ) (s : Agenda) (r : Item) (b W₁ W₂ X : List ℕ) → W₁ ≡ sets W (s .top) (bytes 1 0 []) → W₂ ≡ sets W₁ (s .top + 4) b
-    → X ≡ sets W₂ (s .top + 4 + length b) (itemBytes (targetItem r (s .top) (s .easy)))
-    → Pushed W s r b X (afterItem s r (s .top + 4 + length b))
+    (W : List ℕ) (s : Agenda) (r : StoredGoal) (b W₁ W₂ X : List ℕ) → W₁ ≡ sets W (s .top) (bytes 1 0 []) → W₂ ≡ sets W₁ (s .top + 4) b
+    → X ≡ sets W₂ (s .top + 4 + length b) (storedBytes (storedTarget r (s .top) (s .easy)))
+    → StoredPushed W s r b X (afterStored s r (s .top + 4 + length b))
 stored-abstraction W s r b W₁ W₂ X e f g = record {
   stored = g
-      ∙ ap (λ (l : List ℕ). sets l (s .top + 4 + length b) (itemBytes (targetItem r (s .top) (s .easy))))
+      ∙ ap (λ (l : List ℕ). sets l (s .top + 4 + length b) (storedBytes (storedTarget r (s .top) (s .easy))))
       (Stores.written-then (bytes 1 0 []) b W W₁ W₂ (s .top) (s .top + 4) e f refl);
   agenda = refl;
 }

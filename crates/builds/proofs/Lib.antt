@@ -1,5 +1,5 @@
 pub mod Building
-pub mod Deciding
-pub mod Outlining
+pub mod Decisions
+pub mod Refutations
 pub mod Planning
 pub mod Solutions

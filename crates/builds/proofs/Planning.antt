@@ -11,29 +11,29 @@ use lib.ListN.{getD}
 use Rattle.terms.specs.Figures.{valueRecords}
 use Rattle.terms.specs.Term.{Term, lam, size, uses}
 use Rattle.terms.specs.Listing.{Line}
+use Rattle.matching.specs.Lists.{Values}
+use Rattle.matching.specs.Goals.{Sweeps, Build, Goal}
+use Rattle.matching.specs.Bodies.{body}
 use Rattle.matching.proofs.Targets.{closed-more}
-use Rattle.matching.proofs.Lines.{Values}
-use Rattle.matching.proofs.Lister.{Sweeps}
-use Rattle.matching.proofs.Prune.{Build, replaceAll, one-body}
-use Rattle.matching.proofs.Goals.{Goal}
-use Rattle.matching.proofs.Bodies.{body, body-all, body-same, body-substitute, copies-size}
+use Rattle.matching.proofs.Prune.{replaceAll, one-body}
+use Rattle.matching.proofs.Bodies.{body-all, body-same, body-substitute, copies-size}
 use Rattle.records.proofs.Parts.{whole}
 use Rattle.assignments.specs.declared.Entry.{Entry}
-use Rattle.abstractions.specs.Bodies.{Counting, Counts, chosenIn}
+use Rattle.abstractions.specs.Bodies.{Counting, CopiesCounted, chosenIn}
 use Rattle.agenda.specs.declared.Agenda.{Agenda}
 use Rattle.agenda.specs.declared.Branch.{Branch}
-use Rattle.agenda.specs.declared.Item.{Item}
+use Rattle.agenda.specs.declared.StoredGoal.{StoredGoal}
 use Rattle.agenda.specs.declared.Plan.{Plan}
-use Rattle.agenda.specs.Items.{ItemAt}
+use Rattle.agenda.specs.Stored.{StoredAt}
 use Rattle.agenda.specs.State.{State, Sat, Ready, relinking}
 use Rattle.agenda.specs.Moves.{Move, Failed, Branched}
-use Rattle.builds.specs.Choices.{Chosen, Copies, Planned}
+use Rattle.builds.specs.Choices.{ChosenBody, CopiesAre, Planned}
 use Rattle.builds.specs.Builds.{Builds}
 use Rattle.agenda.specs.Locals.{Locals, Lacks}
-use Rattle.builds.proofs.Building.{Site, site, opened, from}
+use Rattle.builds.proofs.Building.{BuildSite, site, opened, from}
 
-module _ (P W : List ℕ) (s : Agenda) (a : List Entry) (ready : Ready relinking P W s a) (x : Builds W s) (r : Item)
-    (y : ItemAt W (s .hard) r) where
+module _ (P W : List ℕ) (s : Agenda) (a : List Entry) (ready : Ready relinking P W s a) (x : Builds W s) (r : StoredGoal)
+    (y : StoredAt W (s .deferred) r) where
   -- the head leaves one body
   pub comparing : Locals P (r .part) W (r .argument)
   comparing = from P W s a ready x (Locals P (r .part) W (r .argument)) (λ gs hs l f t e z.
@@ -53,20 +53,20 @@ module _ (P W : List ℕ) (s : Agenda) (a : List Entry) (ready : Ready relinking
 
   module _ (b : Bool) (h : Lacks P (r .part) W (r .argument) b) (yes : b ≡ true) (m : List ℕ)
       (all : (i : ℕ) → i < valueRecords → getD m i 0 ≡ 1) where
-    forced-local : (f t e : Term) → Site P W s r f t e → (j : ℕ) × (uses j e ≡ true) × (uses j f ≡ false)
+    forced-local : (f t e : Term) → BuildSite P W s r f t e → (j : ℕ) × (uses j e ≡ true) × (uses j f ≡ false)
     unfolding Lacks
     forced-local f t e v =
         let k = subst (Lacks P (r .part) W (r .argument)) yes h in
         let q = k .1 f e (v .part) (v .argument .part) in
         (k .0, q .1, q .0)
 
-    every-copy : (f t e : Term) → Site P W s r f t e → body e 0 t (chosenIn m) 0 ≡ replaceAll e 0 t
+    every-copy : (f t e : Term) → BuildSite P W s r f t e → body e 0 t (chosenIn m) 0 ≡ replaceAll e 0 t
     every-copy f t e v =
         body-same e 0 t (chosenIn m) (λ _. true) 0
         (λ i l u. lt-ltb 0 (getD m i 0) (omega (arith, all i (omega (arith, copies-size e 0 t, v .target .short))))) ∙ body-all e 0 t 0
 
     forced-body :
-        (φ : ℕ → Term) → Values φ → (f t e : Term) → Site P W s r f t e
+        (φ : ℕ → Term) → Values φ → (f t e : Term) → BuildSite P W s r f t e
         → Build f t e φ ↔ (Sweeps f (lam (body e 0 t (chosenIn m) 0)) φ × (uses 0 (body e 0 t (chosenIn m) 0) ≡ true))
     forced-body φ v f t e z = (
       λ u.
@@ -77,22 +77,23 @@ module _ (P W : List ℕ) (s : Agenda) (a : List Entry) (ready : Ready relinking
     )
 
     question : (gs hs : List Goal) (l : Line) → State relinking P W s a gs hs l → (φ : ℕ → Term) → Values φ
-        → Sat gs hs l φ ↔ Chosen m gs hs l φ
-    question gs hs l = opened P W s a ready x gs l (λ us. (φ : ℕ → Term) → Values φ → Sat gs us l φ ↔ Chosen m gs us l φ) (λ f t e us z φ v.
+        → Sat gs hs l φ ↔ ChosenBody m gs hs l φ
+    question gs hs l = opened P W s a ready x gs l (λ us. (φ : ℕ → Term) → Values φ
+        → Sat gs us l φ ↔ ChosenBody m gs us l φ) (λ f t e us z φ v.
         let q = forced-body φ v f t e (site P W s a r gs us l f t e y z) in
         (λ p. (p .0, (q .0 (p .1 .0), p .1 .1), p .2), λ p. (p .0, (q .1 (p .1 .0), p .1 .1), p .2))) hs
 
-    module _ (X : List ℕ) (c : Branch) (g : Branched P W s a (Chosen m) X c) where
+    module _ (X : List ℕ) (c : Branch) (g : Branched P W s a (ChosenBody m) X c) where
       pub forced-dead : c ≡ Branch.Failed → Planned P W s a X Plan.Failed
       unfolding Planned Branched
       forced-dead n =
-          let d : Failed relinking P W s a (Chosen m) X = subst (Branched P W s a (Chosen m) X) n g in
+          let d : Failed relinking P W s a (ChosenBody m) X = subst (Branched P W s a (ChosenBody m) X) n g in
           record { none = λ gs hs l z φ v p. d .none gs hs l z φ v (question gs hs l z φ v .0 p); kept = d .kept }
 
       pub forced-live : (s′ : Agenda) → c ≡ Branch.Next s′ → Planned P W s a X (Plan.Next s′)
       unfolding Planned Branched
       forced-live s′ n =
-          let d : Move relinking P W s a (Chosen m) X s′ a = subst (Branched P W s a (Chosen m) X) n g in
+          let d : Move relinking P W s a (ChosenBody m) X s′ a = subst (Branched P W s a (ChosenBody m) X) n g in
           record {
             go = λ gs hs l z.
                 let k = d .go gs hs l z in
@@ -122,7 +123,7 @@ module _ (P W : List ℕ) (s : Agenda) (a : List Entry) (ready : Ready relinking
         shallow = omega (arith, ready .bounds .whole);
       })
 
-  pub bodies : (W′ : List ℕ) (end n : ℕ) → W′ ≡ W → Counts W (r .target) 0 (r .argument) end n → Planned P W s a W′ (Plan.Bodies n)
+  pub bodies : (W′ : List ℕ) (end n : ℕ) → W′ ≡ W → CopiesCounted W (r .target) 0 (r .argument) end n → Planned P W s a W′ (Plan.Bodies n)
   unfolding Planned
   bodies W′ end n same c = (
     same,
@@ -130,7 +131,7 @@ module _ (P W : List ℕ) (s : Agenda) (a : List Entry) (ready : Ready relinking
         let v = site P W s a r gs hs l f t e y z in
         omega (arith, c .exact t e (v .target .part) (v .argument .part), copies-size e 0 t, v .target .short)),
     λ gs hs l z.
-        opened P W s a ready x gs l (λ us. Copies n us) (λ f t e us u.
+        opened P W s a ready x gs l (λ us. CopiesAre n us) (λ f t e us u.
         let v = site P W s a r gs us l f t e y u in
         c .exact t e (v .target .part) (v .argument .part)) hs z,
   )

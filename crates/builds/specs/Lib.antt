@@ -1,4 +1,4 @@
 pub mod Builds
 pub mod Choices
-pub mod Ground
-pub mod Outlines
+pub mod Deciding
+pub mod Refuting

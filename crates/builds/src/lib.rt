@@ -5,14 +5,19 @@
 // certain while variables are open; and decides or refuses goals by it. It promises that the agenda it leaves has exactly the assignments
 // of the one before, or of the body that it is for; or that there are none. It rests on `agenda` for goals, on `skeletons` and
 // `abstractions` for the terms, and on `matching` for the mathematics.
+//
+// A goal whose part's skeleton has no hole is decided at once: no way is tried and no body is gone through. That is so where no variable is
+// open, and where the value of an assigned variable drops the open ones. Sweeping needs locals of small numbers; a state doesn't say that
+// of the pattern, so the walk that finds the part's end asks it. A part with a form above 256 records is left to the search. Where the
+// argument uses a local that the head lacks, the one body left is written with every choice made.
 
-pub mod ground;
-pub mod outlines;
+pub mod deciding;
+pub mod refuting;
 
 use agenda::Agenda;
 use agenda::Branch;
-use agenda::Item;
 use agenda::Plan;
+use agenda::StoredGoal;
 use agenda::TARGET_BYTES;
 use assignments::Entry;
 use records::Ask;
@@ -25,30 +30,30 @@ use shifting::Pairing;
 ghost use Prim.Native.Nat.{_≤_};
 ghost use lib.ListN.{length};
 ghost use Rattle.agenda.specs.State.{Ready, relinking};
-ghost use Rattle.builds.specs.Choices.{Chosen, Planned};
+ghost use Rattle.builds.specs.Choices.{ChosenBody, Planned};
 ghost use Rattle.agenda.specs.Moves.{Branched};
-ghost use Rattle.builds.specs.Builds.{Builds, AnyChosen, Pushes, Pushed, Solving, Solved};
+ghost use Rattle.builds.specs.Builds.{Builds, AnyChosen, Pushes, StoredPushed, Solving, Solved};
 
 // Writes the abstraction over the body b at the top, and the goal that the part of `goal` sweeps to it; `goal` itself is dropped.
-pub fn push_abstraction(work: &mut [u8], s: Agenda, goal: Item, b: &[u8]) -> Agenda
-    requires { ⌜ Pushes (now work) s goal (now b) ⌝ }
-    ensures { λ r. ⌜ Pushed (now (work .entry)) s goal (now (b .entry)) (now (work .exit)) r ⌝ }
+pub fn push_abstraction(work: &mut [u8], agenda: Agenda, goal: StoredGoal, b: &[u8]) -> Agenda
+    requires { ⌜ Pushes (now work) agenda goal (now b) ⌝ }
+    ensures { λ r. ⌜ StoredPushed (now (work .entry)) agenda goal (now (b .entry)) (now (work .exit)) r ⌝ }
 {
-    records::put_record(work, s.top, Kind::ABSTRACTION, 0);
-    copying::copy_into(b, work, s.top + RECORD);
-    let easy = s.top + RECORD + b.len();
-    let target = Item {
+    records::put_record(work, agenda.top, Kind::ABSTRACTION, 0);
+    copying::copy_into(b, work, agenda.top + RECORD);
+    let easy = agenda.top + RECORD + b.len();
+    let target = StoredGoal {
         part: goal.part,
-        kind: Item::MATCH,
-        target: s.top,
-        next: s.easy,
+        kind: StoredGoal::MATCH,
+        target: agenda.top,
+        next: agenda.easy,
         argument: 0,
     };
-    agenda::put_item(work, easy, target);
+    agenda::put_goal(work, easy, target);
     Agenda {
-        top: easy + agenda::ITEM,
+        top: easy + agenda::GOAL,
         easy,
-        hard: goal.next,
+        deferred: goal.next,
     }
 }
 
@@ -70,16 +75,16 @@ fn any_chosen(chosen: &[u8], n: usize) -> bool
 // The goal with the body of the chosen copies: what its head then has to sweep to is written at the top. No head sweeps to an abstraction
 // that is a redex, and an abstraction that doesn't use its local belongs to another goal: it uses it where a choice is made.
 pub fn body(
-    p: &[u8],
+    pattern: &[u8],
     work: &mut [u8],
-    s: Agenda,
-    a: [Entry; VARIABLES],
+    agenda: Agenda,
+    entries: [Entry; VARIABLES],
     chosen: [u8; VALUE_RECORDS],
 ) -> Branch
-    requires { ⌜ Ready relinking (now p) (now work) s a × Builds (now work) s ⌝ }
-    ensures { λ r. ⌜ Branched (now (p .entry)) (now (work .entry)) s a (Chosen chosen) (now (work .exit)) r ⌝ }
+    requires { ⌜ Ready relinking (now pattern) (now work) agenda entries × Builds (now work) agenda ⌝ }
+    ensures { λ r. ⌜ Branched (now (pattern .entry)) (now (work .entry)) agenda entries (ChosenBody chosen) (now (work .exit)) r ⌝ }
 {
-    let goal = agenda::item_at(work, s.hard);
+    let goal = agenda::goal_at(work, agenda.deferred);
     let mut b = [0u8; TARGET_BYTES];
     let built = abstractions::body_into(work, goal.target, 0, goal.argument, &chosen, 0, &mut b, 0);
     let n = built.end;
@@ -89,7 +94,7 @@ pub fn body(
     if records::is_eta(&b[0..n]) {
         return Branch::Failed;
     }
-    Branch::Next(push_abstraction(work, s, goal, &b[0..n]))
+    Branch::Next(push_abstraction(work, agenda, goal, &b[0..n]))
 }
 
 // Whether the term at byte v is an abstraction that uses its local and comes to the target with the argument put in.
@@ -113,14 +118,14 @@ pub fn is_solved(work: &[u8], v: usize, argument: usize, target: usize) -> bool
 
 // What the goal comes to. A swept head uses no local that the head doesn't use: where the argument uses such a one no body keeps a copy of
 // the argument, so that one body is left. Any other head has a body for each choice among the copies.
-pub fn plan(p: &[u8], work: &mut [u8], s: Agenda, a: [Entry; VARIABLES]) -> Plan
-    requires { ⌜ Ready relinking (now p) (now work) s a × Builds (now work) s ⌝ }
-    ensures { λ r. ⌜ Planned (now (p .entry)) (now (work .entry)) s a (now (work .exit)) r ⌝ }
+pub fn plan(pattern: &[u8], work: &mut [u8], agenda: Agenda, entries: [Entry; VARIABLES]) -> Plan
+    requires { ⌜ Ready relinking (now pattern) (now work) agenda entries × Builds (now work) agenda ⌝ }
+    ensures { λ r. ⌜ Planned (now (pattern .entry)) (now (work .entry)) agenda entries (now (work .exit)) r ⌝ }
 {
-    let goal = agenda::item_at(work, s.hard);
-    if agenda::locals::lacks_local(p, goal.part, work, goal.argument) {
+    let goal = agenda::goal_at(work, agenda.deferred);
+    if agenda::locals::lacks_local(pattern, goal.part, work, goal.argument) {
         let every = [1u8; VALUE_RECORDS];
-        let branch = body(p, work, s, a, every);
+        let branch = body(pattern, work, agenda, entries, every);
         match branch {
             Branch::Failed => return Plan::Failed,
             Branch::Next(next) => return Plan::Next(next),

@@ -10,11 +10,12 @@ use Rattle.terms.specs.Term.{Term}
 use Rattle.terms.specs.Table.{encode}
 use Rattle.terms.specs.Listing.{Line, Full}
 use Rattle.terms.proofs.Table.{encode-one, encode-length}
-use Rattle.matching.proofs.Contraction.{reduct, reduct-closed, reduct-below, reduct-full}
+use Rattle.matching.specs.Reducts.{reduct}
+use Rattle.matching.proofs.Reducts.{reduct-closed, reduct-below, reduct-full}
 use Rattle.records.specs.Checks.{Pattern}
 use Rattle.enumeration.specs.declared.ListAnswer.{ListAnswer}
 use Rattle.enumeration.specs.Written.{ListingOf, Enumerated}
-use Rattle.enumeration.specs.Steps.{Listable}
+use Rattle.enumeration.specs.Steps.{ListTables}
 
 module _ (p q : List ℕ) (a : Pattern p) (e : q ≡ encode (reduct (a .tree))) where
   pattern : length q ≤ 4 * patternRecords → Pattern q
@@ -25,7 +26,7 @@ module _ (p q : List ℕ) (a : Pattern p) (e : q ≡ encode (reduct (a .tree))) 
     most = omega (arith, ap length e, encode-length (reduct (a .tree)));
   }
 
-  pub listable : length q ≤ 4 * patternRecords → (t l s w : List ℕ) → Listable p t l s w → Listable q t l s w
+  pub listable : length q ≤ 4 * patternRecords → (t l s w : List ℕ) → ListTables p t l s w → ListTables q t l s w
   listable h t l s w x = record {
     pattern-checked = pattern h;
     recipe-checked = x .recipe-checked;

@@ -10,13 +10,14 @@ use lib.Seq.{sets, sets-eq, drop-at, take-at}
 use Rattle.terms.specs.Figures.{variables}
 use Rattle.terms.specs.Term.{Term, Occurs}
 use Rattle.terms.specs.Listing.{In, Line, Full}
-use Rattle.terms.specs.Layout.{valueRecords, lineTable, valuesRecords, valueTable}
+use Rattle.terms.specs.Layout.{lineValueRecords, lineTable, valuesRecords, valueTable}
 use Rattle.terms.specs.Refusal.{OccursIn}
-use Rattle.terms.proofs.Members.{Distinct}
+use Rattle.terms.specs.Members.{Distinct}
 use Rattle.terms.proofs.Table.{encode-one}
 use Rattle.terms.proofs.Order.{sort, rising-same}
-use Rattle.matching.proofs.Lists.{Predicate, Lists, lists-more}
-use Rattle.matching.proofs.Lister.{Sweeps}
+use Rattle.matching.specs.Lists.{Predicate, Lists}
+use Rattle.matching.specs.Goals.{Sweeps}
+use Rattle.matching.proofs.Lists.{lists-more}
 use Rattle.matching.proofs.Unique.{lists-members, lists-length}
 use Rattle.matching.proofs.Partial.{lists-full}
 use Rattle.matching.proofs.Listing.{full-sort}
@@ -30,13 +31,18 @@ use Rattle.refusals.specs.declared.Refusal.{Refusal}
 use Rattle.refusals.specs.Judged.{number}
 use Rattle.enumeration.specs.declared.ListAnswer.{ListAnswer}
 use Rattle.enumeration.specs.Written.{lentLines, lentRecords, ListingOf, WrittenLines, NoRoom, Enumerated}
-use Rattle.enumeration.specs.Steps.{Listable, Room, Copies, Copied, CopiedIf}
+use Rattle.enumeration.specs.Steps.{ListTables, Room, Copyable, Copied, CopiedIf}
 
 -- lines that are found, none twice, have no more records than all
 without :
     (l : Line) (ms : List Line) → In l ms
-    → (rs : List Line) × (valuesRecords ms ≡ valueRecords l + valuesRecords rs) × ((x : Line) → In x ms → (x ≡ l) ⊎ In x rs)
-without l (m ∷ ms) (inl p) = (ms, ap (λ (k : Line). valueRecords k + valuesRecords ms) (sym p), λ x q. ⊎-elim (λ e. inl (e ∙ sym p)) inr q)
+    → (rs : List Line) × (valuesRecords ms ≡ lineValueRecords l + valuesRecords rs) × ((x : Line) → In x ms → (x ≡ l) ⊎ In x rs)
+without l (m ∷ ms) (inl p) = (
+  ms,
+  ap (λ (k : Line). lineValueRecords k + valuesRecords ms) (sym p),
+  λ x q. ⊎-elim (λ e. inl (e
+      ∙ sym p)) inr q,
+)
 without l (m ∷ ms) (inr p) =
     let r = without l ms p in
     (m ∷ r .0, omega (arith, r .1), λ x q. ⊎-elim (λ e. inr (inl e)) (λ e. ⊎-elim inl (λ z. inr (inr z)) (r .2 x e)) q)
@@ -149,8 +155,8 @@ module _ (p t : List ℕ) (a : Pattern p) (b : Recipe t) where
               ap (λ (o : Outcome). length (o .values)) (tallied .exact h) ∙ n .1,
             )
 
-        pub copies : (l s w : List ℕ) → 4 * variables * n .lines ≤ length l → 4 * n .records ≤ length s → Listable p t l s w
-            → Copies n m q l s w
+        pub copies : (l s w : List ℕ) → 4 * variables * n .lines ≤ length l → 4 * n .records ≤ length s → ListTables p t l s w
+            → Copyable n m q l s w
         copies l s w u v z = record {
           found = found;
           tables = tables;
@@ -210,7 +216,7 @@ module _ (p t : List ℕ) (a : Pattern p) (b : Recipe t) where
           (subst (λ (d : Refusal). NoRoom p t l s (number d)) (sym (z .0)) (no-records l s e (z .1) .0), z .2, z .3)
 
 -- copying the tables of lines
-module _ (n : Tally) (m q l s w : List ℕ) (x : Copies n m q l s w) (i j : ℕ) (f : i ≡ 4 * variables * n .lines) (g : j ≡ 4 * n .records)
+module _ (n : Tally) (m q l s w : List ℕ) (x : Copyable n m q l s w) (i j : ℕ) (f : i ≡ 4 * variables * n .lines) (g : j ≡ 4 * n .records)
     (l₁ s₁ : List ℕ) (c : l₁ ≡ sets l 0 (take (i - 0) (drop 0 m))) (d : s₁ ≡ sets s 0 (take (j - 0) (drop 0 q))) where
   -- a table that begins with some bytes, copied to the start of another
   copied-table :
@@ -289,7 +295,7 @@ unfolding CopiedIf
 copied-none n m q l s h = (refl, h, refl, refl)
 
 -- a search uses the work area, and keeps its length
-pub listable-kept : (p t l s w : List ℕ) → Listable p t l s w → (v : List ℕ) → length v ≡ length w → Listable p t l s v
+pub listable-kept : (p t l s w : List ℕ) → ListTables p t l s w → (v : List ℕ) → length v ≡ length w → ListTables p t l s v
 listable-kept p t l s w x v e = record {
   pattern-checked = x .pattern-checked;
   recipe-checked = x .recipe-checked;

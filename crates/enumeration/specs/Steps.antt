@@ -1,11 +1,11 @@
 -- What the steps of an enumeration answer.
 --   shortLines, shortRecords   how many lines, and how many records of values, a short listing has at most
---   Short m n few      m lines are at most `few`, and the n records of their values at most a short listing's
---   Listable p t l s w   the tables that list is lent are ones that it searches
---   Room p t l s       a full listing of p and t fits the tables l and s
---   Copies n m q l s w   the tables m and q begin with those of n's lines, which have room in the tables l and s
---   Copied ..          those lines, in order, stand in the tables l and s
---   CopiedIf ..        so they do, or their values have no room
+--   Short m n few              m lines are at most `few`, and the n records of their values at most a short listing's
+--   ListTables p t l s w       the tables that list is lent are ones that it searches
+--   Room p t l s               a full listing of p and t fits the tables l and s
+--   Copyable n m q l s w       the tables m and q begin with those of n's lines, which have room in the tables l and s
+--   Copied ..                  those lines, in order, stand in the tables l and s
+--   CopiedIf ..                so they do, or their values have no room
 use mathlib.Core.Path.{_≡_}
 use mathlib.Core.List.{List}
 use Prim.Native.Nat.{ℕ, _*_, _≤_, _<_}
@@ -14,7 +14,7 @@ use Rattle.terms.specs.Figures.{variables, tableBytes}
 use Rattle.terms.specs.Listing.{Line}
 use Rattle.terms.specs.Layout.{valuesRecords}
 use Rattle.terms.specs.Refusal.{Passed, listing}
-use Rattle.terms.proofs.Members.{Distinct}
+use Rattle.terms.specs.Members.{Distinct}
 use Rattle.records.specs.Checks.{Pattern, Recipe}
 use Rattle.listing.specs.declared.Tally.{Tally}
 use Rattle.listing.specs.Outcome.{Tables}
@@ -32,7 +32,7 @@ shortRecords = 8192
 abbrev pub Short : ℕ → ℕ → ℕ → Type 0
 Short m n few = (m ≤ few) × (n ≤ shortRecords)
 
-pub record Listable (p t l s w : List ℕ) : Type 0 where
+pub record ListTables (p t l s w : List ℕ) : Type 0 where
   pub pattern-checked : Pattern p
   pub recipe-checked : Recipe t
   pub lines-most : length l ≤ tableBytes
@@ -45,7 +45,7 @@ pub record Room (p t l s : List ℕ) : Type 0 where
   pub listing-of : ListingOf p t lines
   pub fits : Passed (listing (lentLines l) (lentRecords s) lines)
 
-pub record Copies (n : Tally) (m q l s w : List ℕ) : Type 0 where
+pub record Copyable (n : Tally) (m q l s w : List ℕ) : Type 0 where
   pub found : List Line
   pub tables : Tables m q found
   pub distinct : Distinct found

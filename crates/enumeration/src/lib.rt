@@ -3,14 +3,19 @@
 // A search writes what it finds to tables of its own, so that a listing without room is refused before anything is written; from there the
 // lines and their values are copied, and brought into document 01's order. The first search has room for a short listing and stops where
 // there are more lines; for a longer one a second search has as much room as can be lent. It promises, of tables that passed the checks,
-// that a full listing is written or that none has room. It rests on `contraction` and `search` for the lines, and on `arranging` for their
+// that a full listing is written or that none has room. It rests on `reducts` and `search` for the lines, and on `arranging` for their
 // order.
+//
+// A refusal 9 or 10 leaves all tables as they were, so that lines have to be counted before one is written to those that are lent. Counting
+// first and then searching again into the lent tables took twice the time on most cases of the benchmark; room for all at once would cost
+// every call the clearing of 128 KB. So the first search has room for 128 lines and 8,192 records, and only a longer listing pays for the
+// second, with 128 KB on the stack. A station with a smaller stack would change that.
 
 use assignments::LINE;
-use contraction::PATTERN_BYTES;
 use listing::Tally;
 use records::RECORD;
 use records::TABLE_BYTES;
+use reducts::PATTERN_BYTES;
 use refusals::Refusal;
 use sweeping::Length;
 ghost use mathlib.Core.Path.{_≡_};
@@ -19,7 +24,7 @@ ghost use lib.ListN.{length};
 ghost use Rattle.terms.specs.Figures.{variables, tableBytes};
 ghost use Rattle.records.specs.Tests.{Says};
 ghost use Rattle.enumeration.specs.Written.{lentRecords, Enumerated};
-ghost use Rattle.enumeration.specs.Steps.{shortLines, shortRecords, Short, Listable, Copies, CopiedIf};
+ghost use Rattle.enumeration.specs.Steps.{shortLines, shortRecords, Short, ListTables, Copyable, CopiedIf};
 
 // What list answers: the number of lines, or a refusal.
 pub enum ListAnswer {
@@ -61,7 +66,7 @@ fn copy_lines(
     values: &mut [u8],
     work: &mut [u8],
 ) -> ListAnswer
-    requires { ⌜ (found .records ≤ lentRecords (now values) → Copies found (now rows) (now terms) (now lines) (now values) (now work)) ⌝ }
+    requires { ⌜ (found .records ≤ lentRecords (now values) → Copyable found (now rows) (now terms) (now lines) (now values) (now work)) ⌝ }
     ensures { λ r. ⌜ CopiedIf found (now (rows .entry)) (now (terms .entry)) (now (lines .entry)) (now (values .entry)) r
         (now (lines .exit)) (now (values .exit)) ⌝ }
 {
@@ -87,7 +92,7 @@ fn enumerate_long(
     values: &mut [u8],
     work: &mut [u8],
 ) -> ListAnswer
-    requires { ⌜ Listable (now pattern) (now recipe) (now lines) (now values) (now work) ⌝ }
+    requires { ⌜ ListTables (now pattern) (now recipe) (now lines) (now values) (now work) ⌝ }
     ensures { λ r. ⌜ Enumerated (now (pattern .entry)) (now (recipe .entry)) (now (lines .entry)) (now (values .entry)) r
         (now (lines .exit)) (now (values .exit)) ⌝ }
 {
@@ -139,7 +144,7 @@ fn enumerate_short(
     values: &mut [u8],
     work: &mut [u8],
 ) -> ListAnswer
-    requires { ⌜ Listable (now pattern) (now recipe) (now lines) (now values) (now work) ⌝ }
+    requires { ⌜ ListTables (now pattern) (now recipe) (now lines) (now values) (now work) ⌝ }
     ensures { λ r. ⌜ Enumerated (now (pattern .entry)) (now (recipe .entry)) (now (lines .entry)) (now (values .entry)) r
         (now (lines .exit)) (now (values .exit)) ⌝ }
 {
@@ -170,12 +175,12 @@ pub fn enumerate(
     values: &mut [u8],
     work: &mut [u8],
 ) -> ListAnswer
-    requires { ⌜ Listable (now pattern) (now recipe) (now lines) (now values) (now work) ⌝ }
+    requires { ⌜ ListTables (now pattern) (now recipe) (now lines) (now values) (now work) ⌝ }
     ensures { λ r. ⌜ Enumerated (now (pattern .entry)) (now (recipe .entry)) (now (lines .entry)) (now (values .entry)) r
         (now (lines .exit)) (now (values .exit)) ⌝ }
 {
     let mut reduct = [0u8; PATTERN_BYTES];
-    let length = contraction::reduce(pattern, &mut reduct);
+    let length = reducts::reduce(pattern, &mut reduct);
     let Length::Records(n) = length else {
         return enumerate_short(pattern, recipe, lines, values, work);
     };

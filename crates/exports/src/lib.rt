@@ -4,6 +4,11 @@
 // 1 or 0 for yes or no, or minus document 01's number of a refusal. The crate promises that the number is that of an answer which the
 // operation may give on these tables, and that the tables and the work area are left as the operation leaves them. It rests on `matcher`
 // and `rewriting`; the static library is built from it.
+//
+// The answers are stated by `listCode`, `checkCode`, `sweepCode` and `rewriteCode`; no two answers of an operation have one number, so that
+// the number says which it is. The crate stands by itself because the kit builds a static library only from a crate that the same command
+// checks: `rt staticlib exports` after `rt ci` proves these five functions again, and not the crates below. A kit that builds a static
+// library from an rlib would change that.
 
 use enumeration::ListAnswer;
 use refusals::Refusal;

@@ -17,7 +17,8 @@ use Rattle.terms.specs.Sweep.{contract}
 use Rattle.terms.specs.Table.{bytes, encode}
 use Rattle.terms.proofs.Shift.{size-shift}
 use Rattle.terms.proofs.Table.{encode-length}
-use Rattle.matching.proofs.Repeated.{join, both, below, atConstants, constants-other, join-kinds, join-leaf, size-join, closed-contract}
+use Rattle.matching.specs.Repeated.{join, both, below, atConstants}
+use Rattle.matching.proofs.Repeated.{constants-other, join-kinds, join-leaf, size-join, closed-contract}
 use Rattle.matching.proofs.Repeated.{size-contract}
 use Rattle.records.specs.Record.{numberAt}
 use Rattle.records.specs.Parts.{Part, Ends}
@@ -25,8 +26,8 @@ use Rattle.records.specs.declared.Walk.{Walk}
 use Rattle.records.specs.declared.Walk.the-variants.{Upto, No}
 use Rattle.records.proofs.Parts.{size-some, whole, whole-head, whole-body, kind-at, number-at, application, abstraction, Application}
 use Rattle.records.proofs.Parts.{argument-part, ends-app, ends-lam, ends-leaf}
-use Rattle.sweeping.specs.Writers.{Fits, Source, Single, Wrote}
-use Rattle.sweeping.specs.Swept.{sweptBytes, Written, Abstracted, Abstracts}
+use Rattle.sweeping.specs.Writers.{NumbersFit, Source, Single, Wrote}
+use Rattle.sweeping.specs.Swept.{sweptBytes, WrittenForm, SweptBody, ContractsAbstraction}
 use Rattle.sweeping.specs.declared.Length.{Length}
 use Rattle.sweeping.specs.declared.Length.the-variants.{Records, TooLong}
 use Rattle.copying.proofs.Stores.{written-then, stored}
@@ -36,7 +37,7 @@ use Rattle.joins.specs.declared.pairs.Pairs.{Pairs}
 use Rattle.joins.specs.declared.pairs.Found.{Found}
 use Rattle.joins.specs.declared.pairs.Found.the-variants.{Local, Nothing}
 use Rattle.joins.specs.Pairs.{pairsOf, Locates}
-use Rattle.joins.specs.Joins.{Joins, Alike, Joint, Answers, Joined, Encloses, Enclosed}
+use Rattle.joins.specs.Joins.{Joins, Alike, Joint, JoinAnswered, Joined, Encloses, Enclosed}
 use Rattle.records.proofs.Parts.{constant-at}
 use Rattle.joins.proofs.Spines.{pairs-length, located-nothing}
 
@@ -45,28 +46,28 @@ count-length P q = pairs-length P (q .first) (q .second) (q .count)
 
 -- a joined term was written
 joined-upto : {P : List ℕ} {q : Pairs} {W : List ℕ} {t u d h o : ℕ} {out after : List ℕ} {r : Walk} → r ≡ Upto h
-    → Joined P q W t u d out o after r → Answers P q W t u d out o after (Upto h)
-joined-upto {P} {q} {W} {t} {u} {d} {h} {o} {out} {after} e x = subst (Answers P q W t u d out o after) e (x .answers)
+    → Joined P q W t u d out o after r → JoinAnswered P q W t u d out o after (Upto h)
+joined-upto {P} {q} {W} {t} {u} {d} {h} {o} {out} {after} e x = subst (JoinAnswered P q W t u d out o after) e (x .answers)
 
 pub joined-ends : {P : List ℕ} {q : Pairs} {W : List ℕ} {t u d h o : ℕ} {out after : List ℕ} {r : Walk} → r ≡ Upto h
     → Joined P q W t u d out o after r → Ends W t h
-unfolding Answers
+unfolding JoinAnswered
 joined-ends e x = joined-upto e x .0
 
 pub joined-joint :
     {P : List ℕ} {q : Pairs} {W : List ℕ} {t u d h o : ℕ} {out after : List ℕ} {r : Walk} → r ≡ Upto h → Joined P q W t u d out o after r
     → (a b : Term) → Part W t a → Part W u b
     → Joint P q d a b out o after
-unfolding Answers
+unfolding JoinAnswered
 joined-joint e x = joined-upto e x .1
 
 pub joined-no :
     {P : List ℕ} {q : Pairs} {W : List ℕ} {t u d o : ℕ} {out after : List ℕ} {r : Walk} → r ≡ No → Joined P q W t u d out o after r
     → (a b : Term) → Part W t a → Part W u b
     → join d (pairsOf P q) a b ≡ none
-unfolding Answers
+unfolding JoinAnswered
 joined-no {P} {q} {W} {t} {u} {d} {o} {out} {after} e x =
-    let y : Answers P q W t u d out o after No = subst (Answers P q W t u d out o after) e (x .answers) in
+    let y : JoinAnswered P q W t u d out o after No = subst (JoinAnswered P q W t u d out o after) e (x .answers) in
     y
 
 -- the arguments of two applications whose heads are joined
@@ -92,7 +93,8 @@ module _ {P : List ℕ} {q : Pairs} {W : List ℕ} {t u d : ℕ} where
     pub joins-head : getD W t 0 ≡ 0 → Joins P q W (t + 4) (u + 4) d rest (o + 4)
     joins-head z =
         let v = application W t (x .tree) (x .part) z in
-        let f : Fits (shift (q .count) d (app (v .f) (v .a))) = subst (λ (a : Term). Fits (shift (q .count) d a)) (v .is) (x .fits) in
+        let f : NumbersFit (shift (q .count) d (app (v .f) (v .a))) =
+        subst (λ (a : Term). NumbersFit (shift (q .count) d a)) (v .is) (x .fits) in
         let w = whole-head W u (x .other) (sym k ∙ z) in
         record {
           reads = x .reads;
@@ -115,7 +117,8 @@ module _ {P : List ℕ} {q : Pairs} {W : List ℕ} {t u d : ℕ} where
     joins-argument {h} {j} {out} {after} {r} z e y =
         let v = application W t (x .tree) (x .part) z in
         let w = application W u (x .other .tree) (x .other .part) (sym k ∙ z) in
-        let f : Fits (shift (q .count) d (app (v .f) (v .a))) = subst (λ (a : Term). Fits (shift (q .count) d a)) (v .is) (x .fits) in
+        let f : NumbersFit (shift (q .count) d (app (v .f) (v .a))) =
+        subst (λ (a : Term). NumbersFit (shift (q .count) d a)) (v .is) (x .fits) in
         let n = joined-ends e y in
         let m = n .exact (v .f) (v .head) in
         let p = argument-part W t h (x .tree) n v in
@@ -138,14 +141,14 @@ module _ {P : List ℕ} {q : Pairs} {W : List ℕ} {t u d : ℕ} where
     pub joins-body : getD W t 0 ≡ 1 → Joins P q W (t + 4) (u + 4) (d + 1) rest (o + 4)
     joins-body z =
         let v = abstraction W t (x .tree) (x .part) z in
-        let f : Fits (shift (q .count) d (lam (v .b))) = subst (λ (a : Term). Fits (shift (q .count) d a)) (v .is) (x .fits) in
+        let f : NumbersFit (shift (q .count) d (lam (v .b))) = subst (λ (a : Term). NumbersFit (shift (q .count) d a)) (v .is) (x .fits) in
         let w = whole-body W u (x .other) (sym k ∙ z) in
         record {
           reads = x .reads;
           tree = v .b;
           part = v .body;
           other = w;
-          fits = subst (λ (i : ℕ). Fits (shift (q .count) i (v .b))) (sym (add-one d)) f;
+          fits = subst (λ (i : ℕ). NumbersFit (shift (q .count) i (v .b))) (sym (add-one d)) f;
           enough = omega (arith, ap size (v .is), x .enough);
           shallow = omega (arith, ap size (v .is), x .shallow);
           least = omega (arith, v .body .some, v .body .within);
@@ -163,7 +166,7 @@ module _ {P : List ℕ} {q : Pairs} {W : List ℕ} {t u d : ℕ} where
   -- what was written
   module _ {out : List ℕ} {o : ℕ} where
     pub joined-kinds : ¬ (getD W t 0 ≡ getD W u 0) → Joined P q W t u d out o out No
-    unfolding Answers
+    unfolding JoinAnswered
     joined-kinds n = record { answers = λ a b y z. join-kinds d (pairsOf P q) a b (λ e. n (kind-at W t a y ∙ e ∙ sym (kind-at W u b z))) }
 
     module _ {p m : List ℕ} {r : Walk} (k : getD W t 0 ≡ getD W u 0) (z : getD W t 0 ≡ 0) (e : p ≡ sets out o (bytes 0 0 [])) where
@@ -171,7 +174,7 @@ module _ {P : List ℕ} {q : Pairs} {W : List ℕ} {t u d : ℕ} where
           {h : ℕ} {after : List ℕ} (s : Walk) → r ≡ Upto h → Joined P q W (t + 4) (u + 4) d p (o + 4) m r
           → Joined P q W h (u + (h - t)) d m (o + (h - t)) after s
           → Joined P q W t u d out o after s
-      unfolding Answers
+      unfolding JoinAnswered
       joined-application {h} {after} (Upto i) f x y = record {
         answers = (
           ends-app W t h i z (joined-ends f x) (y .answers .0),
@@ -204,7 +207,7 @@ module _ {P : List ℕ} {q : Pairs} {W : List ℕ} {t u d : ℕ} where
       }
 
       pub joined-stop : r ≡ No → Joined P q W (t + 4) (u + 4) d p (o + 4) m r → Joined P q W t u d out o m No
-      unfolding Answers
+      unfolding JoinAnswered
       joined-stop f x = record {
         answers = λ a b j l.
             let v = application W t a j z in
@@ -217,7 +220,7 @@ module _ {P : List ℕ} {q : Pairs} {W : List ℕ} {t u d : ℕ} where
         {p m : List ℕ} (r : Walk) → getD W t 0 ≡ getD W u 0 → getD W t 0 ≡ 1 → p ≡ sets out o (bytes 1 0 [])
         → Joined P q W (t + 4) (u + 4) (d + 1) p (o + 4) m r
         → Joined P q W t u d out o m r
-    unfolding Answers
+    unfolding JoinAnswered
     joined-abstraction {p} {m} (Upto h) k z e x = record {
       answers = (
         ends-lam W t h z (x .answers .0),
@@ -244,7 +247,7 @@ module _ {P : List ℕ} {q : Pairs} {W : List ℕ} {t u d : ℕ} where
 
     -- single records
     pub joined-differ : {m n : ℕ} → m ≡ numberAt W t → n ≡ numberAt W u → Alike P q W t u d → ¬ (m ≡ n) → Joined P q W t u d out o out No
-    unfolding Answers
+    unfolding JoinAnswered
     joined-differ e f x h = record {
       answers = λ a b j l.
           x .is a b j l
@@ -255,7 +258,7 @@ module _ {P : List ℕ} {q : Pairs} {W : List ℕ} {t u d : ℕ} where
         {m n room next end : ℕ} {after : List ℕ} → m ≡ numberAt W t → n ≡ numberAt W u → Joins P q W t u d room o → Single W t
         → Alike P q W t u d → m ≡ n
         → Wrote (shift (q .count)) W t d out o after next end → Joined P q W t u d out o after (Upto (t + 4))
-    unfolding Answers
+    unfolding JoinAnswered
     joined-same e f x s y h w = record {
       answers = (
         ends-leaf W t (s .no-application) (s .no-abstraction) (whole W t (x .tree) (x .part)),
@@ -271,7 +274,7 @@ module _ {P : List ℕ} {q : Pairs} {W : List ℕ} {t u d : ℕ} where
         {m n room k : ℕ} {r : Found} {after : List ℕ} → m ≡ numberAt W t → n ≡ numberAt W u → getD W t 0 ≡ 3 → getD W u 0 ≡ 3
         → Joins P q W t u d room o
         → Locates (pairsOf P q) m n d r → r ≡ Local k → after ≡ sets out o (bytes 2 k []) → Joined P q W t u d out o after (Upto (t + 4))
-    unfolding Answers Locates
+    unfolding JoinAnswered Locates
     joined-pair {m} {n} {room} {k} e f z y x w i v =
         let s : Locates (pairsOf P q) m n d (Local k) = subst (Locates (pairsOf P q) m n d) i w in
         record {
@@ -319,7 +322,7 @@ module _ {b : List ℕ} {n room o : ℕ} (x : Encloses b n room o) (s : ¬ (n �
   contracted-closed : Closed (x .depth + (n - 1)) (contract (lam (x .body)))
   contracted-closed = closed-contract (x .depth + (n - 1)) (x .body) (subst (λ (i : ℕ). Closed i (x .body)) (omega (arith, s)) (x .closed))
 
-  pub encloses-abstracted : Abstracted b
+  pub encloses-abstracted : SweptBody b
   encloses-abstracted = record {
     body = x .body;
     bytes = x .bytes;
@@ -330,31 +333,31 @@ module _ {b : List ℕ} {n room o : ℕ} (x : Encloses b n room o) (s : ¬ (n �
     closed = contracted-closed;
   }
 
-  module _ (out p : List ℕ) (r : Length) (y : Abstracts b out r p) (l : length out ≡ sweptBytes) where
+  module _ (out p : List ℕ) (r : Length) (y : ContractsAbstraction b out r p) (l : length out ≡ sweptBytes) where
     pub never-long : r ≡ TooLong → ⊥
-    unfolding Written
+    unfolding WrittenForm
     never-long e =
-        let w : Written (contract (lam (x .body))) out TooLong p =
-        subst (λ (i : Length). Written (contract (lam (x .body))) out i p) e (y (x .body) (x .bytes)) in
+        let w : WrittenForm (contract (lam (x .body))) out TooLong p =
+        subst (λ (i : Length). WrittenForm (contract (lam (x .body))) out i p) e (y (x .body) (x .bytes)) in
         omega (arith, w .0, size-contract (x .body), table-length b (x .body) (x .bytes), x .most, s)
 
     module _ (m : ℕ) (e : r ≡ Records m) where
-      result : (t : Term) → b ≡ encode t → Written (contract (lam t)) out (Records m) p
-      result t f = subst (λ (i : Length). Written (contract (lam t)) out i p) e (y t f)
+      result : (t : Term) → b ≡ encode t → WrittenForm (contract (lam t)) out (Records m) p
+      result t f = subst (λ (i : Length). WrittenForm (contract (lam t)) out i p) e (y t f)
 
       contracted : (t : Term) → b ≡ encode t → take (m * 4 - 0) (drop 0 p) ≡ encode (contract (lam t))
-      unfolding Written
+      unfolding WrittenForm
       contracted t f =
           let w = result t f in
           stored out p (encode (contract (lam t))) (m * 4) (w .2) (omega (arith, w .0, encode-length (contract (lam t))))
           (omega (arith, w .1))
 
       pub contracted-few : m ≤ sweptRecords
-      unfolding Written
+      unfolding WrittenForm
       contracted-few = result (x .body) (x .bytes) .1
 
       pub contracted-within : m * 4 ≤ length p
-      unfolding Written
+      unfolding WrittenForm
       contracted-within =
           let w = result (x .body) (x .bytes) in
           omega (arith, w .1, ap length (w .2), length-sets out 0 (encode (contract (lam (x .body)))))

@@ -1,6 +1,6 @@
 -- One variable applied to constants at two places of the pattern. By the applications, each of which adds the pair of its arguments, and
 -- for a pair that is looked up by the pairs that were passed. Assumes nothing.
---   Passed P q m n d k   the constants m and n are none of the pairs of q but the last k of its list
+--   PairPassed P q m n d k   the constants m and n are none of the pairs of q but the last k of its list
 use mathlib.Core.Path.{_≡_, refl, sym, ap, ap₂, _∙_, subst}
 use mathlib.Core.Bool.{Bool, true, false, _&&_}
 use mathlib.Core.Logic.{inl, inr}
@@ -14,7 +14,7 @@ use borrow.Author.Tests.{eq-eqb, ne-eqb}
 use Rattle.terms.specs.Figures.{patternRecords}
 use Rattle.terms.specs.Term.{app, var}
 use Rattle.terms.specs.Listing.{In}
-use Rattle.matching.proofs.Repeated.{spine, firsts, seconds, atConstants}
+use Rattle.matching.specs.Repeated.{spine, firsts, seconds, atConstants}
 use Rattle.records.specs.Record.{numberAt}
 use Rattle.records.specs.Parts.{Part, Whole, Ends}
 use Rattle.records.proofs.Parts.{application, argument-part, whole-argument, ends-app, ends-leaf}
@@ -44,13 +44,13 @@ pub pair-is : (m n a b x y : ℕ) → a ≡ x → b ≡ y → m ≡ a → eqb n 
 pair-is m n a b x y e f h = rw (eq-eqb m x (h ∙ e)) (ap (eqb n) f)
 
 -- a pair that is looked up
-pub record Passed (P : List ℕ) (q : Pairs) (m n d k : ℕ) : Type 0 where
+pub record PairPassed (P : List ℕ) (q : Pairs) (m n d k : ℕ) : Type 0 where
   pub most : k ≤ q .count
   pub same : atConstants d (pairsOf P q) m n ≡ atConstants (d + (q .count - k)) (pairsAt P (q .first) (q .second) k) m n
   pub among : In (m, n) (pairsOf P q) → In (m, n) (pairsAt P (q .first) (q .second) k)
 
 module _ (P : List ℕ) (q : Pairs) (m n d : ℕ) where
-  pub passed-first : Passed P q m n d (q .count)
+  pub passed-first : PairPassed P q m n d (q .count)
   passed-first = record {
     most = omega arith;
     same = ap (λ (e : ℕ). atConstants e (pairsOf P q) m n) (omega arith);
@@ -58,7 +58,7 @@ module _ (P : List ℕ) (q : Pairs) (m n d : ℕ) where
   }
 
   pub passed-pair :
-      (k : ℕ) (b : Bool) → Reads P q → Passed P q m n d k → 0 < k
+      (k : ℕ) (b : Bool) → Reads P q → PairPassed P q m n d k → 0 < k
       → b ≡ (eqb m (numberAt P (q .first + 4 * k)) && eqb n (numberAt P (q .second + 4 * k))) → b ≡ true
       → Locates (pairsOf P q) m n d (Local (d + (q .count - k)))
   unfolding Locates
@@ -68,12 +68,12 @@ module _ (P : List ℕ) (q : Pairs) (m n d : ℕ) where
       (x .same ∙ rw y refl, omega (arith, r .first, r .short))
 
   pub passed-next :
-      (k : ℕ) (b : Bool) → Passed P q m n d k → 0 < k
-      → b ≡ (eqb m (numberAt P (q .first + 4 * k)) && eqb n (numberAt P (q .second + 4 * k))) → b ≡ false → Passed P q m n d (k - 1)
+      (k : ℕ) (b : Bool) → PairPassed P q m n d k → 0 < k
+      → b ≡ (eqb m (numberAt P (q .first + 4 * k)) && eqb n (numberAt P (q .second + 4 * k))) → b ≡ false → PairPassed P q m n d (k - 1)
   passed-next zero b x h e t = absurd (omega arith)
   passed-next (suc k) b x h e t =
       let z : suc k - 1 ≡ k = omega arith in
-      subst (Passed P q m n d) (sym z) (record {
+      subst (PairPassed P q m n d) (sym z) (record {
         most = omega (arith, x .most);
         same = x .same ∙ rw y (ap (λ (i : ℕ). atConstants i (pairsAt P (q .first) (q .second) k) m n) (omega (arith, x .most)));
         among = λ i. go (x .among i);
@@ -92,7 +92,7 @@ module _ (P : List ℕ) (q : Pairs) (m n d : ℕ) where
           absurd (subst T f tt)
       go (inr i) = i
 
-  pub passed-all : (k : ℕ) → Passed P q m n d k → k ≤ 0 → Locates (pairsOf P q) m n d Nothing
+  pub passed-all : (k : ℕ) → PairPassed P q m n d k → k ≤ 0 → Locates (pairsOf P q) m n d Nothing
   unfolding Locates
   passed-all zero x h = x .among
   passed-all (suc k) x h = absurd (omega arith)

@@ -1,14 +1,14 @@
 -- The value of a variable that is applied to pairs of constants, read off two targets.
---   Joins P q W t u d room o           terms stand in W from bytes t and u on, below d binders, and there is room for their joined term
---                                      from byte o on, before byte `room`
---   Alike P q W t u d                  those terms are joined if their first records have the same number,
---                                      and then as the first of them, shifted
---   Joint P q d a b out o after        the terms a and b have a joined term, which was written into out from byte o on
---   Answers, Joined P q W t u d out o after r   that holds of the terms at bytes t and u, and the first of them ends at r;
---                                               or they have no joined term
---   Encloses b n room o                a body with the table b can be enclosed in n abstractions, with room for that from byte o on,
---                                      before byte `room`
---   Enclosed b n out o after r         what they come to was written into out from byte o on, up to byte r
+--   Joins P q W t u d room o      terms stand in W from bytes t and u on, below d binders, and there is room for their joined term from
+--                                 byte o on, before byte `room`
+--   Alike P q W t u d             those terms are joined if their first records have the same number, and then as the first of them,
+--                                 shifted
+--   Joint P q d a b out o after   the terms a and b have a joined term, which was written into out from byte o on
+--   JoinAnswered, Joined P q W t u d out o after r   that holds of the terms at bytes t and u, and the first of them ends at r; or they
+--                                 have no joined term
+--   Encloses b n room o           a body with the table b can be enclosed in n abstractions, with room for that from byte o on, before byte
+--                                 `room`
+--   Enclosed b n out o after r    what they come to was written into out from byte o on, up to byte r
 use mathlib.Core.Path.{_≡_}
 use mathlib.Core.Bool.{cond}
 use mathlib.Core.Option.{some, none}
@@ -20,12 +20,12 @@ use lib.Seq.{sets}
 use Rattle.terms.specs.Figures.{numbers, patternRecords, sweptRecords, tableBytes}
 use Rattle.terms.specs.Term.{Term, size, shift, Closed}
 use Rattle.terms.specs.Table.{encode}
-use Rattle.matching.proofs.Repeated.{join, enclose}
+use Rattle.matching.specs.Repeated.{join, enclose}
 use Rattle.records.specs.Record.{numberAt}
 use Rattle.records.specs.Parts.{Part, Whole, Ends}
 use Rattle.records.specs.declared.Walk.{Walk}
 use Rattle.records.specs.declared.Walk.the-variants.{Upto, No}
-use Rattle.sweeping.specs.Writers.{Fits}
+use Rattle.sweeping.specs.Writers.{NumbersFit}
 use Rattle.joins.specs.declared.pairs.Pairs.{Pairs}
 use Rattle.joins.specs.Pairs.{pairsOf, Reads}
 
@@ -34,7 +34,7 @@ pub record Joins (P : List ℕ) (q : Pairs) (W : List ℕ) (t u d room o : ℕ) 
   pub tree : Term
   pub part : Part W t tree
   pub other : Whole W u
-  pub fits : Fits (shift (q .count) d tree)
+  pub fits : NumbersFit (shift (q .count) d tree)
   pub enough : o + 4 * size tree ≤ room
   pub shallow : d + size tree + patternRecords ≤ numbers
   pub least : t + 4 ≤ length W
@@ -52,12 +52,12 @@ pub record Joint (P : List ℕ) (q : Pairs) (d : ℕ) (a b : Term) (out : List �
   pub is : join d (pairsOf P q) a b ≡ some body
   pub bytes : after ≡ sets out o (encode body)
 
-unfoldable pub Answers : List ℕ → Pairs → List ℕ → ℕ → ℕ → ℕ → List ℕ → ℕ → List ℕ → Walk → Type 0
-Answers P q W t u d out o after (Upto h) = Ends W t h × ((a b : Term) → Part W t a → Part W u b → Joint P q d a b out o after)
-Answers P q W t u d out o after No = (a b : Term) → Part W t a → Part W u b → join d (pairsOf P q) a b ≡ none
+unfoldable pub JoinAnswered : List ℕ → Pairs → List ℕ → ℕ → ℕ → ℕ → List ℕ → ℕ → List ℕ → Walk → Type 0
+JoinAnswered P q W t u d out o after (Upto h) = Ends W t h × ((a b : Term) → Part W t a → Part W u b → Joint P q d a b out o after)
+JoinAnswered P q W t u d out o after No = (a b : Term) → Part W t a → Part W u b → join d (pairsOf P q) a b ≡ none
 
 pub record Joined (P : List ℕ) (q : Pairs) (W : List ℕ) (t u d : ℕ) (out : List ℕ) (o : ℕ) (after : List ℕ) (r : Walk) : Type 0 where
-  pub answers : Answers P q W t u d out o after r
+  pub answers : JoinAnswered P q W t u d out o after r
 
 pub record Encloses (b : List ℕ) (n room o : ℕ) : Type 0 where
   pub body : Term

@@ -1,13 +1,13 @@
 -- Two parts of the pattern that apply one variable to constants.
---   pairsAt P v w n     the last n constants behind the variables at bytes v and w, in pairs, the last pair first
---   pairsOf P q         the pairs that q names
---   Reads P q           they stand within a pattern
---   Locates ps m n d r  r is the local that stands for the constants m and n below d binders, or they are none of the pairs ps
---   Adding P q          terms stand behind the pairs
---   Added P q r         r has the pairs of q and the one behind them, of two constants that differ and are none of these pairs
---   Adds P q r          if r has pairs, that holds of them
---   Repeated P x y q    the terms at bytes x and y apply one variable to the first and to the second constants of q, which are apart
---   Repeats P x y r     if r has pairs, that holds of them
+--   pairsAt P v w n      the last n constants behind the variables at bytes v and w, in pairs, the last pair first
+--   pairsOf P q          the pairs that q names
+--   Reads P q            they stand within a pattern
+--   Locates ps m n d r   r is the local that stands for the constants m and n below d binders, or they are none of the pairs ps
+--   Adding P q           terms stand behind the pairs
+--   Added P q r          r has the pairs of q and the one behind them, of two constants that differ and are none of these pairs
+--   Adds P q r           if r has pairs, that holds of them
+--   Repeated P x y q     the terms at bytes x and y apply one variable to the first and to the second constants of q, which are apart
+--   Repeats P x y r      if r has pairs, that holds of them
 use mathlib.Core.Path.{_≡_}
 use mathlib.Core.Option.{some}
 use mathlib.Core.List.{List, [], _∷_}
@@ -16,7 +16,7 @@ use lib.ListN.{length, getD}
 use Rattle.terms.specs.Figures.{patternRecords}
 use Rattle.terms.specs.Term.{Term, var, loc}
 use Rattle.terms.specs.Listing.{In}
-use Rattle.matching.proofs.Repeated.{spine, firsts, seconds, Apart as AreApart, atConstants}
+use Rattle.matching.specs.Repeated.{spine, firsts, seconds, PairsApart as AreApart, atConstants}
 use Rattle.records.specs.Record.{numberAt}
 use Rattle.records.specs.Parts.{Part, Whole, Ends}
 use Rattle.joins.specs.declared.pairs.Pairs.{Pairs}

@@ -4,6 +4,11 @@
 // variable's body, or that nothing does. The crate finds the pairs of constants and writes the joined term. It promises that the joined
 // term is the only body, or that there is none. It rests on `matching` for why that is so,
 // and on `records` and `sweeping` for reading and writing terms.
+//
+// Going over both targets together, a pair of the constants is the local, or one constant that both are, and any other record stays; so
+// there is at most one value. Constants only: with other arguments two values may come to both targets (`k2`, `@ k2 k5` and `k3`, `@ k3 k5`
+// have `#0` and `@ #1 k5` for the second), and an argument that holds open variables isn't known yet. Rules of planners that need it for
+// more than constants would change that.
 
 pub mod joining;
 pub mod pairs;

@@ -10,11 +10,12 @@ use lib.ListN.{length, drop, length-append}
 use lib.Seq.{sets, sets-eq, length-sets, drop-at}
 use Rattle.terms.specs.Figures.{variables}
 use Rattle.terms.specs.Listing.{In, Line}
-use Rattle.terms.specs.Layout.{valueRecords, lineBytes, lineValues, lineTable, valuesRecords, valueTable}
+use Rattle.terms.specs.Layout.{lineValueRecords, lineBytes, lineValues, lineTable, valuesRecords, valueTable}
 use Rattle.assignments.specs.declared.Entry.{Entry}
 use Rattle.copying.proofs.Stores.{sets-then}
 use Rattle.listing.specs.declared.Tally.{Tally}
-use Rattle.listing.specs.Outcome.{lineRecords, Outcome, outcome, fits, written, counted, store, stores, Finds, Found, Tables}
+use Rattle.listing.specs.Outcome.{lineRecords, Outcome, outcome, fits, lineWritten, counted, store, stores, Storable, LineStored}
+use Rattle.listing.specs.Outcome.{Tables}
 use Rattle.listing.proofs.Writers.{line-bytes-length, line-values-length}
 use Rattle.listing.proofs.Storing.{holds-few, store-lines-full, store-fits}
 
@@ -27,15 +28,15 @@ pub store-count : (o : Outcome) (l : Line) → store o l .count ≡ o .count + 1
 unfolding store
 store-count o l = go (fits o l)
   where
-    go : (b : Bool) → cond b (written o l) (counted o l) .count ≡ o .count + 1
+    go : (b : Bool) → cond b (lineWritten o l) (counted o l) .count ≡ o .count + 1
     go true = refl
     go false = refl
 
-pub store-records : (o : Outcome) (l : Line) → store o l .records ≡ o .records + valueRecords l
+pub store-records : (o : Outcome) (l : Line) → store o l .records ≡ o .records + lineValueRecords l
 unfolding store
 store-records o l = go (fits o l)
   where
-    go : (b : Bool) → cond b (written o l) (counted o l) .records ≡ o .records + valueRecords l
+    go : (b : Bool) → cond b (lineWritten o l) (counted o l) .records ≡ o .records + lineValueRecords l
     go true = refl
     go false = refl
 
@@ -44,8 +45,8 @@ pub store-lengths : (o : Outcome) (l : Line)
 unfolding store
 store-lengths o l = go (fits o l)
   where
-    go : (b : Bool) → (length (cond b (written o l) (counted o l) .lines) ≡ length (o .lines))
-        × (length (cond b (written o l) (counted o l) .values) ≡ length (o .values))
+    go : (b : Bool) → (length (cond b (lineWritten o l) (counted o l) .lines) ≡ length (o .lines))
+        × (length (cond b (lineWritten o l) (counted o l) .values) ≡ length (o .values))
     go true = (
       length-sets (o .lines) (4 * variables * o .count) (lineBytes (o .records) l),
       length-sets (o .values) (4 * o .records) (lineValues l),
@@ -77,10 +78,10 @@ line-table-length k [] h = refl
 line-table-length k (l ∷ ls) h =
     omega (
       arith,
-      length-append (lineBytes k l) (lineTable (k + valueRecords l) ls),
+      length-append (lineBytes k l) (lineTable (k + lineValueRecords l) ls),
       line-bytes-length k l,
       h l (inl refl),
-      line-table-length (k + valueRecords l) ls (λ m p. h m (inr p)),
+      line-table-length (k + lineValueRecords l) ls (λ m p. h m (inr p)),
     )
 
 pub value-table-length : (ls : List Line) → length (valueTable ls) ≡ 4 * valuesRecords ls
@@ -88,27 +89,27 @@ value-table-length [] = refl
 value-table-length (l ∷ ls) = omega (arith, length-append (lineValues l) (valueTable ls), line-values-length l, value-table-length ls)
 
 -- lines that all fit
-pub record Written (o : Outcome) (ls : List Line) : Type 0 where
+pub record AllFit (o : Outcome) (ls : List Line) : Type 0 where
   pub lines : stores o ls .lines ≡ sets (o .lines) (4 * variables * o .count) (lineTable (o .records) ls)
   pub values : stores o ls .values ≡ sets (o .values) (4 * o .records) (valueTable ls)
 
 pub stores-written :
     (ls : List Line) (o : Outcome) → Entire ls → 4 * variables * (o .count + length ls) ≤ length (o .lines)
-    → 4 * (o .records + valuesRecords ls) ≤ length (o .values) → Written o ls
+    → 4 * (o .records + valuesRecords ls) ≤ length (o .values) → AllFit o ls
 stores-written [] o e h k = record { lines = refl; values = refl }
 stores-written (l ∷ ls) o e h k =
-    let s : store o l ≡ written o l = store-fits o l (omega arith) (omega arith) in
+    let s : store o l ≡ lineWritten o l = store-fits o l (omega arith) (omega arith) in
     let n = length-sets (o .lines) (4 * variables * o .count) (lineBytes (o .records) l) in
     let m = length-sets (o .values) (4 * o .records) (lineValues l) in
-    let w = stores-written ls (written o l) (λ x p. e x (inr p)) (omega arith) (omega arith) in
+    let w = stores-written ls (lineWritten o l) (λ x p. e x (inr p)) (omega arith) (omega arith) in
     let i : 4 * variables * (o .count + 1) ≡ 4 * variables * o .count + length (lineBytes (o .records) l) =
     omega (arith, line-bytes-length (o .records) l, e l (inl refl)) in
-    let j : 4 * (o .records + valueRecords l) ≡ 4 * o .records + length (lineValues l) = omega (arith, line-values-length l) in
+    let j : 4 * (o .records + lineValueRecords l) ≡ 4 * o .records + length (lineValues l) = omega (arith, line-values-length l) in
     record {
       lines = ap (λ (x : Outcome). stores x ls .lines) s ∙ w .lines
           ∙ ap (λ (q : ℕ). sets (sets (o .lines) (4 * variables * o .count) (lineBytes (o .records) l)) q
-          (lineTable (o .records + valueRecords l) ls)) i
-          ∙ sets-then (lineBytes (o .records) l) (lineTable (o .records + valueRecords l) ls) (o .lines) (4 * variables * o .count);
+          (lineTable (o .records + lineValueRecords l) ls)) i
+          ∙ sets-then (lineBytes (o .records) l) (lineTable (o .records + lineValueRecords l) ls) (o .lines) (4 * variables * o .count);
       values = ap (λ (x : Outcome). stores x ls .values) s ∙ w .values
           ∙ ap (λ (q : ℕ). sets (sets (o .values) (4 * o .records) (lineValues l)) q (valueTable ls)) j
           ∙ sets-then (lineValues l) (valueTable ls) (o .values) (4 * o .records);
@@ -153,14 +154,14 @@ pub stores-empty : (t : Tally) (ls : List Line)
 stores-empty t [] = ap₂ (λ (i j : ℕ). outcome [] [] (record { lines = i; records = j })) (omega arith) (omega arith)
 stores-empty t (l ∷ ls) =
     ap (λ (o : Outcome). stores o ls) (store-lines-full (outcome [] [] t) l (omega arith))
-    ∙ stores-empty (record { lines = t .lines + 1; records = t .records + valueRecords l }) ls
+    ∙ stores-empty (record { lines = t .lines + 1; records = t .records + lineValueRecords l }) ls
     ∙ ap₂ (λ (i j : ℕ). outcome [] [] (record { lines = i; records = j })) (omega arith) (omega arith)
 
 -- a tally after a found line: one line more, and still few enough records
 pub found-tally :
     (s : List ℕ) (a : List Entry) (lines values : List ℕ) (done : Tally) (lines-after values-after : List ℕ) (r : Tally)
-    → Finds s a lines values done → length a ≡ variables
-    → Found s a lines values done lines-after values-after r → (r .lines ≡ done .lines + 1) × (r .records ≤ lineRecords * r .lines)
+    → Storable s a lines values done → length a ≡ variables
+    → LineStored s a lines values done lines-after values-after r → (r .lines ≡ done .lines + 1) × (r .records ≤ lineRecords * r .lines)
 found-tally s a lines values done lines-after values-after r x n f =
     let e = f .stored (x .top) (x .line) (x .holds) in
     let c = ap (λ (o : Outcome). o .count) e ∙ store-count (outcome lines values done) (x .line) in

@@ -13,14 +13,15 @@ use Rattle.terms.specs.Figures.{variables}
 use Rattle.terms.specs.Term.{Term, size}
 use Rattle.terms.specs.Table.{encode}
 use Rattle.terms.specs.Listing.{Line}
-use Rattle.terms.specs.Layout.{word, valueRecords, lineBytes, lineValues}
+use Rattle.terms.specs.Layout.{word, lineValueRecords, lineBytes, lineValues}
 use Rattle.terms.proofs.Table.{encode-length}
 use Rattle.assignments.specs.declared.Span.{Span}
 use Rattle.assignments.specs.declared.Entry.{Entry}
 use Rattle.assignments.specs.declared.Entry.the-variants.{Open, Assigned}
 use Rattle.copying.proofs.Stores.{written-then}
-use Rattle.listing.specs.Writers.{entryRecords, entryBytes, entryValues, Stands, EntryStands, LineStands, countOf, total, WriteEntry}
-use Rattle.listing.specs.Writers.{Wrote, WriteLine, WroteLine}
+use Rattle.listing.specs.Writers.{entryRecords, entryBytes, entryValues, SpanStands, EntryStands, LineStands, countOf, entriesRecords}
+use Rattle.listing.specs.Writers.{WriteEntry}
+use Rattle.listing.specs.Writers.{EntryWritten, WriteLine, WroteLine}
 
 -- a line is its first entry and the others
 pub line-entry : (k : ℕ) (o : Option Term) (l : Line) → lineBytes k (o ∷ l) ≡ entryBytes k o ++ lineBytes (k + entryRecords o) l
@@ -31,7 +32,7 @@ pub values-entry : (o : Option Term) (l : Line) → lineValues (o ∷ l) ≡ ent
 values-entry none l = refl
 values-entry (some v) l = refl
 
-pub records-entry : (o : Option Term) (l : Line) → valueRecords (o ∷ l) ≡ entryRecords o + valueRecords l
+pub records-entry : (o : Option Term) (l : Line) → lineValueRecords (o ∷ l) ≡ entryRecords o + lineValueRecords l
 records-entry none l = omega arith
 records-entry (some v) l = refl
 
@@ -49,7 +50,7 @@ line-bytes-length k [] = refl
 line-bytes-length k (none ∷ l) = omega (arith, line-bytes-length k l)
 line-bytes-length k (some v ∷ l) = omega (arith, line-bytes-length (k + size v) l)
 
-pub line-values-length : (l : Line) → length (lineValues l) ≡ 4 * valueRecords l
+pub line-values-length : (l : Line) → length (lineValues l) ≡ 4 * lineValueRecords l
 line-values-length [] = refl
 line-values-length (none ∷ l) = line-values-length l
 line-values-length (some v ∷ l) = omega (arith, length-append (encode v) (lineValues l), encode-length v, line-values-length l)
@@ -66,7 +67,7 @@ open-entry s e o x p = go o (subst (λ (d : Entry). EntryStands s d o) p x)
 pub record AssignedAs (s : List ℕ) (x : Span) (o : Option Term) : Type 0 where
   pub value : Term
   pub is : o ≡ some value
-  pub stands : Stands s x value
+  pub stands : SpanStands s x value
   pub records : x .count ≡ entryRecords o
   pub within : 4 * (x .first + x .count) ≤ length s
   pub bytes : take (4 * x .count) (drop (4 * x .first) s) ≡ entryValues o
@@ -90,7 +91,7 @@ assigned-entry s e o x h p = go o (subst (λ (d : Entry). EntryStands s d o) p h
 -- one entry written
 module _ (s : List ℕ) (e : Entry) (lines : List ℕ) (at : ℕ) (values : List ℕ) (first : ℕ) where
   pub wrote-open : (p q : List ℕ) → e ≡ Open → p ≡ sets lines at (word 0 []) → q ≡ sets p (at + 2) (word 0 [])
-      → Wrote s e lines at values first q values first
+      → EntryWritten s e lines at values first q values first
   wrote-open p q n b d = record {
     records = λ o x. rw (open-entry s e o x n) (sym (add-zero first));
     bytes = λ o x. rw (open-entry s e o x n) (written-then (word 0 []) (word 0 []) lines p q at (at + 2) b d refl);
@@ -100,7 +101,7 @@ module _ (s : List ℕ) (e : Entry) (lines : List ℕ) (at : ℕ) (values : List
   pub wrote-assigned :
       (x : Span) (p q part w : List ℕ) → e ≡ Assigned x → p ≡ sets lines at (word first []) → q ≡ sets p (at + 2) (word (x .count) [])
       → part ≡ take (4 * x .count) (drop (4 * x .first) s)
-      → w ≡ sets values (4 * first) part → Wrote s e lines at values first q w (first + x .count)
+      → w ≡ sets values (4 * first) part → EntryWritten s e lines at values first q w (first + x .count)
   wrote-assigned x p q part w n b d g k = record {
     records = λ o h. ap (first +_) (assigned-entry s e o x h n .records);
     bytes = λ o h. let a = assigned-entry s e o x h n in
@@ -114,18 +115,18 @@ module _ (s : List ℕ) (e : Entry) (lines : List ℕ) (at : ℕ) (values : List
 pub entries-next : (a : List Entry) (i : ℕ) → i < length a → drop i a ≡ getD a i Open ∷ drop (i + 1) a
 entries-next a i h = drop-cons a i Open h ∙ ap (λ (j : ℕ). getD a i Open ∷ drop j a) (sym (add-one i))
 
-pub record Next (s : List ℕ) (a : List Entry) (i : ℕ) (l : Line) : Type 0 where
+pub record NextEntry (s : List ℕ) (a : List Entry) (i : ℕ) (l : Line) : Type 0 where
   pub entry : Option Term
   pub rest : Line
   pub is : l ≡ entry ∷ rest
   pub first : EntryStands s (getD a i Open) entry
   pub others : LineStands s (drop (i + 1) a) rest
 
-pub next : (s : List ℕ) (a : List Entry) (i : ℕ) (l : Line) → i < length a → LineStands s (drop i a) l → Next s a i l
+pub next : (s : List ℕ) (a : List Entry) (i : ℕ) (l : Line) → i < length a → LineStands s (drop i a) l → NextEntry s a i l
 unfolding LineStands
 next s a i l h x = go l (subst (λ (b : List Entry). LineStands s b l) (entries-next a i h) x)
   where
-    go : (l : Line) → LineStands s (getD a i Open ∷ drop (i + 1) a) l → Next s a i l
+    go : (l : Line) → LineStands s (getD a i Open ∷ drop (i + 1) a) l → NextEntry s a i l
     go [] y = absurd y
     go (o ∷ l) y = record { entry = o; rest = l; is = refl; first = y .0; others = y .1 }
 
@@ -147,13 +148,13 @@ module _ (s : List ℕ) (a : List Entry) (i : ℕ) (lines : List ℕ) (at : ℕ)
   }
 
   wrote-next :
-      (p w q x : List ℕ) (m r : ℕ) → i < length a → Wrote s (getD a i Open) lines at values first p w m
+      (p w q x : List ℕ) (m r : ℕ) → i < length a → EntryWritten s (getD a i Open) lines at values first p w m
       → WroteLine s (drop (i + 1) a) p (at + 4) w m q x r
       → WroteLine s (drop i a) lines at values first q x r
   wrote-next p w q x m r h y z = record { records = λ l n. go l n .0; bytes = λ l n. go l n .1; copied = λ l n. go l n .2 }
     where
       go : (l : Line) → LineStands s (drop i a) l
-          → (r ≡ first + valueRecords l) × (q ≡ sets lines at (lineBytes first l)) × (x ≡ sets values (4 * first) (lineValues l))
+          → (r ≡ first + lineValueRecords l) × (q ≡ sets lines at (lineBytes first l)) × (x ≡ sets values (4 * first) (lineValues l))
       go l n =
           let k = next s a i l h n in
           let o = k .entry in
@@ -177,12 +178,13 @@ module _ (s : List ℕ) (a : List Entry) (i : ℕ) (lines : List ℕ) (at : ℕ)
         entry = k .entry;
         stands = k .first;
         room = omega (arith, x .room);
-        values-room = omega (arith, x .values-room, ap valueRecords (k .is), records-entry (k .entry) (k .rest));
+        values-room = omega (arith, x .values-room, ap lineValueRecords (k .is), records-entry (k .entry) (k .rest));
         values-most = x .values-most;
       }
 
   others-of :
-      (p w : List ℕ) (m : ℕ) → WriteLine s a i lines at values first → i < variables → Wrote s (getD a i Open) lines at values first p w m
+      (p w : List ℕ) (m : ℕ) → WriteLine s a i lines at values first → i < variables
+      → EntryWritten s (getD a i Open) lines at values first p w m
       → length p ≡ length lines → length w ≡ length values
       → WriteLine s a (i + 1) p (at + 4) w m
   others-of p w m x h y e f =
@@ -193,7 +195,14 @@ module _ (s : List ℕ) (a : List Entry) (i : ℕ) (lines : List ℕ) (at : ℕ)
         upto = omega arith;
         room = omega (arith, x .room);
         values-room =
-            omega (arith, x .values-room, ap valueRecords (k .is), records-entry (k .entry) (k .rest), y .records (k .entry) (k .first));
+            omega (
+              arith,
+              x .values-room,
+              ap lineValueRecords (k .is),
+              records-entry (k .entry) (k .rest),
+              y .records (k .entry)
+                  (k .first),
+            );
         values-most = omega (arith, x .values-most);
         entries = x .entries;
       }
@@ -223,7 +232,7 @@ module _ (s : List ℕ) (a : List Entry) (lines : List ℕ) (at : ℕ) (values :
     writing-entry h = entry-of s a i now (at + 4 * i) then next (x .left) h
 
     pub writing-more :
-        (p w : List ℕ) (m : ℕ) → i < variables → Wrote s (getD a i Open) now (at + 4 * i) then next p w m → length p ≡ length now
+        (p w : List ℕ) (m : ℕ) → i < variables → EntryWritten s (getD a i Open) now (at + 4 * i) then next p w m → length p ≡ length now
         → length w ≡ length then
         → Writing s a lines at values first p w m (i + 1)
     writing-more p w m h y f g =
@@ -242,13 +251,14 @@ module _ (s : List ℕ) (a : List Entry) (lines : List ℕ) (at : ℕ) (values :
     writing-done h = x .whole now then next (wrote-none s a i now (at + 4 * i) then next (omega (arith, x .left .entries)))
 
 -- the records that entries say
-pub total-next : (a : List Entry) (i : ℕ) → i < length a → total (drop i a) ≡ countOf (getD a i Open) + total (drop (i + 1) a)
-total-next a i h = ap total (entries-next a i h)
+pub total-next : (a : List Entry) (i : ℕ) → i < length a
+    → entriesRecords (drop i a) ≡ countOf (getD a i Open) + entriesRecords (drop (i + 1) a)
+total-next a i h = ap entriesRecords (entries-next a i h)
 
-pub total-none : (a : List Entry) (i : ℕ) → length a ≤ i → total (drop i a) ≡ 0
-total-none a i h = ap total (drop-of-length-le a h)
+pub total-none : (a : List Entry) (i : ℕ) → length a ≤ i → entriesRecords (drop i a) ≡ 0
+total-none a i h = ap entriesRecords (drop-of-length-le a h)
 
-pub total-line : (s : List ℕ) (a : List Entry) (l : Line) → LineStands s a l → total a ≡ valueRecords l
+pub total-line : (s : List ℕ) (a : List Entry) (l : Line) → LineStands s a l → entriesRecords a ≡ lineValueRecords l
 unfolding LineStands EntryStands
 total-line s [] [] x = refl
 total-line s [] (o ∷ l) x = absurd x

@@ -1,13 +1,13 @@
 -- What the functions that write a line and its values need, and what they leave.
---   entryRecords o       the number of records of an entry's value
---   entryBytes k o       the bytes of an entry whose value stands in the value table from record k on
---   entryValues o        the bytes of its value
---   Stands s x v         the value v stands in s where the span x says
---   EntryStands s e o    the entry e, with the bytes s, is the entry o of a line
---   LineStands s a l     the entries a, with the bytes s, are the line l
---   countOf e            the number of records that an entry says
---   total a              the number of records that entries say
---   WriteEntry, Wrote    what writing one entry needs, and what it leaves
+--   entryRecords o             the number of records of an entry's value
+--   entryBytes k o             the bytes of an entry whose value stands in the value table from record k on
+--   entryValues o              the bytes of its value
+--   SpanStands s x v           the value v stands in s where the span x says
+--   EntryStands s e o          the entry e, with the bytes s, is the entry o of a line
+--   LineStands s a l           the entries a, with the bytes s, are the line l
+--   countOf e                  the number of records that an entry says
+--   entriesRecords a           the number of records that entries say
+--   WriteEntry, EntryWritten   what writing one entry needs, and what it leaves
 --   WriteLine, WroteLine the same of the entries from the i-th on
 use mathlib.Core.Path.{_≡_}
 use mathlib.Core.Option.{Option, none, some}
@@ -19,7 +19,7 @@ use Rattle.terms.specs.Figures.{variables, tableBytes}
 use Rattle.terms.specs.Term.{Term, size}
 use Rattle.terms.specs.Table.{encode}
 use Rattle.terms.specs.Listing.{Line}
-use Rattle.terms.specs.Layout.{word, valueRecords, lineBytes, lineValues}
+use Rattle.terms.specs.Layout.{word, lineValueRecords, lineBytes, lineValues}
 use Rattle.records.specs.Parts.{Part}
 use Rattle.assignments.specs.declared.Span.{Span}
 use Rattle.assignments.specs.declared.Entry.{Entry}
@@ -37,7 +37,7 @@ abbrev pub entryValues : Option Term → List ℕ
 entryValues none = []
 entryValues (some v) = encode v
 
-pub record Stands (s : List ℕ) (x : Span) (v : Term) : Type 0 where
+pub record SpanStands (s : List ℕ) (x : Span) (v : Term) : Type 0 where
   pub part : Part s (4 * x .first) v
   pub count : x .count ≡ size v
 
@@ -45,7 +45,7 @@ unfoldable pub EntryStands : List ℕ → Entry → Option Term → Type 0
 EntryStands s Open none = Unit {0}
 EntryStands s Open (some v) = ⊥
 EntryStands s (Assigned x) none = ⊥
-EntryStands s (Assigned x) (some v) = Stands s x v
+EntryStands s (Assigned x) (some v) = SpanStands s x v
 
 unfoldable pub LineStands : List ℕ → List Entry → Line → Type 0
 LineStands s [] [] = Unit {0}
@@ -57,9 +57,9 @@ abbrev pub countOf : Entry → ℕ
 countOf Open = 0
 countOf (Assigned x) = x .count
 
-abbrev pub total : List Entry → ℕ
-total [] = 0
-total (e ∷ a) = countOf e + total a
+abbrev pub entriesRecords : List Entry → ℕ
+entriesRecords [] = 0
+entriesRecords (e ∷ a) = countOf e + entriesRecords a
 
 pub record WriteEntry (s : List ℕ) (e : Entry) (lines : List ℕ) (at : ℕ) (values : List ℕ) (first : ℕ) : Type 0 where
   pub entry : Option Term
@@ -68,7 +68,7 @@ pub record WriteEntry (s : List ℕ) (e : Entry) (lines : List ℕ) (at : ℕ) (
   pub values-room : 4 * (first + entryRecords entry) ≤ length values
   pub values-most : length values ≤ tableBytes
 
-pub record Wrote (s : List ℕ) (e : Entry) (lines : List ℕ) (at : ℕ) (values : List ℕ) (first : ℕ) (lines-after values-after : List ℕ)
+pub record EntryWritten (s : List ℕ) (e : Entry) (lines : List ℕ) (at : ℕ) (values : List ℕ) (first : ℕ) (lines-after values-after : List ℕ)
     (next : ℕ) : Type 0 where
   pub records : (o : Option Term) → EntryStands s e o → next ≡ first + entryRecords o
   pub bytes : (o : Option Term) → EntryStands s e o → lines-after ≡ sets lines at (entryBytes first o)
@@ -79,12 +79,12 @@ pub record WriteLine (s : List ℕ) (a : List Entry) (i : ℕ) (lines : List ℕ
   pub stands : LineStands s (drop i a) line
   pub upto : i ≤ variables
   pub room : at + 4 * variables ≤ length lines + 4 * i
-  pub values-room : 4 * (first + valueRecords line) ≤ length values
+  pub values-room : 4 * (first + lineValueRecords line) ≤ length values
   pub values-most : length values ≤ tableBytes
   pub entries : length a ≡ variables
 
 pub record WroteLine (s : List ℕ) (a : List Entry) (lines : List ℕ) (at : ℕ) (values : List ℕ) (first : ℕ)
     (lines-after values-after : List ℕ) (next : ℕ) : Type 0 where
-  pub records : (l : Line) → LineStands s a l → next ≡ first + valueRecords l
+  pub records : (l : Line) → LineStands s a l → next ≡ first + lineValueRecords l
   pub bytes : (l : Line) → LineStands s a l → lines-after ≡ sets lines at (lineBytes first l)
   pub copied : (l : Line) → LineStands s a l → values-after ≡ sets values (4 * first) (lineValues l)

@@ -1,8 +1,12 @@
 // The lines that a search finds, in the tables of a listing.
 //
-// A line that is found is counted, and written where it still fits both tables. The tables then hold the lines in the order in which they
-// were found. The crate promises that the tables are those of exactly the lines found, with nothing else changed. It rests on `records` for
-// single words, on `assignments` for the entries of a line, and on `copying` for bytes.
+// A line that is found is counted in any case, and written behind those before it if it still fits both tables; behind a line that doesn't
+// fit none does. So the tables begin with the lines found, in that order, where all of them fit, and else with the first of them. The crate
+// promises that of one line more, and that nothing else changes; that all lines fit the caller tells by the tally. It rests on `records`
+// for the figures, on `assignments` for the entries of a line and where their values stand, and on `copying` for bytes.
+//
+// There is no mode that only counts and no flag: a found line is always counted, and written where it fits. Lines are stored as they are
+// found in the layout of a listing, so that one definition of the layout serves these tables and those in order (`arranging`).
 
 use assignments::Entry;
 use assignments::LINE;
@@ -15,8 +19,8 @@ ghost use lib.ListN.{length};
 ghost use lib.Seq.{sets};
 ghost use Rattle.terms.specs.Figures.{numbers};
 ghost use Rattle.terms.specs.Layout.{word};
-ghost use Rattle.listing.specs.Outcome.{Finds, Found};
-ghost use Rattle.listing.specs.Writers.{countOf, total, WriteEntry, Wrote, WriteLine, WroteLine};
+ghost use Rattle.listing.specs.Outcome.{Storable, LineStored};
+ghost use Rattle.listing.specs.Writers.{countOf, entriesRecords, WriteEntry, EntryWritten, WriteLine, WroteLine};
 
 // How many lines were found, and how many records their values have.
 pub struct Tally {
@@ -43,7 +47,7 @@ fn write_entry(
     first: usize,
 ) -> usize
     requires { ⌜ WriteEntry (now s) e (now lines) at (now values) first ⌝ }
-    ensures { λ r. ⌜ Wrote (now (s .entry)) e (now (lines .entry)) at (now (values .entry)) first (now (lines .exit))
+    ensures { λ r. ⌜ EntryWritten (now (s .entry)) e (now (lines .entry)) at (now (values .entry)) first (now (lines .exit))
         (now (values .exit)) r ⌝ }
 {
     let Entry::Assigned(span) = e else {
@@ -60,20 +64,20 @@ fn write_entry(
 // Writes the line at byte `at`, and its values from record `first` of the values on. Answers the record behind them.
 pub fn write_line(
     s: &[u8],
-    a: [Entry; VARIABLES],
+    entries: [Entry; VARIABLES],
     lines: &mut [u8],
     at: usize,
     values: &mut [u8],
     first: usize,
 ) -> usize
-    requires { ⌜ WriteLine (now s) a 0 (now lines) at (now values) first ⌝ }
-    ensures { λ r. ⌜ WroteLine (now (s .entry)) a (now (lines .entry)) at (now (values .entry)) first (now (lines .exit))
+    requires { ⌜ WriteLine (now s) entries 0 (now lines) at (now values) first ⌝ }
+    ensures { λ r. ⌜ WroteLine (now (s .entry)) entries (now (lines .entry)) at (now (values .entry)) first (now (lines .exit))
         (now (values .exit)) r ⌝ }
 {
     let mut next = first;
     let mut i = 0;
     while i < VARIABLES {
-        let entry = a[i];
+        let entry = entries[i];
         next = write_entry(s, entry, lines, at + RECORD * i, values, next);
         i += 1;
     }
@@ -91,14 +95,14 @@ fn count_of(e: Entry) -> usize
 }
 
 // The records that the values of all entries have.
-fn records_of(a: [Entry; VARIABLES]) -> usize
-    requires { ⌜ total a ≤ numbers ⌝ }
-    ensures { λ r. ⌜ r ≡ total a ⌝ }
+fn records_of(entries: [Entry; VARIABLES]) -> usize
+    requires { ⌜ entriesRecords entries ≤ numbers ⌝ }
+    ensures { λ r. ⌜ r ≡ entriesRecords entries ⌝ }
 {
     let mut n: usize = 0;
     let mut i = 0;
     while i < VARIABLES {
-        let e = a[i];
+        let e = entries[i];
         n += count_of(e);
         i += 1;
     }
@@ -108,19 +112,19 @@ fn records_of(a: [Entry; VARIABLES]) -> usize
 // A line more, whose values stand in the work area: it is counted, and written behind the lines before it if it fits both tables.
 pub fn found(
     work: &[u8],
-    a: [Entry; VARIABLES],
+    entries: [Entry; VARIABLES],
     lines: &mut [u8],
     values: &mut [u8],
     done: Tally,
 ) -> Tally
-    requires { ⌜ Finds (now work) a (now lines) (now values) done ⌝ }
-    ensures { λ r. ⌜ Found (now (work .entry)) a (now (lines .entry)) (now (values .entry)) done (now (lines .exit))
+    requires { ⌜ Storable (now work) entries (now lines) (now values) done ⌝ }
+    ensures { λ r. ⌜ LineStored (now (work .entry)) entries (now (lines .entry)) (now (values .entry)) done (now (lines .exit))
         (now (values .exit)) r ⌝ }
 {
     let at = LINE * done.lines;
     let first = done.records;
     let count = done.lines + 1;
-    let records = first + records_of(a);
+    let records = first + records_of(entries);
     if lines.len() < LINE * count {
         return Tally {
             lines: count,
@@ -133,7 +137,7 @@ pub fn found(
             records: records,
         };
     }
-    let end = write_line(work, a, lines, at, values, first);
+    let end = write_line(work, entries, lines, at, values, first);
     Tally {
         lines: count,
         records: end,

@@ -24,13 +24,13 @@ use Rattle.refusals.proofs.Judging.{judged-more, judged-first}
 use Rattle.enumeration.specs.declared.ListAnswer.{ListAnswer}
 use Rattle.enumeration.specs.Written.{lentLines, lentRecords, ListingOf, NoRoom, Enumerated}
 use Rattle.matcher.specs.Operations.{lentForList, Listed, TooMany, NineExactly}
-use Rattle.enumeration.specs.Steps.{Listable}
+use Rattle.enumeration.specs.Steps.{ListTables}
 
 -- the tables that list is lent, judged
 pub judged-list :
     (p t l s w : List ℕ) (a b r : Verdict)
     → Judged (listTables l s w) ((length l ≤ tableBytes) × ((length s ≤ tableBytes) × (length w ≡ tableBytes))) a
-    → Judged (pattern p ++ recipe t) (Pattern p × Recipe t) b → r ≡ firstOf a b → Judged (lentForList p t l s w) (Listable p t l s w) r
+    → Judged (pattern p ++ recipe t) (Pattern p × Recipe t) b → r ≡ firstOf a b → Judged (lentForList p t l s w) (ListTables p t l s w) r
 judged-list p t l s w a b r x y e =
     judged-more _ _ _ r
     (λ z. record { pattern-checked = z .1 .0; recipe-checked = z .1 .1; lines-most = z .0 .0; values-most = z .0 .1 .0; area = z .0 .1 .1 })
@@ -124,17 +124,17 @@ module _ (p r l s w : List ℕ) where
   listed-all A a m q x y = (x, (listed-nine a m q x, y))
 
   -- from the verdict and the search
-  module _ (v : Verdict) (x : Judged lent (Listable p r l s w) v) where
+  module _ (v : Verdict) (x : Judged lent (ListTables p r l s w) v) where
     pub listed-lent : (c : Refusal) → v ≡ Verdict.Refused c → Listed p r l s w (ListAnswer.Refused c) l s
     unfolding Listed Judged
-    listed-lent c e = (inl (subst (Judged lent (Listable p r l s w)) e x), refl, refl)
+    listed-lent c e = (inl (subst (Judged lent (ListTables p r l s w)) e x), refl, refl)
 
     pub listed-enumerated : v ≡ Verdict.Right → (a : ListAnswer) (m q : List ℕ) → Enumerated p r l s a m q → Listed p r l s w a m q
     unfolding Listed Judged Enumerated
     listed-enumerated e a m q y = go a y
       where
         passed : Passed lent
-        passed = subst (Judged lent (Listable p r l s w)) e x .0
+        passed = subst (Judged lent (ListTables p r l s w)) e x .0
 
         go : (a : ListAnswer) → Enumerated p r l s a m q → Listed p r l s w a m q
         go (ListAnswer.Lines n) z = (passed, z)

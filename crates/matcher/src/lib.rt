@@ -1,9 +1,13 @@
 // The operation list: all matches of a pattern and a recipe.
 //
-// It judges the tables it is lent, in document 01's order, and refuses with the number of the first cause that holds; else it writes a full
-// listing, or says that it has no room. It promises its answer and the bytes it leaves for every input there is, refusals included: a
-// refusal leaves the tables as they were, 9 is given exactly if every full listing has more lines than are lent, and the work area is all
-// zero unless its own length was wrong. It rests on `refusals` for the verdicts, and on `enumeration` for the listing.
+// It judges all that it is lent, and refuses with the number of the cause that holds first in document 01's order; else `enumeration`
+// writes a full listing, or says that it has no room. It promises its answer and the bytes it leaves for every input there is, refusals
+// included: a refusal leaves lines and values as they were, 9 is given exactly if no earlier cause holds and every full listing has more
+// lines than are lent, and the work area is all zero unless its own length was wrong. It rests on `refusals` for the verdicts and for
+// clearing the work area, and on `enumeration` for the listing.
+//
+// What a planner has to believe is the contract of `list`, which rests on `specs/Operations`, `enumeration/specs/Written`, `refusals/specs`
+// and `terms/specs` alone. The contracts of the search below cite the theory of `matching`; no promise of `list` does.
 
 use assignments::LINE;
 use enumeration::ListAnswer;
@@ -12,13 +16,13 @@ ghost use mathlib.Core.Path.{_≡_};
 ghost use Rattle.refusals.specs.Judged.{Judged};
 ghost use Rattle.refusals.specs.Lent.{cleared};
 ghost use Rattle.matcher.specs.Operations.{lentForList, Listed, NineExactly};
-ghost use Rattle.enumeration.specs.Steps.{Listable};
+ghost use Rattle.enumeration.specs.Steps.{ListTables};
 
 // All that list is lent: 8; pattern 1, 2, 3; recipe 4 to 7.
 fn judge_list(pattern: &[u8], recipe: &[u8], lines: &[u8], values: &[u8], work: &[u8]) -> Verdict
     ensures { λ r. ⌜ Judged
         (lentForList (now (pattern .entry)) (now (recipe .entry)) (now (lines .entry)) (now (values .entry)) (now (work .entry)))
-        (Listable (now (pattern .entry)) (now (recipe .entry)) (now (lines .entry)) (now (values .entry)) (now (work .entry))) r ⌝ }
+        (ListTables (now (pattern .entry)) (now (recipe .entry)) (now (lines .entry)) (now (values .entry)) (now (work .entry))) r ⌝ }
 {
     let sides = refusals::first(
         refusals::judge_pattern(pattern),

@@ -10,8 +10,9 @@ use lib.Dec.{ltb}
 use borrow.Author.Tests.{lt-ltb, le-ltb, ne-eqb}
 use Rattle.terms.specs.Term.{Term, app, lam, loc, con, var, shift, substitute}
 use Rattle.terms.specs.Listing.{In}
+use Rattle.terms.specs.Members.{Distinct}
 use Rattle.terms.proofs.Tests.{by-ltb}
-use Rattle.terms.proofs.Members.{Distinct, one}
+use Rattle.terms.proofs.Members.{one}
 use Rattle.terms.proofs.Substitute.{by-substitute, substitute-here}
 use Rattle.terms.proofs.Table.{kind}
 use Rattle.matching.specs.Abstractions.{same, orLocal, abstractions}

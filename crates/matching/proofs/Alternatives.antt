@@ -1,7 +1,6 @@
 -- How a flexible application comes to its target, numbered so that a search can try one number after the other: the target's own parts, an
 -- argument thrown away, or the argument found first at one of the target's parts. By the rows of one step of matching, which exclude each
 -- other because the target is normal. Assumes nothing.
---   Alternative f a t i φ    the filled application of f and a comes to t in way i
 use mathlib.Core.Path.{_≡_, refl, sym, ap, _∙_, subst}
 use mathlib.Core.Bool.{not}
 use mathlib.Core.List.{List, [], _∷_}
@@ -13,20 +12,17 @@ use Rattle.terms.specs.Term.{Term, app, lam, loc, con, var, Normal, size, shift
 use Rattle.terms.specs.Sweep.{sweep, fill}
 use Rattle.terms.proofs.Shift.{unused-shift}
 use Rattle.terms.proofs.Table.{kind}
+use Rattle.matching.specs.Alternatives.{Alternative, constant}
+use Rattle.matching.specs.Goals.{Sweeps, Build, Goal, Goal.match, Goal.build, Meets, All, Suits, Listable}
+use Rattle.matching.specs.Occurrences.{FirstCopy}
 use Rattle.matching.proofs.Decide.{by-dec}
-use Rattle.matching.proofs.Step.{lam-inj, constant, constant-normal}
-use Rattle.matching.proofs.Lists.{Predicate, Under}
-use Rattle.matching.proofs.Lister.{Sweeps}
-use Rattle.matching.proofs.Prune.{Build, Choice, argument-first}
-use Rattle.matching.proofs.Goals.{Goal, Goal.match, Goal.build, Meets, All, Suits, Listable, Listing, listing-goal, listing-same}
+use Rattle.matching.proofs.Step.{lam-inj, constant-normal}
+use Rattle.matching.proofs.Lists.{Under}
+use Rattle.matching.proofs.Prune.{Choice, argument-first}
+use Rattle.matching.proofs.Goals.{Listing, listing-goal, listing-same}
 use Rattle.matching.proofs.Goals.{listing-none, listing-both}
 use Rattle.matching.proofs.Targets.{part-normal}
-use Rattle.matching.proofs.Occurrences.{First, first-of, first-one, first-same, dec-first}
-
-abbrev pub Alternative : Term → Term → Term → ℕ → Predicate
-Alternative f a t zero φ = t ≡ app (sweep (fill φ f)) (sweep (fill φ a))
-Alternative f a t (suc zero) φ = Sweeps f (constant t) φ
-Alternative f a t (suc (suc j)) φ = (e : Term) × First t j e × Sweeps a e φ × Build f t e φ
+use Rattle.matching.proofs.Occurrences.{first-of, first-one, first-same, dec-first}
 
 pub alternatives : (φ : ℕ → Term) (f a t : Term) → Normal t → Sweeps (app f a) t φ ↔ Under (Alternative f a t) (size t + 2) φ
 alternatives φ f a t h = (λ s. to (argument-first φ f a t h .0 s), λ (i, _, s). from i s)
@@ -61,7 +57,7 @@ alternatives-apart φ f a t (suc zero) (suc (suc j)) h s r = absurd (apart-const
 alternatives-apart φ f a t (suc (suc i)) zero h (e, x, _, b) r = absurd (apart-parts φ f a t (b .0) h r (b .1))
 alternatives-apart φ f a t (suc (suc i)) (suc zero) h s r = absurd (apart-constant φ f a t i r s)
 alternatives-apart φ f a t (suc (suc i)) (suc (suc j)) h (e, x, p, _) (e′, y, q, _) =
-    ap (λ n. suc (suc n)) (first-one t i j e x (subst (First t j) (sym q ∙ p) y))
+    ap (λ n. suc (suc n)) (first-one t i j e x (subst (FirstCopy t j) (sym q ∙ p) y))
 
 -- the goals that each way leaves, before the other goals
 module _ (φ : ℕ → Term) (f a : Term) (gs : List Goal) where
@@ -69,7 +65,8 @@ module _ (φ : ℕ → Term) (f a : Term) (gs : List Goal) where
   alternative-parts t u = (λ (p, r). (cc, (cc, r)), λ (p, (q, r)). (cc, r))
 
   pub alternative-argument :
-      (t : Term) (j : ℕ) (e : Term) → First t j e → (Alternative f a t (suc (suc j)) φ × All gs φ) ↔ All (match a e ∷ build f t e ∷ gs) φ
+      (t : Term) (j : ℕ) (e : Term) → FirstCopy t j e
+      → (Alternative f a t (suc (suc j)) φ × All gs φ) ↔ All (match a e ∷ build f t e ∷ gs) φ
   alternative-argument t j e x = (
     λ ((e′, y, s, b), r). let q = first-same t j e′ e y x in (s ∙ q, (subst (λ z. Build f t z φ) q b, r)),
     λ (s, (b, r)). ((e, x, s, b), r),
@@ -87,7 +84,7 @@ module _ (n : ℕ) (S : ℕ → Type 0) where
   listable-constant f a t (s, h) = (suits-app f a s .0, constant-normal t h)
 
   pub listable-argument :
-      (f a t : Term) (j : ℕ) (e : Term) → First t j e → Listable n S (match (app f a) t)
+      (f a t : Term) (j : ℕ) (e : Term) → FirstCopy t j e → Listable n S (match (app f a) t)
       → Listable n S (match a e) × Listable n S (build f t e)
   listable-argument f a t j e x (s, h) = let (sf, sa) = suits-app f a s in ((sa, part-normal t j e (x .within) (x .copy) h), (sf, h))
 
@@ -96,7 +93,7 @@ module _ (φ : ℕ → Term) (f a t : Term) where
   pub alternative-no-parts : ¬ (kind t ≡ 0) → ¬ Alternative f a t 0 φ
   alternative-no-parts n p = n (ap kind p)
 
-  pub alternative-no-argument : (j : ℕ) → ((e : Term) → ¬ First t j e) → ¬ Alternative f a t (suc (suc j)) φ
+  pub alternative-no-argument : (j : ℕ) → ((e : Term) → ¬ FirstCopy t j e) → ¬ Alternative f a t (suc (suc j)) φ
   alternative-no-argument j n s = n (s .0) (s .1)
 
 -- there are lines for each way

@@ -1,10 +1,6 @@
 -- The bodies that come to a target with an argument put in, one for each choice at each copy of the argument. By induction on the target:
 -- at a copy the local stands or the copy stays, and elsewhere the body has the target's form. Assumes nothing.
---   copies e d t         the outermost copies of e in t, where d binders stand above t
---   body e d t c k       t with a copy replaced by local d where c says so, the copies numbered from k in table order
---   Leaf t               t has no part but itself
---   Some c k n           one of the n choices from k on is to replace
---   Chosen f t e c k φ   the head f sweeps to an abstraction over such a body that uses its local, the first k choices being those of c
+--   Leaf t   t has no part but itself
 use mathlib.Core.Path.{_≡_, refl, sym, ap, ap₂, _∙_, subst}
 use mathlib.Core.Bool.{Bool, true, false, cond, _||_}
 use mathlib.Core.Logic.{_⊎_, inl, inr, ⊎-elim, _↔_}
@@ -21,36 +17,13 @@ use Rattle.terms.proofs.Shift.{shift-unshift, unused-shift, size-shift}
 use Rattle.terms.proofs.Substitute.{by-substitute, substitute-here, substitute-unused, substitute-shift, normal-substitute, size-pos}
 use Rattle.terms.proofs.Substitute.{size-used}
 use Rattle.terms.proofs.Contracted.{contracted-sweep}
+use Rattle.matching.specs.Bodies.{ChosenSoFar, copies, choose, body, Some, Family, either}
 use Rattle.matching.specs.Abstractions.{same}
-use Rattle.matching.proofs.Decide.{by-dec, either, either-no}
+use Rattle.matching.specs.Goals.{Sweeps, Build}
+use Rattle.matching.proofs.Decide.{by-dec, either-no}
 use Rattle.matching.proofs.Step.{lam-inj, lam-normal-of}
-use Rattle.matching.proofs.Lists.{Predicate}
-use Rattle.matching.proofs.Lister.{Sweeps}
-use Rattle.matching.proofs.Prune.{Build, replaceAll, replaceAll-here}
+use Rattle.matching.proofs.Prune.{replaceAll, replaceAll-here}
 use Rattle.matching.proofs.Targets.{closed-shift, ground-shift}
-
-abbrev pub copies : Term → ℕ → Term → ℕ
-copies e d (app f a) = either (same (app f a) (shift d 0 e)) 1 (copies e d f + copies e d a)
-copies e d (lam b) = either (same (lam b) (shift d 0 e)) 1 (copies e (suc d) b)
-copies e d (loc n) = either (same (loc n) (shift d 0 e)) 1 0
-copies e d (con n) = either (same (con n) (shift d 0 e)) 1 0
-copies e d (var n) = either (same (var n) (shift d 0 e)) 1 0
-
--- the choice at a copy
-abbrev pub choose : Bool → ℕ → Term → Term
-choose b d t = cond b (loc d) (shift 1 d t)
-
--- a body for each choice, and each number of the first copy
-abbrev pub Family : Type 0
-Family = (ℕ → Bool) → ℕ → Term
-
-abbrev pub body : Term → ℕ → Term → Family
-body e d (app f a) c k =
-    either (same (app f a) (shift d 0 e)) (choose (c k) d (app f a)) (app (body e d f c k) (body e d a c (k + copies e d f)))
-body e d (lam b) c k = either (same (lam b) (shift d 0 e)) (choose (c k) d (lam b)) (lam (body e (suc d) b c k))
-body e d (loc n) c k = either (same (loc n) (shift d 0 e)) (choose (c k) d (loc n)) (shift 1 d (loc n))
-body e d (con n) c k = either (same (con n) (shift d 0 e)) (choose (c k) d (con n)) (con n)
-body e d (var n) c k = either (same (var n) (shift d 0 e)) (choose (c k) d (var n)) (var n)
 
 -- the terms with no part but themselves
 abbrev pub Leaf : Term → Type 0
@@ -170,10 +143,6 @@ body-choice e =
     (λ d f a m n x y _ hf ha c c′ k q i l u. by-dec (λ _. c i ≡ c′ i) (decLt i (k + m)) (λ v. hf c c′ k (cc) i l v)
     (λ v. ha c c′ (k + m) (cc) i (omega arith) (omega arith)))
     (λ d b n x _ hb c c′ k q i l u. hb c c′ k (cc) i l u) (λ d t _ _ c c′ k q i l u. absurd (omega arith))
-
--- the local is used where some copy is chosen
-abbrev pub Some : (ℕ → Bool) → ℕ → ℕ → Type 0
-Some c k n = (i : ℕ) × (k ≤ i) × (i < k + n) × (c i ≡ true)
 
 body-used : (e : Term) (d : ℕ) (t : Term) (c : ℕ → Bool) (k : ℕ) → uses d (body e d t c k) ≡ true → Some c k (copies e d t)
 body-used e =
@@ -344,13 +313,8 @@ body-eta φ f e t c h p s =
     let n = lam-normal-of (body e 0 t c 0) e t h (rw s at (contracted-sweep (fill φ f))) (body-substitute e 0 t c 0) in
     rw p at (n .0)
 
--- the choices made so far, the others left open
-abbrev pub Chosen : Term → Term → Term → (ℕ → Bool) → ℕ → Predicate
-Chosen f t e c k φ =
-    (b : Term) × Sweeps f (lam b) φ × (uses 0 b ≡ true) × (x : ℕ → Bool) × ((i : ℕ) → i < k → x i ≡ c i) × (b ≡ body e 0 t x 0)
-
 -- none is made
-pub chosen-none : (φ : ℕ → Term) (f t e : Term) (c : ℕ → Bool) → Build f t e φ ↔ Chosen f t e c 0 φ
+pub chosen-none : (φ : ℕ → Term) (f t e : Term) (c : ℕ → Bool) → Build f t e φ ↔ ChosenSoFar f t e c 0 φ
 chosen-none φ f t e c = (
   λ x. let r = body-of e 0 (x .0) t 0 (x .2) in (x .0, x .1, x .3, r .0, λ i h. absurd (omega arith), r .1),
   λ x. (x .0, x .1, ap (substitute 0 e) (x .5) ∙ body-substitute e 0 t (x .3) 0, x .2),
@@ -366,18 +330,18 @@ module _ (φ : ℕ → Term) (f t e : Term) (c c₀ c₁ : ℕ → Bool) (k : �
       by-dec (λ _. x i ≡ y i) (decLt i k) (λ m. g i m ∙ sym (h i m)) (λ m. let q : k ≡ i = omega arith in subst (λ j. x j ≡ y j) q p)
 
   module _ (a₀ : Agree c₀) (a₁ : Agree c₁) (h₀ : c₀ k ≡ false) (h₁ : c₁ k ≡ true) where
-    pub chosen-next : Chosen f t e c k φ ↔ (Chosen f t e c₀ (suc k) φ ⊎ Chosen f t e c₁ (suc k) φ)
+    pub chosen-next : ChosenSoFar f t e c k φ ↔ (ChosenSoFar f t e c₀ (suc k) φ ⊎ ChosenSoFar f t e c₁ (suc k) φ)
     chosen-next = (λ s. to s (s .3 k) refl, ⊎-elim (back c₀ a₀) (back c₁ a₁))
       where
-        to : (s : Chosen f t e c k φ) (b : Bool) → s .3 k ≡ b → Chosen f t e c₀ (suc k) φ ⊎ Chosen f t e c₁ (suc k) φ
+        to : (s : ChosenSoFar f t e c k φ) (b : Bool) → s .3 k ≡ b → ChosenSoFar f t e c₀ (suc k) φ ⊎ ChosenSoFar f t e c₁ (suc k) φ
         to s true p = inr (s .0, s .1, s .2, s .3, agree-next (s .3) c₁ (s .4) a₁ (p ∙ sym h₁), s .5)
         to s false p = inl (s .0, s .1, s .2, s .3, agree-next (s .3) c₀ (s .4) a₀ (p ∙ sym h₀), s .5)
 
-        back : (y : ℕ → Bool) → Agree y → Chosen f t e y (suc k) φ → Chosen f t e c k φ
+        back : (y : ℕ → Bool) → Agree y → ChosenSoFar f t e y (suc k) φ → ChosenSoFar f t e c k φ
         back y a s = (s .0, s .1, s .2, s .3, λ i l. s .4 i (omega arith) ∙ a i l, s .5)
 
     -- and at a copy not both ways
-    pub chosen-apart : k < copies e 0 t → Chosen f t e c₀ (suc k) φ → Chosen f t e c₁ (suc k) φ → ⊥
+    pub chosen-apart : k < copies e 0 t → ChosenSoFar f t e c₀ (suc k) φ → ChosenSoFar f t e c₁ (suc k) φ → ⊥
     chosen-apart l s r =
         let b : s .0 ≡ r .0 = lam-inj (s .0) (r .0) (sym (s .1) ∙ r .1) in
         let q = body-choice e 0 t (s .3) (r .3) 0 (sym (s .5) ∙ b ∙ r .5) k (omega arith) (omega arith) in
@@ -386,7 +350,7 @@ module _ (φ : ℕ → Term) (f t e : Term) (c c₀ c₁ : ℕ → Bool) (k : �
 -- all are made
 pub chosen-all :
     (φ : ℕ → Term) (f t e : Term) (c : ℕ → Bool) (k : ℕ) → copies e 0 t ≤ k
-    → Chosen f t e c k φ ↔ (Sweeps f (lam (body e 0 t c 0)) φ × (uses 0 (body e 0 t c 0) ≡ true))
+    → ChosenSoFar f t e c k φ ↔ (Sweeps f (lam (body e 0 t c 0)) φ × (uses 0 (body e 0 t c 0) ≡ true))
 chosen-all φ f t e c k l = (
   λ s.
       let q : s .0 ≡ body e 0 t c 0 = s .5 ∙ body-same e 0 t (s .3) c 0 (λ i _ u. s .4 i (omega arith)) in

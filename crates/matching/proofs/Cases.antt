@@ -15,9 +15,9 @@ use Rattle.terms.specs.Sweep.{sweep, fill}
 use Rattle.terms.specs.Assignment.{Assignment, entry, values, Assigned, Assigns, Entries, Complete}
 use Rattle.terms.specs.Listing.{In, Full}
 use Rattle.matching.specs.Abstractions.{same}
-use Rattle.matching.specs.Cases.{Case, Case.lists, Case.rejects, Case.sweeps, Case.reducible, Holds, cases}
+use Rattle.matching.specs.Cases.{Case, Case.lists, Case.rejects, Case.sweeps, Case.reducible, CaseHolds, cases}
 use Rattle.matching.proofs.Decide.{dec-×, normal?, value?}
-use Rattle.matching.proofs.Listing.{listing, full}
+use Rattle.matching.proofs.Listing.{fullListing, full}
 
 -- decisions
 abbrev dec-map : {A B : Type 0} → (A → B) → (B → A) → Dec A → Dec B
@@ -91,19 +91,19 @@ complete-of a (var k) h i o = rw o (filled-is (entry a k) h)
 
 -- a row's test over n variables: what computes, and the claim that it gives
 abbrev Test : ℕ → Case → Type 0
-Test n (lists p t ls) = (Below n p × Normal t) × (listing n p t ≡ ls)
+Test n (lists p t ls) = (Below n p × Normal t) × (fullListing n p t ≡ ls)
 Test n (rejects p t a) = Entries n a × (FilledIn a p × ¬ (sweep (fill (values a) p) ≡ t))
 Test n (sweeps t s) = sweep t ≡ s
 Test n (reducible t) = ¬ Normal t
 
 abbrev test? : (n : ℕ) (c : Case) → Dec (Test n c)
-test? n (lists p t ls) = dec-× (dec-× (below? n p) (normal? t)) (same-list (same-list same-option) (listing n p t) ls)
+test? n (lists p t ls) = dec-× (dec-× (below? n p) (normal? t)) (same-list (same-list same-option) (fullListing n p t) ls)
 test? n (rejects p t a) =
     dec-× (dec-× (ℕ-discrete (length a) n) (assigns? a)) (dec-× (filledIn? a p) (dec-¬ (same (sweep (fill (values a) p)) t)))
 test? n (sweeps t s) = same (sweep t) s
 test? n (reducible t) = dec-¬ (normal? t)
 
-test-holds : (n : ℕ) (c : Case) → Test n c → Holds n c
+test-holds : (n : ℕ) (c : Case) → Test n c → CaseHolds n c
 test-holds n (lists p t ls) h = subst (Full n p t) (h .1) (full n p t (h .0 .0) (h .0 .1))
 test-holds n (rejects p t a) h = (h .0, complete-of a p (h .1 .0), λ m. h .1 .1 (m .2))
 test-holds n (sweeps t s) h = h
@@ -126,11 +126,11 @@ proof : {A : Type 0} (o : Dec A) → T (decided o) → A
 proof (yes a) h = a
 proof (no a) h = absurd h
 
-tests-hold : (n : ℕ) (cs : List Case) → Tests n cs → (c : Case) → In c cs → Holds n c
-tests-hold n (c ∷ cs) h d (inl p) = subst (Holds n) (sym p) (test-holds n c (h .0))
+tests-hold : (n : ℕ) (cs : List Case) → Tests n cs → (c : Case) → In c cs → CaseHolds n c
+tests-hold n (c ∷ cs) h d (inl p) = subst (CaseHolds n) (sym p) (test-holds n c (h .0))
 tests-hold n (c ∷ cs) h d (inr i) = tests-hold n cs (h .1) d i
 
-computed-hold : (n : ℕ) → decided (tests? n (cases n)) ≡ true → (c : Case) → In c (cases n) → Holds n c
+computed-hold : (n : ℕ) → decided (tests? n (cases n)) ≡ true → (c : Case) → In c (cases n) → CaseHolds n c
 computed-hold n e c i = tests-hold n (cases n) (proof (tests? n (cases n)) (subst T (sym e) tt)) c i
 
 computed-eight : decided (tests? 8 (cases 8)) ≡ true
@@ -141,8 +141,8 @@ computed-sixteen : decided (tests? 16 (cases 16)) ≡ true
 unfolding ℕ-discrete decLt
 computed-sixteen = refl
 
-pub cases-hold : (c : Case) → In c (cases variables) → Holds variables c
+pub cases-hold : (c : Case) → In c (cases variables) → CaseHolds variables c
 cases-hold c i = computed-hold variables computed-eight c i
 
-pub cases-sixteen : (c : Case) → In c (cases 16) → Holds 16 c
+pub cases-sixteen : (c : Case) → In c (cases 16) → CaseHolds 16 c
 cases-sixteen c i = computed-hold 16 computed-sixteen c i

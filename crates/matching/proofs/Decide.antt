@@ -1,12 +1,12 @@
 -- It is decided which terms are normal and which are values, and what is chosen by a decision. By recursion on the term, and by cases on
 -- the decision. Assumes nothing.
---   either o x y    x where o decides that it holds, and y where it does not
 use mathlib.Core.Path.{_≡_, refl}
 use mathlib.Core.Bool.{Bool, true, false, not}
 use Prim.Native.Nat.{ℕ, suc}
 use native.Mathlib.Decide.{decLt}
 use lib.Dec.{T}
 use Rattle.terms.specs.Term.{Term, app, lam, loc, con, var, redex, Normal, Closed, Ground, Value}
+use Rattle.matching.specs.Bodies.{either}
 
 abbrev pub dec-T : (b : Bool) → Dec (T b)
 dec-T true = yes tt
@@ -54,10 +54,6 @@ module _ {A : Type 0} where
   by-dec P (no a) y n = n a
 
   module _ {B : Type 0} where
-    abbrev pub either : Dec A → B → B → B
-    either (yes p) x y = x
-    either (no p) x y = y
-
     pub either-yes : (o : Dec A) (x y : B) → A → either o x y ≡ x
     either-yes (yes p) x y h = refl
     either-yes (no p) x y h = absurd (p h)

@@ -1,50 +1,27 @@
 -- The goals of a search, and that lines which list their assignments exist, whatever a search has done of them. A goal that builds a head
 -- is one of several matches, one for each body; goals are met together. Assumes nothing.
---   Goal              a part has to sweep to a target; or a head to an abstraction that comes to a target with an argument put in
---   Meets g φ         φ satisfies the goal g
---   All gs φ          φ satisfies each goal of gs
 --   Searches gs l φ   φ satisfies the goals gs and extends the line l
---   Suits n S p       the variables of p are below n and in S
---   Listable n S g    the goal's variables are below n and in S, and its target is normal
 use mathlib.Core.Path.{_≡_, refl, sym, _∙_}
 use mathlib.Core.List.{List, [], _∷_, _++_}
 use mathlib.Core.Logic.{_⊎_, inl, inr, _↔_}
 use Prim.Native.Nat.{ℕ}
 use lib.ListN.{length}
-use Rattle.terms.specs.Term.{Term, lam, Normal, Below, Occurs}
+use Rattle.terms.specs.Term.{Term, lam, Normal, Occurs}
 use Rattle.terms.specs.Sweep.{fill}
 use Rattle.terms.specs.Assignment.{Assigns}
 use Rattle.terms.specs.Listing.{In, Line}
 use Rattle.terms.proofs.Contracted.{contracted-sweep}
+use Rattle.matching.specs.Goals.{Goal, Meets, All, Suits, Listable, Goal.match, Goal.build, Sweeps, Build}
+use Rattle.matching.specs.Lists.{Values, Extends, Predicate, Lists}
 use Rattle.matching.proofs.Members.{flatMap}
 use Rattle.matching.proofs.Step.{lam-inj, lam-normal-of}
 use Rattle.matching.proofs.Splits.{buildable, buildable-in, in-buildable, buildable-distinct}
-use Rattle.matching.proofs.Lines.{Values, Extends, blank, length-blank, extends-blank, assigns-blank}
-use Rattle.matching.proofs.Lists.{Predicate, Lists, lists-same, lists-more, lists-none, lists-one, lists-or, lists-some, lists-and}
-use Rattle.matching.proofs.Lister.{Sweeps, solve, lists-solve}
-use Rattle.matching.proofs.Prune.{Build}
-
-pub data Goal : Type 0 where
-  match : Term → Term → Goal
-  build : Term → Term → Term → Goal
-
-abbrev pub Meets : Goal → Predicate
-Meets (match p t) φ = Sweeps p t φ
-Meets (build f t e) φ = Build f t e φ
-
-abbrev pub All : List Goal → Predicate
-All [] φ = Unit {0}
-All (g ∷ gs) φ = Meets g φ × All gs φ
+use Rattle.matching.proofs.Lines.{openLine, length-blank, extends-blank, assigns-blank}
+use Rattle.matching.proofs.Lists.{lists-same, lists-more, lists-none, lists-one, lists-or, lists-some, lists-and}
+use Rattle.matching.proofs.Lister.{solve, lists-solve}
 
 abbrev pub Searches : List Goal → Line → Predicate
 Searches gs l φ = All gs φ × Extends φ l
-
-abbrev pub Suits : ℕ → (ℕ → Type 0) → Term → Type 0
-Suits n S p = Below n p × ((i : ℕ) → Occurs i p → S i)
-
-abbrev pub Listable : ℕ → (ℕ → Type 0) → Goal → Type 0
-Listable n S (match p t) = Suits n S p × Normal t
-Listable n S (build f t e) = Suits n S f × Normal t
 
 module _ (n : ℕ) (S : ℕ → Type 0) where
   lists-match : (p t : Term) → Suits n S p → Normal t → Lists n S (Sweeps p t) (solve n p t)
@@ -96,7 +73,7 @@ module _ (n : ℕ) (S : ℕ → Type 0) where
 
   pub listing-goals : (gs : List Goal) → ((g : Goal) → In g gs → Listable n S g) → Listing (All gs)
   listing-goals [] x = record {
-    lines = blank n ∷ [];
-    lists = lists-one n S (λ φ. Unit {0}) (blank n) (length-blank n) (assigns-blank S n) (λ φ v. (λ _. extends-blank φ n, λ _. tt));
+    lines = openLine n ∷ [];
+    lists = lists-one n S (λ φ. Unit {0}) (openLine n) (length-blank n) (assigns-blank S n) (λ φ v. (λ _. extends-blank φ n, λ _. tt));
   }
   listing-goals (g ∷ gs) x = listing-both (Meets g) (All gs) (listing-goal g (x g (inl refl))) (listing-goals gs (λ h i. x h (inr i)))

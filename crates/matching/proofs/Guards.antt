@@ -1,9 +1,6 @@
 -- A local that stands only as the argument of a constant, or of what a constant was applied to before: the sweep leaves each such
 -- application as it is, so that what is put for the local never meets an argument of its own. By induction on the term. Assumes nothing.
---   constantHead t   the first record of t that is no application is a constant
---   isLocal k t      t is local k
---   guarded k t      each use of local k in t is the argument of an application whose head begins with a constant
---   Guarded k t      the same, as a type
+--   Guarded k t   the same, as a type
 use mathlib.Core.Path.{_≡_, refl, sym, ap, _∙_, subst}
 use mathlib.Core.Bool.{Bool, true, false, not, cond, _&&_}
 use mathlib.Core.Logic.{_⊎_, inl, inr, ⊎-elim}
@@ -17,28 +14,8 @@ use Rattle.terms.proofs.Tests.{by-ltb, or-false}
 use Rattle.terms.proofs.Substitute.{by-substitute, substitute-high}
 use Rattle.terms.proofs.Sweep.{contract-app}
 use Rattle.terms.proofs.Contracted.{Abstracted, Abstracted.out, Abstracted.kept, abstracted}
-use Rattle.matching.proofs.Lines.{Values}
-
-abbrev pub constantHead : Term → Bool
-constantHead (app f a) = constantHead f
-constantHead (lam b) = false
-constantHead (loc n) = false
-constantHead (con n) = true
-constantHead (var n) = false
-
-abbrev pub isLocal : ℕ → Term → Bool
-isLocal k (app f a) = false
-isLocal k (lam b) = false
-isLocal k (loc n) = eqb n k
-isLocal k (con n) = false
-isLocal k (var n) = false
-
-abbrev pub guarded : ℕ → Term → Bool
-guarded k (app f a) = guarded k f && cond (isLocal k a) (constantHead f) (guarded k a)
-guarded k (lam b) = guarded (suc k) b
-guarded k (loc n) = not (eqb n k)
-guarded k (con n) = true
-guarded k (var n) = true
+use Rattle.matching.specs.Reducts.{constantHead, isLocal, guarded}
+use Rattle.matching.specs.Lists.{Values}
 
 abbrev pub Guarded : ℕ → Term → Type 0
 Guarded k (app f a) = Guarded k f × (((a ≡ loc k) × (constantHead f ≡ true)) ⊎ Guarded k a)

@@ -4,7 +4,7 @@ use mathlib.Core.List.{List}
 use Prim.Native.Nat.{ℕ}
 use Rattle.terms.specs.Term.{Term, Normal, Below}
 use Rattle.terms.specs.Listing.{Line, Full}
-use Rattle.matching.proofs.Listing.{listing, full, unique}
+use Rattle.matching.proofs.Listing.{fullListing, full, unique}
 
 pub record Promised (n : ℕ) (p t : Term) : Type 0 where
   pub lines : List Line
@@ -13,9 +13,9 @@ pub record Promised (n : ℕ) (p t : Term) : Type 0 where
 
 pub promised : (n : ℕ) (p t : Term) → Below n p → Normal t → Promised n p t
 promised n p t b h = record {
-  lines = listing n p t;
+  lines = fullListing n p t;
   is = full n p t b h;
-  only = λ ls x. unique n p t b ls (listing n p t) x (full n p t b h);
+  only = λ ls x. unique n p t b ls (fullListing n p t) x (full n p t b h);
 }
 
 pub promised-eight : (p t : Term) → Below 8 p → Normal t → Promised 8 p t

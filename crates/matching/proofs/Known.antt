@@ -6,7 +6,7 @@ use mathlib.Core.Logic.{_↔_}
 use Prim.Native.Nat.{ℕ}
 use Rattle.terms.specs.Term.{Term, lam, substitute, uses}
 use Rattle.terms.specs.Sweep.{sweep, fill}
-use Rattle.matching.proofs.Goals.{Goal.match, Goal.build, Meets}
+use Rattle.matching.specs.Goals.{Goal.match, Goal.build, Meets}
 
 module _ (φ : ℕ → Term) (p x : Term) (q : sweep (fill φ p) ≡ x) where
   pub known-match : (t : Term) → Meets (match p t) φ ↔ (x ≡ t)

@@ -20,7 +20,7 @@ pub mod Alternatives
 pub mod Tables
 pub mod Cases
 pub mod Guards
-pub mod Contraction
+pub mod Reducts
 pub mod Repeated
 pub mod Known
 pub mod Skeletons

@@ -1,11 +1,9 @@
 -- Lines and the total assignments that extend them: the line that assigns nothing, one entry set, and what two lines assign together.
 -- Entry by entry, by induction on the lines. Assumes nothing.
---   Values φ        each φ i is a value
---   Extends φ l     the total assignment φ has the value of each entry that l assigns
---   blank n         the line of n open entries
---   joins l m       the line that assigns what l or m does, if they don't contradict
---   merge ls ms     the joins of a line of ls and a line of ms
---   Each P l        P holds of each value of l
+--   openLine n    the line of n open entries
+--   joins l m     the line that assigns what l or m does, if they don't contradict
+--   merge ls ms   the joins of a line of ls and a line of ms
+--   Each P l      P holds of each value of l
 use mathlib.Core.Path.{_≡_, refl, sym, ap, ap₂, _∙_, subst}
 use mathlib.Core.Option.{Option, none, some}
 use mathlib.Core.List.{List, [], _∷_}
@@ -16,38 +14,29 @@ use lib.ListN.{length, replicate, set, length-replicate}
 use Rattle.terms.specs.Term.{Term, Value}
 use Rattle.terms.specs.Assignment.{entry, Assigned, Assigns}
 use Rattle.terms.specs.Listing.{In, Line}
-use Rattle.terms.proofs.Members.{Distinct, one}
+use Rattle.terms.specs.Members.{Distinct}
+use Rattle.terms.proofs.Members.{one}
+use Rattle.matching.specs.Lists.{Extends, ExtendsAt}
 use Rattle.matching.specs.Abstractions.{same, pairs}
 use Rattle.matching.proofs.Members.{guard, flatMap, in-guard, guard-in, distinct-guard, in-pairs, pairs-in, distinct-pairs}
 use Rattle.matching.proofs.Members.{in-flatMap, flatMap-in}
 
-abbrev pub Values : (ℕ → Term) → Type 0
-Values φ = (i : ℕ) → Value (φ i)
-
-abbrev pub ExtendsAt : Term → Option Term → Type 0
-ExtendsAt v none = Unit {0}
-ExtendsAt v (some w) = v ≡ w
-
-abbrev pub Extends : (ℕ → Term) → Line → Type 0
-Extends φ [] = Unit {0}
-Extends φ (o ∷ l) = ExtendsAt (φ 0) o × Extends (λ i. φ (suc i)) l
-
-abbrev pub blank : ℕ → Line
-blank n = replicate n none
+abbrev pub openLine : ℕ → Line
+openLine n = replicate n none
 
 -- no entry
-pub length-blank : (n : ℕ) → length (blank n) ≡ n
+pub length-blank : (n : ℕ) → length (openLine n) ≡ n
 length-blank n = length-replicate n none
 
-pub extends-blank : (φ : ℕ → Term) (n : ℕ) → Extends φ (blank n)
+pub extends-blank : (φ : ℕ → Term) (n : ℕ) → Extends φ (openLine n)
 extends-blank φ zero = tt
 extends-blank φ (suc n) = (tt, extends-blank (λ i. φ (suc i)) n)
 
-pub assigns-blank : (S : ℕ → Type 0) (n : ℕ) → Assigns S (blank n)
+pub assigns-blank : (S : ℕ → Type 0) (n : ℕ) → Assigns S (openLine n)
 assigns-blank S zero = tt
 assigns-blank S (suc n) = (tt, assigns-blank (λ i. S (suc i)) n)
 
-pub blank-open : (n i : ℕ) → entry (blank n) i ≡ none
+pub blank-open : (n i : ℕ) → entry (openLine n) i ≡ none
 blank-open zero i = refl
 blank-open (suc n) zero = refl
 blank-open (suc n) (suc i) = blank-open n i
@@ -217,7 +206,7 @@ Each P l = Entrywise (λ i. held P) l
 pub each-joins : (P : Term → Type 0) (l m k : Line) → In k (joins l m) → Each P l → Each P m → Each P k
 each-joins P l m k p g h = joins-keeps (λ i. held P) l m k p g h
 
-pub each-blank : (P : Term → Type 0) (n : ℕ) → Each P (blank n)
+pub each-blank : (P : Term → Type 0) (n : ℕ) → Each P (openLine n)
 each-blank P zero = tt
 each-blank P (suc n) = (tt, each-blank P n)
 

@@ -1,7 +1,6 @@
 -- A lister, as plain as can be, by recursion on the pattern, and that its lines list the matches. Each clause is one row of one step of
 -- matching, and one law of lines that list a predicate. Assumes nothing.
---   Sweeps p t φ    the pattern p, filled by φ, sweeps to t
---   solve n p t     the lines of the pattern p and the target t, over n variables
+--   solve n p t   the lines of the pattern p and the target t, over n variables
 use mathlib.Core.Path.{_≡_, refl, sym, _∙_, subst}
 use mathlib.Core.Option.{some}
 use mathlib.Core.List.{List, [], _∷_, _++_}
@@ -12,25 +11,25 @@ use lib.ListN.{set, length-set}
 use Rattle.terms.specs.Term.{Term, app, lam, loc, con, var, Normal, Value, Occurs, Below}
 use Rattle.terms.specs.Sweep.{sweep, fill}
 use Rattle.terms.specs.Listing.{In, Line}
+use Rattle.matching.specs.Goals.{Sweeps}
 use Rattle.matching.specs.Abstractions.{same}
+use Rattle.matching.specs.Alternatives.{constant}
+use Rattle.matching.specs.Lists.{Values, Predicate, Lists}
 use Rattle.matching.proofs.Decide.{value?}
 use Rattle.matching.proofs.Members.{guard, flatMap}
-use Rattle.matching.proofs.Step.{Split, bodyTarget, constant, match-variable, match-abstraction, match-application}
+use Rattle.matching.proofs.Step.{Split, bodyTarget, match-variable, match-abstraction, match-application}
 use Rattle.matching.proofs.Step.{bodyTarget-normal, head-normal, argument-normal, constant-normal, split-constant}
 use Rattle.matching.proofs.Splits.{splits, splits-in, in-splits, splits-distinct}
-use Rattle.matching.proofs.Lines.{Values, blank, merge, length-blank, extends-blank, assigns-blank, blank-open, extends-set}
+use Rattle.matching.proofs.Lines.{openLine, merge, length-blank, extends-blank, assigns-blank, blank-open, extends-set}
 use Rattle.matching.proofs.Lines.{assigns-set}
-use Rattle.matching.proofs.Lists.{Predicate, Lists, lists-same, lists-more, lists-none, lists-one, lists-or, lists-some, lists-and}
-
-abbrev pub Sweeps : Term → Term → Predicate
-Sweeps p t φ = sweep (fill φ p) ≡ t
+use Rattle.matching.proofs.Lists.{lists-same, lists-more, lists-none, lists-one, lists-or, lists-some, lists-and}
 
 abbrev pub solve : ℕ → Term → Term → List Line
 solve n (app f a) t = flatMap (λ q. merge (solve n f (q .0)) (solve n a (q .1))) (splits t) ++ solve n f (constant t)
 solve n (lam p) t = solve n p (bodyTarget t)
-solve n (loc k) t = guard (same t (loc k)) (blank n)
-solve n (con k) t = guard (same t (con k)) (blank n)
-solve n (var i) t = guard (value? t) (set (blank n) i (some t))
+solve n (loc k) t = guard (same t (loc k)) (openLine n)
+solve n (con k) t = guard (same t (con k)) (openLine n)
+solve n (var i) t = guard (value? t) (set (openLine n) i (some t))
 
 -- a line where it is decided that A holds
 module _ (n : ℕ) (S : ℕ → Type 0) (A : Type 0) (Q : Predicate) where
@@ -40,20 +39,20 @@ module _ (n : ℕ) (S : ℕ → Type 0) (A : Type 0) (Q : Predicate) where
 
 -- a leaf that sweeps to itself
 lists-leaf : (n : ℕ) (S : ℕ → Type 0) (p t : Term) → ((φ : ℕ → Term) → sweep (fill φ p) ≡ p)
-    → Lists n S (Sweeps p t) (guard (same t p) (blank n))
+    → Lists n S (Sweeps p t) (guard (same t p) (openLine n))
 lists-leaf n S p t f =
-    lists-guard n S (t ≡ p) (Sweeps p t) (same t p) (blank n)
-    (λ e. lists-one n S (Sweeps p t) (blank n) (length-blank n) (assigns-blank S n) (λ φ v. (λ _. extends-blank φ n, λ _. f φ ∙ sym e)))
+    lists-guard n S (t ≡ p) (Sweeps p t) (same t p) (openLine n)
+    (λ e. lists-one n S (Sweeps p t) (openLine n) (length-blank n) (assigns-blank S n) (λ φ v. (λ _. extends-blank φ n, λ _. f φ ∙ sym e)))
     (λ ne φ v s. ne (sym s ∙ f φ))
 
-lists-variable : (n i : ℕ) (t : Term) → i < n → Lists n (λ j. j ≡ i) (Sweeps (var i) t) (guard (value? t) (set (blank n) i (some t)))
+lists-variable : (n i : ℕ) (t : Term) → i < n → Lists n (λ j. j ≡ i) (Sweeps (var i) t) (guard (value? t) (set (openLine n) i (some t)))
 lists-variable n i t h =
-    lists-guard n (λ j. j ≡ i) (Value t) (Sweeps (var i) t) (value? t) (set (blank n) i (some t))
-    (λ w. lists-one n (λ j. j ≡ i) (Sweeps (var i) t) (set (blank n) i (some t)) (length-set (blank n) i (some t) ∙ length-blank n)
-    (assigns-set (λ j. j ≡ i) (blank n) i t refl w (assigns-blank (λ j. j ≡ i) n))
+    lists-guard n (λ j. j ≡ i) (Value t) (Sweeps (var i) t) (value? t) (set (openLine n) i (some t))
+    (λ w. lists-one n (λ j. j ≡ i) (Sweeps (var i) t) (set (openLine n) i (some t)) (length-set (openLine n) i (some t) ∙ length-blank n)
+    (assigns-set (λ j. j ≡ i) (openLine n) i t refl w (assigns-blank (λ j. j ≡ i) n))
     (λ φ v.
     let m = match-variable φ i t (v i) in
-    let x = extends-set φ (blank n) i t (omega (arith, length-blank n)) (blank-open n i) in
+    let x = extends-set φ (openLine n) i t (omega (arith, length-blank n)) (blank-open n i) in
     (λ s. x .1 (m .0 s, extends-blank φ n), λ g. m .1 (x .0 g .0))))
     (λ nv φ v s. nv (subst Value (match-variable φ i t (v i) .0 s) (v i)))
 

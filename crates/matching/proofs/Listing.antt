@@ -1,6 +1,6 @@
 -- There is a full listing, and only one; and what a program that searches has to show. The lister's lines, sorted, are one; any other has
 -- the same members and rises too. Assumes nothing.
---   listing n p t   the lister's lines, sorted
+--   fullListing n p t   the lister's lines, sorted
 use mathlib.Core.Path.{_≡_, ap}
 use mathlib.Core.List.{List}
 use mathlib.Core.Logic.{_↔_}
@@ -9,10 +9,11 @@ use native.Mathlib.Omega.{arith}
 use lib.ListN.{length}
 use Rattle.terms.specs.Term.{Term, Normal, Occurs, Below}
 use Rattle.terms.specs.Listing.{In, Line, Full}
-use Rattle.terms.proofs.Members.{Distinct}
+use Rattle.terms.specs.Members.{Distinct}
 use Rattle.terms.proofs.Order.{sort, rising-sort, sort-in, in-sort, rising-same, found-length, sort-distinct}
-use Rattle.matching.proofs.Lists.{Predicate, Lists}
-use Rattle.matching.proofs.Lister.{Sweeps, solve, lists-solve}
+use Rattle.matching.specs.Lists.{Predicate, Lists}
+use Rattle.matching.specs.Goals.{Sweeps}
+use Rattle.matching.proofs.Lister.{solve, lists-solve}
 use Rattle.matching.proofs.Partial.{full-lists, lists-full}
 use Rattle.matching.proofs.Unique.{lists-members, lists-length}
 
@@ -29,8 +30,8 @@ lists-members-same n S Q ls ms d e x = record {
   distinct = d;
 }
 
-abbrev pub listing : ℕ → Term → Term → List Line
-listing n p t = sort (solve n p t)
+abbrev pub fullListing : ℕ → Term → Term → List Line
+fullListing n p t = sort (solve n p t)
 
 module _ (n : ℕ) (p t : Term) (b : Below n p) where
   abbrev S : ℕ → Type 0
@@ -58,7 +59,7 @@ module _ (n : ℕ) (p t : Term) (b : Below n p) where
   more-lines k ls x h ms y = omega (arith, ap length (unique ls ms x y))
 
   module _ (h : Normal t) where
-    pub full : Full n p t (listing n p t)
+    pub full : Full n p t (fullListing n p t)
     full = full-sort (solve n p t) (lists-solve n p t b h)
 
     -- distinct lines that are all the lister's lines, sorted, are the full listing

@@ -1,8 +1,7 @@
 -- Lines that list the assignments of a predicate: laws over any predicate. A line is never found twice and never by two alternatives,
 -- because each line has a filling, and that filling satisfies one predicate only. Assumes nothing.
---   Lists n S Q ls   lines of n entries, which assign only variables of S, that cover just the assignments of Q, and each with one line
---   Under Q k        one of the predicates Q i for i below k
---   fillings l u     the total assignment of the line l, with u for the open entries
+--   Under Q k      one of the predicates Q i for i below k
+--   fillings l u   the total assignment of the line l, with u for the open entries
 use mathlib.Core.Path.{_≡_, refl, sym, ap, _∙_, subst, subst₂}
 use mathlib.Core.Option.{none, some}
 use mathlib.Core.List.{List, [], _∷_, _++_}
@@ -13,21 +12,12 @@ use lib.ListN.{length}
 use Rattle.terms.specs.Term.{Term, con, Value}
 use Rattle.terms.specs.Assignment.{Assigns}
 use Rattle.terms.specs.Listing.{In, Line}
-use Rattle.terms.proofs.Members.{Distinct, in-left, in-right, in-append, distinct-append, one}
+use Rattle.terms.specs.Members.{Distinct}
+use Rattle.terms.proofs.Members.{in-left, in-right, in-append, distinct-append, one}
+use Rattle.matching.specs.Lists.{Predicate, Lists, Values, Extends}
 use Rattle.matching.proofs.Members.{flatMap, flatMap-in, distinct-flatMap}
-use Rattle.matching.proofs.Lines.{Values, Extends, joins, merge, extends-joins, joins-extends, joins-once, joins-distinct}
+use Rattle.matching.proofs.Lines.{joins, merge, extends-joins, joins-extends, joins-once, joins-distinct}
 use Rattle.matching.proofs.Lines.{length-joins, assigns-joins, assigns-more, merge-in, in-merge}
-
-abbrev pub Predicate : Type 1
-Predicate = (ℕ → Term) → Type 0
-
-pub record Lists (n : ℕ) (S : ℕ → Type 0) (Q : Predicate) (ls : List Line) : Type 0 where
-  pub entries : (l : Line) → In l ls → length l ≡ n
-  pub assigns : (l : Line) → In l ls → Assigns S l
-  pub sound : (φ : ℕ → Term) → Values φ → (l : Line) → In l ls → Extends φ l → Q φ
-  pub covers : (φ : ℕ → Term) → Values φ → Q φ → (l : Line) × In l ls × Extends φ l
-  pub once : (φ : ℕ → Term) → Values φ → (l m : Line) → In l ls → In m ls → Extends φ l → Extends φ m → l ≡ m
-  pub distinct : Distinct ls
 
 abbrev pub Under : (ℕ → Predicate) → ℕ → Predicate
 Under Q k φ = (i : ℕ) × (i < k) × Q i φ

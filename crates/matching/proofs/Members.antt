@@ -6,7 +6,8 @@ use mathlib.Core.Path.{_≡_, refl, sym, ap, _∙_, subst}
 use mathlib.Core.Logic.{_⊎_, inl, inr}
 use mathlib.Core.List.{List, [], _∷_, _++_, map}
 use Rattle.terms.specs.Listing.{In}
-use Rattle.terms.proofs.Members.{Distinct, dec-⊎, in-left, in-right, in-append, distinct-append}
+use Rattle.terms.specs.Members.{Distinct}
+use Rattle.terms.proofs.Members.{dec-⊎, in-left, in-right, in-append, distinct-append}
 use Rattle.matching.specs.Abstractions.{pairs}
 
 abbrev pub guard : {A X : Type 0} → Dec A → X → List X

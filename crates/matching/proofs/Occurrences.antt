@@ -1,12 +1,8 @@
 -- The occurrences of an argument in a target, numbered in table order: the first place of a candidate names it, and no two places do. By
 -- induction on the target, whose parts stand in the order of its records. Assumes nothing.
---   parts d t    the parts of t in table order, each with the number of binders above it, counted from d
---   partAt d t j the j-th of them
---   Copy q e     the part q, with its depth, is e moved in below that many binders
---   First t j e  the j-th part of t is the first that is e, moved in below the binders above that part
 use mathlib.Core.Path.{_≡_, refl, sym, ap, _∙_, subst}
 use mathlib.Core.Bool.{true}
-use mathlib.Core.List.{List, [], _∷_, _++_}
+use mathlib.Core.List.{_++_}
 use mathlib.Core.Logic.{_⊎_, inl, inr, ⊎-elim}
 use Prim.Native.Nat.{ℕ, zero, suc, _+_, _-_, _<_}
 use native.Mathlib.Omega.{arith}
@@ -19,29 +15,12 @@ use Rattle.terms.specs.Term.{Term, app, lam, loc, con, var, size, shift, unshif
 use Rattle.terms.proofs.Tests.{or-true}
 use Rattle.terms.proofs.Shift.{unshift-shift}
 use Rattle.terms.proofs.Substitute.{size-pos, substitute-here}
+use Rattle.matching.specs.Occurrences.{partAt, Copy, FirstCopy, allParts}
 use Rattle.matching.specs.Abstractions.{same}
 use Rattle.matching.proofs.Decide.{by-dec}
 
-abbrev pub parts : ℕ → Term → List (ℕ × Term)
-parts d (app f a) = (d, app f a) ∷ (parts d f ++ parts d a)
-parts d (lam b) = (d, lam b) ∷ parts (suc d) b
-parts d (loc n) = (d, loc n) ∷ []
-parts d (con n) = (d, con n) ∷ []
-parts d (var n) = (d, var n) ∷ []
-
-abbrev pub partAt : ℕ → Term → ℕ → ℕ × Term
-partAt d t j = getD (parts d t) j (0, con 0)
-
-abbrev pub Copy : ℕ × Term → Term → Type 0
-Copy q e = q .1 ≡ shift (q .0) 0 e
-
-pub record First (t : Term) (j : ℕ) (e : Term) : Type 0 where
-  pub within : j < size t
-  pub copy : Copy (partAt 0 t j) e
-  pub none-before : (i : ℕ) → i < j → ¬ Copy (partAt 0 t i) e
-
-pub length-parts : (d : ℕ) (t : Term) → length (parts d t) ≡ size t
-length-parts d (app f a) = omega (arith, length-append (parts d f) (parts d a), length-parts d f, length-parts d a)
+pub length-parts : (d : ℕ) (t : Term) → length (allParts d t) ≡ size t
+length-parts d (app f a) = omega (arith, length-append (allParts d f) (allParts d a), length-parts d f, length-parts d a)
 length-parts d (lam b) = ap suc (length-parts (suc d) b)
 length-parts d (loc n) = refl
 length-parts d (con n) = refl
@@ -49,12 +28,12 @@ length-parts d (var n) = refl
 
 -- the parts of a head and of an argument among those of the application
 pub partAt-head : (d : ℕ) (f a : Term) (j : ℕ) → j < size f → partAt d (app f a) (suc j) ≡ partAt d f j
-partAt-head d f a j h = List·getD-append (parts d f) (parts d a) (0, con 0) j (omega (arith, length-parts d f))
+partAt-head d f a j h = List·getD-append (allParts d f) (allParts d a) (0, con 0) j (omega (arith, length-parts d f))
 
 pub partAt-argument : (d : ℕ) (f a : Term) (j : ℕ) → partAt d (app f a) (suc (size f + j)) ≡ partAt d a j
 partAt-argument d f a j =
-    ap (λ n. getD (parts d f ++ parts d a) (n + j) (0, con 0)) (sym (length-parts d f))
-    ∙ getD-append-add (parts d f) (parts d a) j (0, con 0)
+    ap (λ n. getD (allParts d f ++ allParts d a) (n + j) (0, con 0)) (sym (length-parts d f))
+    ∙ getD-append-add (allParts d f) (allParts d a) j (0, con 0)
 
 pub partAt-first : (d : ℕ) (t : Term) → partAt d t 0 ≡ (d, t)
 partAt-first d (app f a) = refl
@@ -138,14 +117,14 @@ module _ (P : ℕ → Type 0) (decide : (i : ℕ) → Dec (P i)) where
   least j p = ⊎-elim (λ r. r) (λ f. absurd (f j (omega arith) p)) (least-below (suc j))
 
 -- an argument whose local is used has a first occurrence
-pub first-of : (e b t : Term) → substitute 0 e b ≡ t → uses 0 b ≡ true → (j : ℕ) × First t j e
+pub first-of : (e b t : Term) → substitute 0 e b ≡ t → uses 0 b ≡ true → (j : ℕ) × FirstCopy t j e
 first-of e b t p u =
     let (j, h, c) : Found 0 t e = rw p at (found-used 0 e b u) in
     let r = least (λ i. Copy (partAt 0 t i) e) (λ i. same (partAt 0 t i .1) (shift (partAt 0 t i .0) 0 e)) j c in
     (r .0, record { within = omega (arith, r .1, h); copy = r .2; none-before = r .3 })
 
 -- and one only
-pub first-one : (t : Term) (i j : ℕ) (e : Term) → First t i e → First t j e → i ≡ j
+pub first-one : (t : Term) (i j : ℕ) (e : Term) → FirstCopy t i e → FirstCopy t j e → i ≡ j
 first-one t i j e x y = go (decLt i j) (decLt j i)
   where
     go : Dec (i < j) → Dec (j < i) → i ≡ j
@@ -154,24 +133,24 @@ first-one t i j e x y = go (decLt i j) (decLt j i)
     go (no l) (no m) = omega arith
 
 -- the part at a first occurrence, moved out of the binders above it, is the argument
-pub first-lowered : (t : Term) (j : ℕ) (e : Term) → First t j e → e ≡ unshift (partAt 0 t j .0) 0 (partAt 0 t j .1)
+pub first-lowered : (t : Term) (j : ℕ) (e : Term) → FirstCopy t j e → e ≡ unshift (partAt 0 t j .0) 0 (partAt 0 t j .1)
 first-lowered t j e x = sym (unshift-shift (partAt 0 t j .0) 0 e) ∙ ap (unshift (partAt 0 t j .0) 0) (sym (x .copy))
 
-pub first-same : (t : Term) (j : ℕ) (e e′ : Term) → First t j e → First t j e′ → e ≡ e′
+pub first-same : (t : Term) (j : ℕ) (e e′ : Term) → FirstCopy t j e → FirstCopy t j e′ → e ≡ e′
 first-same t j e e′ x y = first-lowered t j e x ∙ sym (first-lowered t j e′ y)
 
 -- so a part that uses a binder above it is none
-pub first-movable : (t : Term) (j : ℕ) (e : Term) → First t j e → Copy (partAt 0 t j) (unshift (partAt 0 t j .0) 0 (partAt 0 t j .1))
+pub first-movable : (t : Term) (j : ℕ) (e : Term) → FirstCopy t j e → Copy (partAt 0 t j) (unshift (partAt 0 t j .0) 0 (partAt 0 t j .1))
 first-movable t j e x = subst (Copy (partAt 0 t j)) (first-lowered t j e x) (x .copy)
 
 -- nor is one whose argument stands earlier
 pub first-not-again :
-    (t : Term) (i j : ℕ) (e : Term) → i < j → Copy (partAt 0 t i) (unshift (partAt 0 t j .0) 0 (partAt 0 t j .1)) → ¬ First t j e
+    (t : Term) (i j : ℕ) (e : Term) → i < j → Copy (partAt 0 t i) (unshift (partAt 0 t j .0) 0 (partAt 0 t j .1)) → ¬ FirstCopy t j e
 first-not-again t i j e h c x = x .none-before i h (subst (Copy (partAt 0 t i)) (sym (first-lowered t j e x)) c)
 
 -- what code finds by looking
 pub first-from : (t : Term) (j : ℕ) (e : Term) → j < size t → Copy (partAt 0 t j) e
-    → ((i : ℕ) → i < j → ¬ Copy (partAt 0 t i) e) → First t j e
+    → ((i : ℕ) → i < j → ¬ Copy (partAt 0 t i) e) → FirstCopy t j e
 first-from t j e h c f = record { within = h; copy = c; none-before = f }
 
 -- whether a part is the first occurrence of an argument
@@ -186,11 +165,11 @@ none-below e t (suc j) =
     more n f i h c =
         by-dec (λ _. ⊥) (decLt i j) (λ l. f i l c) (λ l. let q : i ≡ j = omega arith in n (subst (λ k. Copy (partAt 0 t k) e) q c))
 
-pub dec-first : (t : Term) (j : ℕ) → Dec ((e : Term) × First t j e)
+pub dec-first : (t : Term) (j : ℕ) → Dec ((e : Term) × FirstCopy t j e)
 dec-first t j =
-    by-dec (λ _. Dec ((e : Term) × First t j e)) (decLt j (size t))
-    (λ h. by-dec (λ _. Dec ((e : Term) × First t j e)) (same (partAt 0 t j .1) (shift (partAt 0 t j .0) 0 e))
-    (λ c. by-dec (λ _. Dec ((e : Term) × First t j e)) (none-below e t j) (λ f. yes (e, first-from t j e h c f))
+    by-dec (λ _. Dec ((e : Term) × FirstCopy t j e)) (decLt j (size t))
+    (λ h. by-dec (λ _. Dec ((e : Term) × FirstCopy t j e)) (same (partAt 0 t j .1) (shift (partAt 0 t j .0) 0 e))
+    (λ c. by-dec (λ _. Dec ((e : Term) × FirstCopy t j e)) (none-below e t j) (λ f. yes (e, first-from t j e h c f))
     (λ n. no (λ x. n (λ i l c. first-not-again t i j (x .0) l c (x .1)))))
     (λ n. no (λ x. n (first-movable t j (x .0) (x .1)))))
     (λ n. no (λ x. n (x .1 .within)))

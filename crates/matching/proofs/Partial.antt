@@ -1,6 +1,6 @@
 -- Assignments of n entries against the total ones: a complete one fills a pattern as its total one does and agrees with the lines that
 -- its total one extends, so that a full listing is rising lines that list the matches. Entry by entry. Assumes nothing.
---   total a        the total assignment of a, with `k0` for the open entries
+--   totalOf a      the total assignment of a, with `k0` for the open entries
 --   restrict n φ   the assignment of n entries of the total assignment φ
 use mathlib.Core.Path.{_≡_, refl, sym, ap, _∙_}
 use mathlib.Core.Option.{Option, none, some}
@@ -17,25 +17,25 @@ use Rattle.terms.specs.Listing.{In, Line, Rising, AgreesAt, Agrees, Full}
 use Rattle.terms.proofs.Sweep.{fill-same}
 use Rattle.terms.proofs.Occurs.{occurs-below}
 use Rattle.terms.proofs.Order.{rising-distinct}
-use Rattle.matching.proofs.Lines.{Values, ExtendsAt, Extends, assigns-entry}
-use Rattle.matching.proofs.Lists.{Lists}
-use Rattle.matching.proofs.Lister.{Sweeps}
+use Rattle.matching.specs.Lists.{Values, ExtendsAt, Extends, Lists}
+use Rattle.matching.specs.Goals.{Sweeps}
+use Rattle.matching.proofs.Lines.{assigns-entry}
 
 -- from n entries to a total assignment
-abbrev pub total : Assignment → ℕ → Term
-total a i = valueOr (con 0) (entry a i)
+abbrev pub totalOf : Assignment → ℕ → Term
+totalOf a i = valueOr (con 0) (entry a i)
 
-pub values-total : (n : ℕ) (a : Assignment) → Entries n a → Values (total a)
+pub values-total : (n : ℕ) (a : Assignment) → Entries n a → Values (totalOf a)
 values-total n a e i = go (entry a i) refl
   where
     go : (o : Option Term) → entry a i ≡ o → Value (valueOr (con 0) o)
     go none p = (tt, tt, lit< tt)
     go (some v) p = assigns-entry (λ j. Unit {0}) a i v (e .1) p .1
 
-pub fill-total : (p : Term) (a : Assignment) → Complete p a → fill (values a) p ≡ fill (total a) p
-fill-total p a c = fill-same (values a) (total a) p (λ i o. let v = c i o in rw (v .1))
+pub fill-total : (p : Term) (a : Assignment) → Complete p a → fill (values a) p ≡ fill (totalOf a) p
+fill-total p a c = fill-same (values a) (totalOf a) p (λ i o. let v = c i o in rw (v .1))
 
-agrees-extends : (a l : Line) → Agrees a l → Extends (total a) l
+agrees-extends : (a l : Line) → Agrees a l → Extends (totalOf a) l
 agrees-extends [] [] g = tt
 agrees-extends [] (q ∷ l) g = absurd g
 agrees-extends (o ∷ a) [] g = absurd g
@@ -45,7 +45,7 @@ agrees-extends (o ∷ a) (some v ∷ l) g = (ap (valueOr (con 0)) (g .0), agrees
 -- what the line assigns is assigned
 extends-agrees :
     (S : ℕ → Type 0) (a l : Line) → length a ≡ length l → ((i : ℕ) → S i → (v : Term) × (entry a i ≡ some v)) → Assigns S l
-    → Extends (total a) l → Agrees a l
+    → Extends (totalOf a) l → Agrees a l
 extends-agrees S [] [] e c h g = tt
 extends-agrees S [] (q ∷ l) e c h g = absurd (omega arith)
 extends-agrees S (o ∷ a) [] e c h g = absurd (omega arith)
@@ -99,11 +99,11 @@ module _ (n : ℕ) (p t : Term) (b : Below n p) (ls : List Line) where
     entries = x .entries;
     assigns = x .assigns;
     rising = u;
-    sound = λ a e c l i g. (e, c, ap sweep (fill-total p a c) ∙ x .sound (total a) (values-total n a e) l i (agrees-extends a l g));
+    sound = λ a e c l i g. (e, c, ap sweep (fill-total p a c) ∙ x .sound (totalOf a) (values-total n a e) l i (agrees-extends a l g));
     covers = λ a m.
-        let r = x .covers (total a) (values-total n a (m .0)) (sym (ap sweep (fill-total p a (m .1))) ∙ m .2) in
+        let r = x .covers (totalOf a) (values-total n a (m .0)) (sym (ap sweep (fill-total p a (m .1))) ∙ m .2) in
         (r .0, r .1, extends-agrees S a (r .0) (m .0 .0 ∙ sym (x .entries (r .0) (r .1))) (m .1) (x .assigns (r .0) (r .1)) (r .2));
-    once = λ a m l k i j g h. x .once (total a) (values-total n a (m .0)) l k i j (agrees-extends a l g) (agrees-extends a k h);
+    once = λ a m l k i j g h. x .once (totalOf a) (values-total n a (m .0)) l k i j (agrees-extends a l g) (agrees-extends a k h);
   }
 
   -- the match that a total assignment is

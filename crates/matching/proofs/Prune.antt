@@ -1,8 +1,6 @@
 -- What a search may skip, each cut of it a fact of every assignment: no assignment satisfies the goal, or exactly one body is left.
 -- From the rows of one step of matching, from what a swept form can be, and from what stands in an assignment. Assumes nothing.
---   Unlike q t        where t is a term moved in below some binders, q never sweeps to that term
---   Build f t e φ     the head f sweeps to an abstraction that uses its local and comes to t with e put in
---   replaceAll e d t  t with each outermost occurrence of e replaced by local d
+--   replaceAll e d t   t with each outermost occurrence of e replaced by local d
 use mathlib.Core.Path.{_≡_, refl, sym, ap, ap₂, _∙_, subst}
 use mathlib.Core.Bool.{Bool, true, false, cond}
 use mathlib.Core.Logic.{_⊎_, inl, inr, ⊎-elim, _↔_}
@@ -14,19 +12,23 @@ use borrow.Author.Tests.{eqb-true, lt-ltb, le-ltb}
 use Rattle.terms.specs.Term.{Term, app, lam, loc, con, var, Normal, size, shift, unshift, substitute, uses, isAbstraction}
 use Rattle.terms.specs.Sweep.{sweep, fill}
 use Rattle.terms.specs.Listing.{In, Line}
+use Rattle.terms.specs.Heads.{rigid}
 use Rattle.terms.proofs.Tests.{or-false, or-true, by-ltb}
-use Rattle.terms.proofs.Table.{kind, number}
+use Rattle.terms.proofs.Table.{kind, numberOf}
 use Rattle.terms.proofs.Shift.{shift-unshift, size-shift, uses-above}
 use Rattle.terms.proofs.Substitute.{by-substitute, substitute-unused, substitute-low, substitute-high, size-used, unused-substitute}
+use Rattle.matching.specs.Occurrences.{Unlike}
+use Rattle.matching.specs.Goals.{Build, Sweeps}
 use Rattle.matching.specs.Abstractions.{same}
-use Rattle.terms.proofs.Locals.{rigid, rigid-sweep, unused-sweep}
-use Rattle.matching.proofs.Decide.{either, either-yes, either-no}
-use Rattle.matching.proofs.Step.{Split, Split.parts, Split.body, constant, match-application}
+use Rattle.terms.proofs.Locals.{rigid-sweep, unused-sweep}
+use Rattle.matching.specs.Bodies.{either}
+use Rattle.matching.specs.Alternatives.{constant}
+use Rattle.matching.specs.Lists.{Values, Predicate, Lists}
+use Rattle.matching.specs.Skeletons.{Fits}
+use Rattle.matching.proofs.Decide.{either-yes, either-no}
+use Rattle.matching.proofs.Step.{Split, Split.parts, Split.body, match-application}
 use Rattle.matching.proofs.Splits.{candidates, in-candidates}
-use Rattle.matching.proofs.Lines.{Values}
-use Rattle.matching.proofs.Lists.{Predicate, Lists, lists-same}
-use Rattle.matching.proofs.Lister.{Sweeps}
-use Rattle.matching.proofs.Skeletons.{Fits}
+use Rattle.matching.proofs.Lists.{lists-same}
 
 -- cut 1, rigid heads: no abstraction is a target, so that an application with such a head can only be split
 pub no-abstraction : (φ : ℕ → Term) (p b : Term) → rigid p ≡ true → ¬ Sweeps p (lam b) φ
@@ -45,9 +47,6 @@ rigid-application φ f a t h r = (λ s. go (match-application φ f a t h .0 s), 
 pub rigid-parts : (φ : ℕ → Term) (f a : Term) → rigid f ≡ true → sweep (fill φ (app f a)) ≡ app (sweep (fill φ f)) (sweep (fill φ a))
 rigid-parts φ f a r = rw (rigid-sweep φ f r)
 
-abbrev pub Unlike : Term → Term → Type 0
-Unlike q t = (φ : ℕ → Term) (d : ℕ) (e : Term) → t ≡ shift d 0 e → ¬ Sweeps q e φ
-
 rigid-kind : (φ : ℕ → Term) (d : ℕ) (q : Term) → rigid q ≡ true → kind (shift d 0 (sweep (fill φ q))) ≡ kind q
 rigid-kind φ d (app f a) r = ap (λ t. kind (shift d 0 t)) (rigid-parts φ f a r)
 rigid-kind φ d (lam b) r = absurd (subst T (sym r) tt)
@@ -64,11 +63,11 @@ unlike-head f a g b r u φ d e p s =
     p ∙ ap (shift d 0) (sym s ∙ rigid-parts φ f a r) in
     u φ d (sweep (fill φ f)) (cc) refl
 
-pub unlike-constant : (q t : Term) → kind q ≡ 3 → ¬ (number q ≡ number t) → Unlike q t
+pub unlike-constant : (q t : Term) → kind q ≡ 3 → ¬ (numberOf q ≡ numberOf t) → Unlike q t
 unlike-constant (app f a) t k n = absurd (omega (arith, k))
 unlike-constant (lam b) t k n = absurd (omega (arith, k))
 unlike-constant (loc m) t k n = absurd (omega (arith, k))
-unlike-constant (con m) t k n = λ φ d e p s. n (ap (λ x. number (shift d 0 x)) s ∙ ap number (sym p))
+unlike-constant (con m) t k n = λ φ d e p s. n (ap (λ x. numberOf (shift d 0 x)) s ∙ ap numberOf (sym p))
 unlike-constant (var m) t k n = absurd (omega (arith, k))
 
 -- cut 2, easy goals first: goals may be taken in any order
@@ -81,10 +80,6 @@ no-local φ v p t j c u s = subst T (sym u ∙ ap (uses j) (sym s) ∙ unused-sw
 
 pub constant-local : (j : ℕ) (t : Term) → uses j (constant t) ≡ uses j t
 constant-local j t = uses-above (suc j) j 1 0 t (omega arith) (omega arith)
-
--- cut 4, the argument before the choices: each different argument once, and the bodies only when its goal is met
-abbrev pub Build : Term → Term → Term → Predicate
-Build f t e φ = (b : Term) × Sweeps f (lam b) φ × (substitute 0 e b ≡ t) × (uses 0 b ≡ true)
 
 -- how an application comes to the target, with the argument's target named first
 abbrev pub Choice : Term → Term → Term → Predicate

@@ -1,11 +1,7 @@
 -- One variable applied to constants in two places: at most one value comes to both targets, and it is read off them place by place.
 -- By induction on the body below the abstractions of the value, the constants standing where its locals stood. Assumes nothing.
---   spine f cs             f applied to the constants cs, of which the first is the last argument
 --   bodies n v             what stands below n abstractions of v, each made where v has none
---   enclose n b            what n abstractions over b come to
 --   replace d cs t         t with the constants cs for its locals from d on, the first for local d; the locals above move down
---   Apart ps               the two constants of each pair differ, and so do the pairs
---   join d ps t u          the term that comes to t with the first constants of the pairs ps put in, and to u with the second
 --   Comes d ps t u b       b comes to both so
 --   Both ps i t u φ        variable i, applied to the first constants and to the second, sweeps to t and to u
 --   repeated ps i t u gs   these two goals before the goals gs
@@ -27,17 +23,13 @@ use Rattle.terms.proofs.Tests.{by-ltb, by-eqb}
 use Rattle.terms.proofs.Shift.{shift-unshift, normal-shift, size-shift}
 use Rattle.terms.proofs.Substitute.{substitute-shift, substitute-high, normal-substitute}
 use Rattle.terms.proofs.Sweep.{sweep-normal}
-use Rattle.terms.proofs.Table.{kind, number}
+use Rattle.terms.proofs.Table.{kind, numberOf}
 use Rattle.terms.proofs.Contracted.{Abstracted, Abstracted.out, Abstracted.kept, abstracted}
+use Rattle.matching.specs.Repeated.{spine, firsts, seconds, PairsApart, atConstants, join, enclose, below, both}
+use Rattle.matching.specs.Lists.{Predicate}
+use Rattle.matching.specs.Goals.{Sweeps, Goal, Goal.match, All, Suits}
 use Rattle.matching.proofs.Step.{bodyTarget, contract-to, lam-normal, bodyTarget-normal}
-use Rattle.matching.proofs.Lists.{Predicate}
-use Rattle.matching.proofs.Lister.{Sweeps}
-use Rattle.matching.proofs.Goals.{Goal, Goal.match, All, Suits}
 use Rattle.matching.proofs.Targets.{shift-closed, ground-shift}
-
-abbrev pub spine : Term → List ℕ → Term
-spine f [] = f
-spine f (c ∷ cs) = app (spine f cs) (con c)
 
 pub size-spine : (f : Term) (cs : List ℕ) → size (spine f cs) ≡ size f + 2 * length cs
 size-spine f [] = omega arith
@@ -51,10 +43,6 @@ suits-spine n S f (c ∷ cs) x = suits-spine n S f cs (x .0 .0, λ i o. x .1 i (
 abbrev pub bodies : ℕ → Term → Term
 bodies zero v = v
 bodies (suc n) v = bodyTarget (bodies n v)
-
-abbrev pub enclose : ℕ → Term → Term
-enclose zero b = b
-enclose (suc n) b = enclose n (contract (lam b))
 
 bodies-normal : (n : ℕ) (v : Term) → Normal v → Normal (bodies n v)
 bodies-normal zero v h = h
@@ -268,60 +256,6 @@ sweep-spine φ i (suc n) (c ∷ cs) e h =
     ∙ ap (λ x. substitute 0 (con c) (bodyTarget x)) (sweep-spine φ i n cs (omega arith) h)
     ∙ ap (substitute 0 (con c)) (bodyTarget-replace 0 cs (bodies n (φ i))) ∙ substitute-replace 0 c cs (bodies (suc n) (φ i))
 
--- the two targets, place by place
-abbrev pub firsts : List (ℕ × ℕ) → List ℕ
-firsts [] = []
-firsts (p ∷ ps) = p .0 ∷ firsts ps
-
-abbrev pub seconds : List (ℕ × ℕ) → List ℕ
-seconds [] = []
-seconds (p ∷ ps) = p .1 ∷ seconds ps
-
-abbrev pub Apart : List (ℕ × ℕ) → Type 0
-Apart [] = Unit {0}
-Apart (p ∷ ps) = ¬ (p .0 ≡ p .1) × ¬ In p ps × Apart ps
-
--- two constants: the local whose pair they are, or one constant that stays
-abbrev pub atConstants : ℕ → List (ℕ × ℕ) → ℕ → ℕ → Option Term
-atConstants d [] m n = cond (eqb m n) (some (con m)) none
-atConstants d (p ∷ ps) m n = cond (eqb m (p .0) && eqb n (p .1)) (some (loc d)) (atConstants (suc d) ps m n)
-
-abbrev pub both : Option Term → Option Term → Option Term
-both none o = none
-both (some f) none = none
-both (some f) (some a) = some (app f a)
-
-abbrev pub below : Option Term → Option Term
-below none = none
-below (some b) = some (lam b)
-
-abbrev pub join : ℕ → List (ℕ × ℕ) → Term → Term → Option Term
-join d ps (app f a) (app g b) = both (join d ps f g) (join d ps a b)
-join d ps (app f a) (lam u) = none
-join d ps (app f a) (loc n) = none
-join d ps (app f a) (con n) = none
-join d ps (app f a) (var n) = none
-join d ps (lam t) (app g b) = none
-join d ps (lam t) (lam u) = below (join (suc d) ps t u)
-join d ps (lam t) (loc n) = none
-join d ps (lam t) (con n) = none
-join d ps (lam t) (var n) = none
-join d ps (loc m) (app g b) = none
-join d ps (loc m) (lam u) = none
-join d ps (loc m) (loc n) = cond (eqb m n) (some (cond (ltb m d) (loc m) (loc (m + length ps)))) none
-join d ps (loc m) (con n) = none
-join d ps (loc m) (var n) = none
-join d ps (con m) (app g b) = none
-join d ps (con m) (lam u) = none
-join d ps (con m) (loc n) = none
-join d ps (con m) (con n) = atConstants d ps m n
-join d ps (con m) (var n) = none
-join d ps (var m) (app g b) = none
-join d ps (var m) (lam u) = none
-join d ps (var m) (loc n) = none
-join d ps (var m) (con n) = none
-join d ps (var m) (var n) = cond (eqb m n) (some (var m)) none
-
 -- by the kinds of the first records
 pub join-kinds : (d : ℕ) (ps : List (ℕ × ℕ)) (t u : Term) → ¬ (kind t ≡ kind u) → join d ps t u ≡ none
 join-kinds d ps (app f a) (app g b) h = absurd (h refl)
@@ -352,7 +286,7 @@ join-kinds d ps (var m) (var n) h = absurd (h refl)
 
 pub join-leaf :
     (d l : ℕ) (ps : List (ℕ × ℕ)) (t u : Term) → length ps ≡ l → kind t ≡ kind u → ¬ (kind t ≡ 0) → ¬ (kind t ≡ 1) → ¬ (kind t ≡ 3)
-    → join d ps t u ≡ cond (eqb (number t) (number u)) (some (shift l d t)) none
+    → join d ps t u ≡ cond (eqb (numberOf t) (numberOf u)) (some (shift l d t)) none
 join-leaf d l ps (app f a) (app g b) e k x y z = absurd (x refl)
 join-leaf d l ps (app f a) (lam u) e k x y z = absurd (x refl)
 join-leaf d l ps (app f a) (loc n) e k x y z = absurd (x refl)
@@ -383,7 +317,7 @@ join-leaf d l ps (var m) (var n) e k x y z = refl
 unlike : (m n : ℕ) (p : ℕ × ℕ) → (m ≡ p .0 → n ≡ p .1 → ⊥) → eqb m (p .0) && eqb n (p .1) ≡ false
 unlike m n p h = by-eqb (λ s. s && eqb n (p .1) ≡ false) m (p .0) (λ q. ne-eqb n (p .1) (h q)) (λ q. refl)
 
-constant-stays : (d : ℕ) (ps : List (ℕ × ℕ)) (m : ℕ) → Apart ps → atConstants d ps m m ≡ some (con m)
+constant-stays : (d : ℕ) (ps : List (ℕ × ℕ)) (m : ℕ) → PairsApart ps → atConstants d ps m m ≡ some (con m)
 constant-stays d [] m h = rw (eq-eqb m m refl)
 constant-stays d (p ∷ ps) m h = rw (unlike m m p (λ q r. h .0 (sym q ∙ r))) (constant-stays (suc d) ps m (h .2))
 
@@ -400,7 +334,7 @@ record Replaced (d k : ℕ) (ps : List (ℕ × ℕ)) : Type 0 where
   second : pick d (seconds ps) k ≡ con (pair .1)
   found : (e : ℕ) → atConstants e ps (pair .0) (pair .1) ≡ some (loc (e + k))
 
-replaced : (d k : ℕ) (ps : List (ℕ × ℕ)) → Apart ps → k < length ps → Replaced d k ps
+replaced : (d k : ℕ) (ps : List (ℕ × ℕ)) → PairsApart ps → k < length ps → Replaced d k ps
 replaced d k [] h l = absurd (omega arith)
 replaced d zero (p ∷ ps) h l = record {
   pair = p;
@@ -584,7 +518,7 @@ module _ (ps : List (ℕ × ℕ)) (t u b : Term) (e : join 0 ps t u ≡ some b) 
       both-comes ps i t u φ v .1 (subst (Comes 0 ps t u) r (join-sound ps 0 t u b e))
 
 -- it is the only one
-module _ (ps : List (ℕ × ℕ)) (h : Apart ps) where
+module _ (ps : List (ℕ × ℕ)) (h : PairsApart ps) where
   join-local : (d n : ℕ) → join d ps (replace d (firsts ps) (loc n)) (replace d (seconds ps) (loc n)) ≡ some (loc n)
   join-local d n = go (decLt n d) (decLt (n - d) (length ps))
     where

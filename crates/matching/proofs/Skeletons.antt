@@ -1,58 +1,20 @@
 -- Skeletons: what is known of a swept part while some variables are open. A skeleton is a term in which each variable is a hole, and a
 -- swept part fits it, whatever the open variables are. By induction on the skeleton: what fits it has its shape outside of its holes, and
 -- shifting, substitution and single contractions that are sure keep that. Assumes nothing.
---   Fills n t       t may stand in the hole n: in hole 0 any term, in any other hole a closed one
---   Fits s t        t is s with such a term in place of each variable of s
---   hasVariable t   some variable occurs in t
---   isVariable t    t is a variable
---   isAny t         t is the hole that any term may stand in
---   isUnsure b      the abstraction over what fits b may contract or not, and differently for different terms
+--   isVariable t   t is a variable
 use mathlib.Core.Path.{_≡_, refl, sym, ap, ap₂, _∙_, subst}
-use mathlib.Core.Bool.{Bool, true, false, cond, _&&_, _||_}
+use mathlib.Core.Bool.{Bool, true, false, cond, _&&_}
 use Prim.Native.Nat.{ℕ, zero, suc, _-_}
 use native.Mathlib.Omega.{arith}
 use lib.Dec.{T, eqb}
-use Rattle.terms.specs.Term.{Term, app, lam, loc, con, var, shift, unshift, uses, substitute, Closed, isInnermost}
+use Rattle.terms.specs.Term.{Term, app, lam, loc, con, var, shift, unshift, uses, substitute, Closed}
 use Rattle.terms.specs.Sweep.{contract}
 use Rattle.terms.proofs.Tests.{by-ltb, by-eqb, or-false}
 use Rattle.terms.proofs.Shift.{shift-unshift, uses-above}
 use Rattle.terms.proofs.Contracted.{Abstracted, Abstracted.out, Abstracted.kept, abstracted}
 use Rattle.terms.proofs.Locals.{closed-unused, unused-closed}
-use Rattle.matching.proofs.Contraction.{Passes, passes-closed, shift-passes, substitute-passes, closed-redex}
-
-abbrev pub Fills : ℕ → Term → Type 0
-Fills zero t = Unit {0}
-Fills (suc n) t = Closed 0 t
-
-abbrev pub Fits : Term → Term → Type 0
-Fits (app f a) (app g b) = Fits f g × Fits a b
-Fits (app f a) (lam u) = ⊥
-Fits (app f a) (loc n) = ⊥
-Fits (app f a) (con n) = ⊥
-Fits (app f a) (var n) = ⊥
-Fits (lam b) (app g c) = ⊥
-Fits (lam b) (lam c) = Fits b c
-Fits (lam b) (loc n) = ⊥
-Fits (lam b) (con n) = ⊥
-Fits (lam b) (var n) = ⊥
-Fits (loc m) (app g c) = ⊥
-Fits (loc m) (lam u) = ⊥
-Fits (loc m) (loc n) = m ≡ n
-Fits (loc m) (con n) = ⊥
-Fits (loc m) (var n) = ⊥
-Fits (con m) (app g c) = ⊥
-Fits (con m) (lam u) = ⊥
-Fits (con m) (loc n) = ⊥
-Fits (con m) (con n) = m ≡ n
-Fits (con m) (var n) = ⊥
-Fits (var m) t = Fills m t
-
-abbrev pub hasVariable : Term → Bool
-hasVariable (app f a) = hasVariable f || hasVariable a
-hasVariable (lam b) = hasVariable b
-hasVariable (loc n) = false
-hasVariable (con n) = false
-hasVariable (var n) = true
+use Rattle.matching.specs.Skeletons.{Fits, isUnsure, hasVariable, Fills}
+use Rattle.matching.proofs.Reducts.{Passes, passes-closed, shift-passes, substitute-passes, closed-redex}
 
 abbrev pub isVariable : Term → Bool
 isVariable (app f a) = false
@@ -60,20 +22,6 @@ isVariable (lam b) = false
 isVariable (loc n) = false
 isVariable (con n) = false
 isVariable (var n) = true
-
-abbrev pub isAny : Term → Bool
-isAny (app f a) = false
-isAny (lam b) = false
-isAny (loc n) = false
-isAny (con n) = false
-isAny (var n) = eqb n 0
-
-abbrev pub isUnsure : Term → Bool
-isUnsure (app f a) = isAny a || (isInnermost a && hasVariable f)
-isUnsure (lam b) = false
-isUnsure (loc n) = false
-isUnsure (con n) = false
-isUnsure (var n) = isAny (var n)
 
 -- a closed term may stand in any hole, and no shift or substitution changes it
 pub fills-closed : (n : ℕ) (t : Term) → Closed 0 t → Fills n t

@@ -11,10 +11,11 @@ use lib.Dec.{T}
 use borrow.Author.Tests.{eqb-true}
 use Rattle.terms.specs.Term.{Term, app, lam, loc, con, var, Normal, shift, unshift, substitute, uses, isAbstraction}
 use Rattle.terms.specs.Listing.{In}
+use Rattle.terms.specs.Members.{Distinct}
 use Rattle.terms.proofs.Tests.{or-true, true-of}
 use Rattle.terms.proofs.Shift.{unshift-shift}
 use Rattle.terms.proofs.Substitute.{substitute-here}
-use Rattle.terms.proofs.Members.{Distinct, in-left, in-right, in-append, distinct-append, one}
+use Rattle.terms.proofs.Members.{in-left, in-right, in-append, distinct-append, one}
 use Rattle.matching.specs.Abstractions.{same, abstractions}
 use Rattle.matching.proofs.Abstractions.{abstractions-iff, abstractions-distinct}
 use Rattle.matching.proofs.Decide.{normal?, dec-T, dec-×}

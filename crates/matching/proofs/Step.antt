@@ -1,8 +1,7 @@
 -- One step of matching: when the filled pattern sweeps to a normal target, by the pattern's kind, and that every new target is normal.
 -- The sweep's result is known from what its two rules leave, since a swept head is contracted and the target is normal. Assumes nothing.
---   bodyTarget t    what the body of an abstraction has to sweep to
---   Split f e t     a target f of the head and a target e of the argument that together come to t, where the argument is used
---   constant t      the target of a head that throws its argument away
+--   bodyTarget t   what the body of an abstraction has to sweep to
+--   Split f e t    a target f of the head and a target e of the argument that together come to t, where the argument is used
 use mathlib.Core.Path.{_≡_, refl, sym, ap, _∙_, subst}
 use mathlib.Core.Bool.{Bool, true, false, not}
 use mathlib.Core.Logic.{_⊎_, inl, inr, _↔_}
@@ -15,6 +14,7 @@ use Rattle.terms.proofs.Shift.{unshift-shift, shift-unshift, unused-shift, isAb
 use Rattle.terms.proofs.Substitute.{substitute-unused, substitute-shift, isEta-below, normal-substitute, normal-used}
 use Rattle.terms.proofs.Sweep.{contract-app, contract-lam, sweep-normal}
 use Rattle.terms.proofs.Contracted.{Contracted, isProper, Abstracted, Abstracted.out, Abstracted.kept, abstracted, contracted-sweep}
+use Rattle.matching.specs.Alternatives.{constant}
 
 -- abstractions
 abbrev pub bodyTarget : Term → Term
@@ -57,9 +57,6 @@ pub data Split (f e t : Term) : Type 0 where
   parts : t ≡ app f e → Split f e t
   -- the head is an abstraction that uses its local, and comes to the target with the argument put in
   body : (b : Term) → f ≡ lam b → substitute 0 e b ≡ t → uses 0 b ≡ true → Normal (lam b) → Split f e t
-
-abbrev pub constant : Term → Term
-constant t = lam (shift 1 0 t)
 
 -- a body without a redex, whose abstraction is no proper eta-redex, has a normal abstraction
 pub lam-normal : (b : Term) → T (not (isProper b)) → Normal b → Normal (lam b)

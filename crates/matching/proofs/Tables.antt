@@ -11,7 +11,7 @@ use Rattle.terms.specs.Table.{encode}
 use Rattle.terms.specs.Sweep.{sweep, fill}
 use Rattle.terms.specs.Assignment.{Assignment, values, Entries, Complete, Match}
 use Rattle.terms.specs.Refusal.{Filled, Matches}
-use Rattle.terms.proofs.Occurs.{Chosen, chosen-values}
+use Rattle.terms.proofs.Occurs.{ChosenValues, chosen-values}
 use Rattle.terms.proofs.Refusal.{filled-one}
 use Rattle.terms.proofs.Sweep.{fill-same}
 use Rattle.terms.proofs.Table.{encode-one}
@@ -22,7 +22,7 @@ module _ (n : ℕ) (p l s : List ℕ) (u : Term) (f : Filled p l s u) (b : Below
   abbrev Kept : ℕ → Term → Type 0
   Kept i v = (v ≡ f .φ i) × Value v
 
-  chosen : Chosen Kept (f .term)
+  chosen : ChosenValues Kept (f .term)
   chosen = chosen-values Kept (f .term) (λ i o. (f .φ i, (refl, f .stored i o .value)))
 
   -- the assignment that the line and the value table are

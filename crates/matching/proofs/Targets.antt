@@ -8,8 +8,10 @@ use Rattle.terms.specs.Term.{Term, app, lam, loc, con, var, Normal, Closed, Gro
 use Rattle.terms.proofs.Locals.{closed-unused, unused-closed}
 use Rattle.terms.proofs.Tests.{by-ltb}
 use Rattle.terms.proofs.Shift.{normal-shift, size-shift}
-use Rattle.matching.proofs.Step.{bodyTarget, constant}
-use Rattle.matching.proofs.Occurrences.{partAt, Copy, each-part}
+use Rattle.matching.specs.Alternatives.{constant}
+use Rattle.matching.specs.Occurrences.{partAt, Copy}
+use Rattle.matching.proofs.Step.{bodyTarget}
+use Rattle.matching.proofs.Occurrences.{each-part}
 
 -- what is closed below some binders is closed below more
 pub closed-more : (m n : ℕ) (t : Term) → m ≤ n → Closed m t → Closed n t

@@ -12,8 +12,9 @@ use lib.ListN.{length}
 use Rattle.terms.specs.Term.{Term, app, con, Value, size, isAbstraction}
 use Rattle.terms.specs.Listing.{In, Line, AgreesAt, Agrees}
 use Rattle.terms.proofs.Order.{found-length}
-use Rattle.matching.proofs.Lines.{ExtendsAt, Extends, Each, each-more}
-use Rattle.matching.proofs.Lists.{Predicate, Lists, fillings, extends-fillings, values-fillings}
+use Rattle.matching.specs.Lists.{ExtendsAt, Extends, Predicate, Lists}
+use Rattle.matching.proofs.Lines.{Each, each-more}
+use Rattle.matching.proofs.Lists.{fillings, extends-fillings, values-fillings}
 
 -- a value longer than any given bound
 abbrev spine : ℕ → Term

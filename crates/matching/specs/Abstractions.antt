@@ -1,9 +1,9 @@
 -- The abstractions of a term: every body that comes to it when an argument is put for the body's local. Abstraction is here the term of
 -- source document 002, section 4: the function B with `B E = T`.
---   same                  two terms are equal, decided
---   orLocal o d l         the local d before l, where o decides that the argument stands here
---   pairs f l m           f of each member of l and each of m
---   abstractions e d t    the bodies B with e put for local d of B equal to t
+--   same                 two terms are equal, decided
+--   orLocal o d l        the local d before l, where o decides that the argument stands here
+--   pairs f l m          f of each member of l and each of m
+--   abstractions e d t   the bodies B with e put for local d of B equal to t
 use mathlib.Core.Bool.{cond}
 use mathlib.Core.List.{List, [], _∷_, _++_, map}
 use Prim.Native.Nat.{ℕ, suc}

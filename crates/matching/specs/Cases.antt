@@ -1,9 +1,9 @@
 -- Document 01's cases 1 to 11, in one table, and what each row claims.
---   lists p t ls     the full listing of the pattern p and the recipe t is ls; "No match is a count of 0": ls is empty
---   rejects p t a    check says no: the assignment a is complete, and no match
---   sweeps t s       t sweeps to s
---   reducible t      t is not normal
---   from n es        the line of n entries whose first are es, the others open
+--   lists p t ls    the full listing of the pattern p and the recipe t is ls; "No match is a count of 0": ls is empty
+--   rejects p t a   check says no: the assignment a is complete, and no match
+--   sweeps t s      t sweeps to s
+--   reducible t     t is not normal
+--   from n es       the line of n entries whose first are es, the others open
 use mathlib.Core.Path.{_≡_}
 use mathlib.Core.Option.{Option, none, some}
 use mathlib.Core.List.{List, [], _∷_, _++_}
@@ -20,11 +20,11 @@ pub data Case : Type 0 where
   sweeps : Term → Term → Case
   reducible : Term → Case
 
-abbrev pub Holds : ℕ → Case → Type 0
-Holds n (lists p t ls) = Full n p t ls
-Holds n (rejects p t a) = Entries n a × Complete p a × ¬ Match n p t a
-Holds n (sweeps t s) = sweep t ≡ s
-Holds n (reducible t) = ¬ Normal t
+abbrev pub CaseHolds : ℕ → Case → Type 0
+CaseHolds n (lists p t ls) = Full n p t ls
+CaseHolds n (rejects p t a) = Entries n a × Complete p a × ¬ Match n p t a
+CaseHolds n (sweeps t s) = sweep t ≡ s
+CaseHolds n (reducible t) = ¬ Normal t
 
 abbrev pub from : ℕ → List (Option Term) → Line
 from n es = es ++ replicate (n - length es) none

@@ -1,2 +1,10 @@
 pub mod Abstractions
+pub mod Alternatives
+pub mod Bodies
 pub mod Cases
+pub mod Goals
+pub mod Lists
+pub mod Occurrences
+pub mod Reducts
+pub mod Repeated
+pub mod Skeletons

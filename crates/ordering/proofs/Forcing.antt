@@ -1,8 +1,8 @@
--- One variable in two goals put off: what finding them shows, and the agenda that is left when its value was written. By the list of goals,
--- and by the value, which is the only one that comes to both targets. Assumes nothing.
---   Among P W top i gs      the goal that stands at byte i, among the goals gs of a list, and the list behind it
---   Known P W top i p t     whatever goal put off stands at byte i is that p sweeps to the target t
---   Meant P W s r           the two goals of r: their targets, and what is known of them
+-- One variable in two deferred goals: what finding them shows, and the agenda that is left when its value was written. By the list of
+-- goals, and by the value, which is the only one that comes to both targets. Assumes nothing.
+--   Among P W top i gs    the goal that stands at byte i, among the goals gs of a list, and the list behind it
+--   Known P W top i p t   whatever deferred goal stands at byte i is that p sweeps to the target t
+--   Meant P W s r         the two goals of r: their targets, and what is known of them
 use mathlib.Core.Path.{_≡_, refl, sym, ap, ap₂, _∙_, subst}
 use mathlib.Core.List.{List, [], _∷_}
 use Prim.Native.Nat.{ℕ, _+_, _-_, _*_, _%_, _<_, _≤_}
@@ -15,10 +15,10 @@ use Rattle.terms.specs.Table.{encode}
 use Rattle.terms.specs.Refusal.{OccursIn}
 use Rattle.terms.proofs.Shift.{size-shift}
 use Rattle.terms.proofs.Table.{encode-length}
-use Rattle.matching.proofs.Goals.{Goal, Goal.match, Goal.build, Meets, All, Listable}
-use Rattle.matching.proofs.Lister.{Sweeps}
+use Rattle.matching.specs.Goals.{Goal, Goal.match, Goal.build, Meets, All, Listable, Sweeps}
+use Rattle.matching.specs.Repeated.{spine, firsts, seconds, enclose}
 use Rattle.matching.proofs.Targets.{closed-more, closed-shift}
-use Rattle.matching.proofs.Repeated.{spine, firsts, seconds, length-firsts, enclose, size-spine, suits-spine, size-join, size-enclose}
+use Rattle.matching.proofs.Repeated.{length-firsts, size-spine, suits-spine, size-join, size-enclose}
 use Rattle.matching.proofs.Repeated.{join-closed, enclose-normal, enclose-closed, enclose-ground, goals-forced, goals-none}
 use Rattle.records.specs.Parts.{Part, Whole}
 use Rattle.records.specs.declared.Walk.{Walk}
@@ -28,7 +28,7 @@ use Rattle.assignments.specs.declared.Entry.{Entry}
 use Rattle.copying.proofs.Stores.{stored}
 use Rattle.sweeping.proofs.Contraction.{closed-fits, table-length}
 use Rattle.agenda.specs.declared.Agenda.{Agenda}
-use Rattle.agenda.specs.declared.Item.{Item}
+use Rattle.agenda.specs.declared.StoredGoal.{StoredGoal}
 use Rattle.agenda.specs.declared.Decision.the-variants as decision
 use Rattle.joins.specs.declared.pairs.Pairs.{Pairs}
 use Rattle.joins.specs.declared.pairs.Spines.{Spines}
@@ -36,27 +36,27 @@ use Rattle.joins.specs.declared.pairs.Spines.the-variants.{Apart}
 use Rattle.ordering.specs.declared.repeated.Occurrences.{Occurrences}
 use Rattle.ordering.specs.declared.repeated.Search.{Search}
 use Rattle.ordering.specs.declared.repeated.Search.the-variants.{Found, Nothing}
-use Rattle.agenda.specs.Items.{itemBytes, ItemAt, Fits}
-use Rattle.agenda.specs.State.{patternAt, targetAt, nextAt, Target, Easy, Hard, Node, Chain, weight, weights, Ready}
+use Rattle.agenda.specs.Stored.{storedBytes, StoredAt, StoredFits}
+use Rattle.agenda.specs.State.{patternAt, targetAt, nextAt, Target, Easy, Deferred, Node, Chain, weight, weights, Ready}
 use Rattle.agenda.specs.Moves.{Decided}
-use Rattle.agenda.specs.Items.{matchItem}
+use Rattle.agenda.specs.Stored.{storedMatch}
 use Rattle.ordering.specs.Ordering.{Reaches, Reaches.here, Reaches.further, Drops, Dropped}
 use Rattle.joins.specs.Pairs.{pairsOf, Repeated, Repeats}
 use Rattle.joins.specs.Joins.{Joins, Joint, Joined, Encloses, Enclosed}
-use Rattle.ordering.specs.Repeated.{Listed, Later, Twice, Finds}
+use Rattle.ordering.specs.Repeated.{GoalsListed, Later, Twice, RepeatedFound}
 use Rattle.agenda.proofs.Frame.{Kept, part-kept, byte-kept, word-kept, next-kept, chain-kept, holds-kept, kept-sets, kept-then}
-use Rattle.agenda.proofs.Frame.{length-stored, part-stored, item-stored, chain-match}
-use Rattle.ordering.proofs.Ordering.{first, reaches-some, reaches-kept, few-goals, weight-least}
+use Rattle.agenda.proofs.Frame.{length-stored, part-stored, goal-stored, chain-match}
+use Rattle.ordering.proofs.Ordering.{front-goal, reaches-some, reaches-kept, few-goals, weight-least}
 use Rattle.joins.proofs.Joins.{count-length, joined-ends, joined-joint, joined-no}
 
 -- the steps of a walk over a list
-module _ {P W : List ℕ} {at : ℕ} {r : Item} (x : Listed P W at) (s : ¬ (at ≡ 0)) (y : ItemAt W at r) where
+module _ {P W : List ℕ} {at : ℕ} {r : StoredGoal} (x : GoalsListed P W at) (s : ¬ (at ≡ 0)) (y : StoredAt W at r) where
   pub listed-falls : r .next < at
-  listed-falls = omega (arith, first Hard P W (x .top) at (x .goals) (x .chain) (omega (arith, s)) .node .falls, y .next)
+  listed-falls = omega (arith, front-goal Deferred P W (x .top) at (x .goals) (x .chain) (omega (arith, s)) .node .falls, y .next)
 
-  pub listed-next : Listed P W (r .next)
+  pub listed-next : GoalsListed P W (r .next)
   listed-next =
-      let f = first Hard P W (x .top) at (x .goals) (x .chain) (omega (arith, s)) in
+      let f = front-goal Deferred P W (x .top) at (x .goals) (x .chain) (omega (arith, s)) in
       record {
         top = x .top;
         goals = f .rest;
@@ -69,23 +69,23 @@ module _ {P W : List ℕ} {at : ℕ} {r : Item} (x : Listed P W at) (s : ¬ (at 
 
   pub listed-part : r .kind ≡ 0 → Whole P (r .part)
   listed-part k =
-      let f = first Hard P W (x .top) at (x .goals) (x .chain) (omega (arith, s)) in
+      let f = front-goal Deferred P W (x .top) at (x .goals) (x .chain) (omega (arith, s)) in
       go (f .goal) (f .node)
     where
-      go : (g : Goal) → Node Hard P W (x .top) at g → Whole P (r .part)
+      go : (g : Goal) → Node Deferred P W (x .top) at g → Whole P (r .part)
       go (match p t) n = rw (y .part) (whole P _ p (n .goal .part))
       go (build f t e) n = absurd (omega (arith, y .kind, n .goal .kind))
 
 module _ (P W : List ℕ) (at : ℕ) where
-  pub finds-nothing : Finds P W at Nothing
-  unfolding Finds
+  pub finds-nothing : RepeatedFound P W at Nothing
+  unfolding RepeatedFound
   finds-nothing = tt
 
   pub later-nothing : (i x : ℕ) → Later P W at i x Nothing
   unfolding Later
   later-nothing i x = tt
 
-  module _ (r : Item) (s : ¬ (at ≡ 0)) (y : ItemAt W at r) where
+  module _ (r : StoredGoal) (s : ¬ (at ≡ 0)) (y : StoredAt W at r) where
     some-goal : 0 < at
     some-goal = omega (arith, s)
 
@@ -108,8 +108,8 @@ module _ (P W : List ℕ) (at : ℕ) where
     later-further i x Nothing z = tt
 
     pub finds-here : (o : Search) (q : Occurrences) → r .kind ≡ 0 → o ≡ Found q → Later P W (r .next) at (r .part) o
-        → Finds P W at (Found q)
-    unfolding Later Finds
+        → RepeatedFound P W at (Found q)
+    unfolding Later RepeatedFound
     finds-here o q k e z =
         let w : Later P W (r .next) at (r .part) (Found q) = subst (Later P W (r .next) at (r .part)) e z in
         let f : at ≡ q .first = sym (w .first) in
@@ -122,8 +122,8 @@ module _ (P W : List ℕ) (at : ℕ) where
               (subst (λ (j : ℕ). Repeated P j (patternAt W (q .second)) (q .pairs)) (y .part) (w .repeated));
         }
 
-    pub finds-further : (o : Search) → Finds P W (r .next) o → Finds P W at o
-    unfolding Finds
+    pub finds-further : (o : Search) → RepeatedFound P W (r .next) o → RepeatedFound P W at o
+    unfolding RepeatedFound
     finds-further (Found q) z = record {
       reaches = further some-goal (rw (y .next) at (z .reaches));
       later = z .later;
@@ -133,27 +133,27 @@ module _ (P W : List ℕ) (at : ℕ) where
     }
     finds-further Nothing z = tt
 
-pub found : (P W : List ℕ) (at : ℕ) (o : Search) (r : Occurrences) → o ≡ Found r → Finds P W at o → Twice P W at r
-unfolding Finds
-found P W at o r e x = let y : Finds P W at (Found r) = subst (Finds P W at) e x in y
+pub found : (P W : List ℕ) (at : ℕ) (o : Search) (r : Occurrences) → o ≡ Found r → RepeatedFound P W at o → Twice P W at r
+unfolding RepeatedFound
+found P W at o r e x = let y : RepeatedFound P W at (Found r) = subst (RepeatedFound P W at) e x in y
 
 -- a goal of a list
 record Among (P W : List ℕ) (top i : ℕ) (gs : List Goal) : Type 0 where
   goal : Goal
   rest : List Goal
-  node : Node Hard P W top i goal
-  chain : Chain Hard P W top (nextAt W i) rest
+  node : Node Deferred P W top i goal
+  chain : Chain Deferred P W top (nextAt W i) rest
   weighs : weight goal + weights 0 rest ≤ weights 0 gs
   meets : (φ : ℕ → Term) → All gs φ → Meets goal φ × All rest φ
 
-among : (P W : List ℕ) (top at i : ℕ) (gs : List Goal) → Chain Hard P W top at gs → Reaches W at i → Among P W top i gs
+among : (P W : List ℕ) (top at i : ℕ) (gs : List Goal) → Chain Deferred P W top at gs → Reaches W at i → Among P W top i gs
 among P W top at i [] c (here h e) = absurd (omega (arith, c))
 among P W top at i [] c (further h r) = absurd (omega (arith, c))
 among P W top at i (g ∷ gs) c (here h e) = record {
   goal = g;
   rest = gs;
-  node = subst (λ (j : ℕ). Node Hard P W top j g) e (c .0);
-  chain = subst (λ (j : ℕ). Chain Hard P W top (nextAt W j) gs) e (c .1);
+  node = subst (λ (j : ℕ). Node Deferred P W top j g) e (c .0);
+  chain = subst (λ (j : ℕ). Chain Deferred P W top (nextAt W j) gs) e (c .1);
   weighs = omega arith;
   meets = λ φ m. m;
 }
@@ -178,7 +178,7 @@ record Known (P W : List ℕ) (top i : ℕ) (p t : Term) : Type 0 where
   suits : Listable variables (OccursIn P) (match p t)
 
 known :
-    (P W : List ℕ) (top i : ℕ) (p : Term) (g : Goal) → Node Hard P W top i g → getD W (i + 1) 0 ≡ 0
+    (P W : List ℕ) (top i : ℕ) (p : Term) (g : Goal) → Node Deferred P W top i g → getD W (i + 1) 0 ≡ 0
     → ((f : Term) → Part P (patternAt W i) f → f ≡ p)
     → (t : Term) × Known P W top i p t
 known P W top i p (match f t) n k h =
@@ -196,7 +196,7 @@ known P W top i p (match f t) n k h =
 known P W top i p (build f t e) n k h = absurd (omega (arith, n .goal .kind))
 
 goal-is : (P W X : List ℕ) (top higher i : ℕ) (p t : Term) (g : Goal) → Known P W top i p t → Kept W X top
-    → Node Hard P X higher i g → g ≡ match p t
+    → Node Deferred P X higher i g → g ≡ match p t
 goal-is P W X top higher i p t (match f u) k x n =
     let e : f ≡ p = k .part f (subst (λ (j : ℕ). Part P (4 * j) f) (byte-kept W X top x i (omega (arith, k .room))) (n .goal .part)) in
     let y : Part X (targetAt W i) u =
@@ -232,14 +232,14 @@ kept-same : (W : List ℕ) (top : ℕ) → top ≤ length W → Kept W W top
 kept-same W top h = record { same = refl; from = h; to = h }
 
 module _ {P W : List ℕ} {s : Agenda} {a : List Entry} (x : Ready 0 P W s a) where
-  pub ready-listed : Listed P W (s .hard)
+  pub ready-listed : GoalsListed P W (s .deferred)
   ready-listed =
       let b = x .bounds in
       record {
         top = s .top;
         goals = x .hs;
-        chain = x .state .hard;
-        within = omega (arith, b .hard-room, b .top, b .whole);
+        chain = x .state .deferred;
+        within = omega (arith, b .deferred-room, b .top, b .whole);
         below = omega (arith, b .top, b .whole);
         most = omega (arith, b .whole);
         short = b .short;
@@ -249,18 +249,18 @@ module _ {P W : List ℕ} {s : Agenda} {a : List Entry} (x : Ready 0 P W s a) wh
   unfolding Decided
   decided-open = refl
 
-  module _ {r : Occurrences} (y : Twice P W (s .hard) r) where
+  module _ {r : Occurrences} (y : Twice P W (s .deferred) r) where
     -- the two goals, of any list of goals that stands there
-    one-among : (hs : List Goal) → Chain Hard P W (s .top) (s .hard) hs → Among P W (s .top) (r .first) hs
-    one-among hs c = among P W (s .top) (s .hard) (r .first) hs c (y .reaches)
+    one-among : (hs : List Goal) → Chain Deferred P W (s .top) (s .deferred) hs → Among P W (s .top) (r .first) hs
+    one-among hs c = among P W (s .top) (s .deferred) (r .first) hs c (y .reaches)
 
-    two-among : (hs : List Goal) (c : Chain Hard P W (s .top) (s .hard) hs) → Among P W (s .top) (r .second) (one-among hs c .rest)
+    two-among : (hs : List Goal) (c : Chain Deferred P W (s .top) (s .deferred) hs) → Among P W (s .top) (r .second) (one-among hs c .rest)
     two-among hs c = among P W (s .top) (nextAt W (r .first)) (r .second) (one-among hs c .rest) (one-among hs c .chain) (y .later)
 
     meant : Meant P W s r (y .repeated .number)
     meant =
-        let i = one-among (x .hs) (x .state .hard) in
-        let j = two-among (x .hs) (x .state .hard) in
+        let i = one-among (x .hs) (x .state .deferred) in
+        let j = two-among (x .hs) (x .state .deferred) in
         let f = known P W (s .top) (r .first) (firstPart P (r .pairs) (y .repeated .number)) (i .goal) (i .node) (y .first-kind)
         (y .repeated .first) in
         let g = known P W (s .top) (r .second) (secondPart P (r .pairs) (y .repeated .number)) (j .goal) (j .node) (y .second-kind)
@@ -276,8 +276,8 @@ module _ {P W : List ℕ} {s : Agenda} {a : List Entry} (x : Ready 0 P W s a) wh
     -- each has 2,000 bytes at least
     room-left : s .top + 4000 ≤ tableBytes
     room-left =
-        let i = one-among (x .hs) (x .state .hard) in
-        let j = two-among (x .hs) (x .state .hard) in
+        let i = one-among (x .hs) (x .state .deferred) in
+        let j = two-among (x .hs) (x .state .deferred) in
         omega (
           arith,
           i .weighs,
@@ -298,7 +298,7 @@ module _ {P W : List ℕ} {s : Agenda} {a : List Entry} (x : Ready 0 P W s a) wh
     first-even : r .pairs .first % 4 ≡ 0
     first-even = omega (arith, y .repeated .first-ends .exact (firstPart P (r .pairs) (y .repeated .number)) (meant .first .stands))
 
-    module _ {one two : Item} (i : ItemAt W (r .first) one) (j : ItemAt W (r .second) two) where
+    module _ {one two : StoredGoal} (i : StoredAt W (r .first) one) (j : StoredAt W (r .second) two) where
       target-part : Part W (one .target) (meant .t)
       target-part = rw (i .target) (meant .first .target .part)
 
@@ -333,8 +333,8 @@ module _ {P W : List ℕ} {s : Agenda} {a : List Entry} (x : Ready 0 P W s a) wh
         unfolding Decided
         decided-failed e = record {
           none = λ gs hs l st φ v m.
-              let f = one-among hs (st .hard) in
-              let g = two-among hs (st .hard) in
+              let f = one-among hs (st .deferred) in
+              let g = two-among hs (st .deferred) in
               let k = kept-same W (s .top) (omega (arith, x .bounds .top, x .bounds .whole)) in
               let b = f .meets φ (m .1) in
               let c = g .meets φ (b .1) in
@@ -434,43 +434,45 @@ module _ {P W : List ℕ} {s : Agenda} {a : List Entry} (x : Ready 0 P W s a) wh
                   (part-stored value W (s .top) (omega (arith, value-size, room-left, x .bounds .whole)))
 
               -- and the first goal dropped
-              chain-one : (hs : List Goal) → Chain Hard P W (s .top) (s .hard) hs → Chain Hard P X o (s .hard) hs
-              chain-one hs c = chain-kept W X (s .top) value-kept o (omega (arith, value-end)) P Hard (s .hard) hs c
+              chain-one : (hs : List Goal) → Chain Deferred P W (s .top) (s .deferred) hs → Chain Deferred P X o (s .deferred) hs
+              chain-one hs c = chain-kept W X (s .top) value-kept o (omega (arith, value-end)) P Deferred (s .deferred) hs c
 
-              reaches-one : Reaches X (s .hard) (r .first)
-              reaches-one = reaches-kept W X (s .top) value-kept P Hard (s .hard) (r .first) (x .hs) (x .state .hard) (y .reaches)
+              reaches-one : Reaches X (s .deferred) (r .first)
+              reaches-one =
+                  reaches-kept W X (s .top) value-kept P Deferred (s .deferred) (r .first) (x .hs) (x .state .deferred) (y .reaches)
 
               later-one : Reaches X (nextAt X (r .first)) (r .second)
               later-one =
                   subst (λ (k : ℕ). Reaches X k (r .second)) (sym (next-kept W X (s .top) value-kept (r .first) (meant .first .room)))
-                  (reaches-kept W X (s .top) value-kept P Hard (nextAt W (r .first)) (r .second) (one-among (x .hs) (x .state .hard) .rest)
-                  (one-among (x .hs) (x .state .hard) .chain) (y .later))
+                  (reaches-kept W X (s .top) value-kept P Deferred (nextAt W (r .first)) (r .second)
+                  (one-among (x .hs) (x .state .deferred) .rest)
+                  (one-among (x .hs) (x .state .deferred) .chain) (y .later))
 
-              few-hard : 8 * length (x .hs) ≤ 256
-              few-hard = omega (arith, few-goals P W (s .top) (s .hard) (x .hs) (x .state .hard), x .state .room)
+              few-deferred : 8 * length (x .hs) ≤ 256
+              few-deferred = omega (arith, few-goals P W (s .top) (s .deferred) (x .hs) (x .state .deferred), x .state .room)
 
-              pub forced-drops : Drops X o (s .hard) (r .first)
+              pub forced-drops : Drops X o (s .deferred) (r .first)
               forced-drops =
-                  let f = first Hard P X o (s .hard) (x .hs) (chain-one (x .hs) (x .state .hard))
-                  (reaches-some X (s .hard) (r .first) reaches-one) in
+                  let f = front-goal Deferred P X o (s .deferred) (x .hs) (chain-one (x .hs) (x .state .deferred))
+                  (reaches-some X (s .deferred) (r .first) reaches-one) in
                   record {
                     pattern = P;
                     goals = x .hs;
-                    chain = chain-one (x .hs) (x .state .hard);
+                    chain = chain-one (x .hs) (x .state .deferred);
                     reaches = reaches-one;
                     within = f .node .room;
                     falls = f .node .falls;
                     whole = value-whole;
-                    room = omega (arith, value-end, value-size, few-hard, room-left);
+                    room = omega (arith, value-end, value-size, few-deferred, room-left);
                     even = omega (arith, value-end, x .bounds .even);
                   }
 
-              module _ {Y : List ℕ} {list m : ℕ} (d : Dropped X o (s .hard) (r .first) Y list m) where
+              module _ {Y : List ℕ} {list m : ℕ} (d : Dropped X o (s .deferred) (r .first) Y list m) where
                 reaches-two : Reaches Y list (r .second)
-                reaches-two = d .later P (x .hs) (chain-one (x .hs) (x .state .hard)) reaches-one (r .second) later-one
+                reaches-two = d .later P (x .hs) (chain-one (x .hs) (x .state .deferred)) reaches-one (r .second) later-one
 
                 one-room : m ≤ o + 256
-                one-room = omega (arith, d .go P (x .hs) (chain-one (x .hs) (x .state .hard)) reaches-one .3 .few, few-hard)
+                one-room = omega (arith, d .go P (x .hs) (chain-one (x .hs) (x .state .deferred)) reaches-one .3 .few, few-deferred)
 
                 one-kept : Kept X Y o
                 one-kept = record {
@@ -481,8 +483,8 @@ module _ {P W : List ℕ} {s : Agenda} {a : List Entry} (x : Ready 0 P W s a) wh
 
                 pub forced-drops-two : Drops Y m list (r .second)
                 forced-drops-two =
-                    let b = d .go P (x .hs) (chain-one (x .hs) (x .state .hard)) reaches-one in
-                    let f = first Hard P Y m list (b .1) (b .3 .chain) (reaches-some Y list (r .second) reaches-two) in
+                    let b = d .go P (x .hs) (chain-one (x .hs) (x .state .deferred)) reaches-one in
+                    let f = front-goal Deferred P Y m list (b .1) (b .3 .chain) (reaches-some Y list (r .second) reaches-two) in
                     record {
                       pattern = P;
                       goals = b .1;
@@ -508,7 +510,7 @@ module _ {P W : List ℕ} {s : Agenda} {a : List Entry} (x : Ready 0 P W s a) wh
                 module _ {Z : List ℕ} {rest k : ℕ} (h : Dropped Y m list (r .second) Z rest k) where
                   two-room : k ≤ m + 256
                   two-room =
-                      let b = d .go P (x .hs) (chain-one (x .hs) (x .state .hard)) reaches-one in
+                      let b = d .go P (x .hs) (chain-one (x .hs) (x .state .deferred)) reaches-one in
                       let c = h .go P (b .1) (b .3 .chain) reaches-two in
                       omega (arith, c .3 .few, few-goals P Y m list (b .1) (b .3 .chain), b .3 .weighs, x .state .room)
 
@@ -525,8 +527,8 @@ module _ {P W : List ℕ} {s : Agenda} {a : List Entry} (x : Ready 0 P W s a) wh
                   pub forced-whole : length Z ≡ tableBytes
                   forced-whole = h .whole ∙ d .whole ∙ value-whole
 
-                  module _ (none-easy : s .easy ≡ 0) {q : Item} (g : q ≡ matchItem (r .pairs .first) (s .top) (s .easy)) where
-                    pub forced-fits : Fits q
+                  module _ (none-easy : s .easy ≡ 0) {q : StoredGoal} (g : q ≡ storedMatch (r .pairs .first) (s .top) (s .easy)) where
+                    pub forced-fits : StoredFits q
                     forced-fits =
                         rw g (record {
                           part = omega (arith, y .repeated .first-ends .within, x .bounds .short);
@@ -535,12 +537,12 @@ module _ {P W : List ℕ} {s : Agenda} {a : List Entry} (x : Ready 0 P W s a) wh
                           argument = omega arith;
                         })
 
-                    module _ {U : List ℕ} (b : U ≡ sets Z k (itemBytes q)) where
-                      goal-stored : U ≡ sets Z k (itemBytes (matchItem (r .pairs .first) (s .top) (s .easy)))
-                      goal-stored = b ∙ ap (λ (c : Item). sets Z k (itemBytes c)) g
+                    module _ {U : List ℕ} (b : U ≡ sets Z k (storedBytes q)) where
+                      bytes-stored : U ≡ sets Z k (storedBytes (storedMatch (r .pairs .first) (s .top) (s .easy)))
+                      bytes-stored = b ∙ ap (λ (c : StoredGoal). sets Z k (storedBytes c)) g
 
                       goal-kept : Kept Z U k
-                      goal-kept = kept-sets (itemBytes q) Z U k k b (omega arith) (omega (arith, forced-whole, forced-room))
+                      goal-kept = kept-sets (storedBytes q) Z U k k b (omega arith) (omega (arith, forced-whole, forced-room))
 
                       from-value : Kept X U o
                       from-value = kept-then X Y U o m (d .higher) one-kept (kept-then Y Z U m k (h .higher) two-kept goal-kept)
@@ -575,18 +577,18 @@ module _ {P W : List ℕ} {s : Agenda} {a : List Entry} (x : Ready 0 P W s a) wh
                       goal-chain : Chain Easy P U (k + 8) k (match (var (y .repeated .number)) value ∷ [])
                       goal-chain =
                           let f = y .repeated .variable in
-                          chain-match Easy P U (k + 8) k (matchItem (r .pairs .first) (s .top) (s .easy))
-                          (item-stored Z U k (matchItem (r .pairs .first) (s .top) (s .easy)) goal-stored
+                          chain-match Easy P U (k + 8) k (storedMatch (r .pairs .first) (s .top) (s .easy))
+                          (goal-stored Z U k (storedMatch (r .pairs .first) (s .top) (s .easy)) bytes-stored
                           (omega (arith, forced-whole, forced-room)) first-even (x .bounds .even) (x .bounds .easy-even) (omega arith))
                           (omega (arith, x .bounds .start, value-end, d .higher, h .higher)) (omega arith) (h .even)
                           (omega (arith, none-easy, x .bounds .start, value-end, d .higher, h .higher))
                           (var (y .repeated .number)) value [] refl tt f value-target goal-listable none-easy
 
-                      pub decided-next : Decided 0 P W s a U (decision.Next (record { top = k + 8; easy = k; hard = rest }))
+                      pub decided-next : Decided 0 P W s a U (decision.Next (record { top = k + 8; easy = k; deferred = rest }))
                       unfolding Decided value
                       decided-next = record {
                         go = λ gs hs l st.
-                            let b₁ = d .go P hs (chain-one hs (st .hard)) reaches-one in
+                            let b₁ = d .go P hs (chain-one hs (st .deferred)) reaches-one in
                             let b₂ = h .go P (b₁ .1) (b₁ .3 .chain) reaches-two in
                             let g₁ = goal-is P W X (s .top) o (r .first) _ (meant .t) (b₁ .0) (meant .first) value-kept (b₁ .2) in
                             let g₂ = goal-is P W Y (s .top) m (r .second) _ (meant .u) (b₂ .0) (meant .second)
@@ -598,7 +600,7 @@ module _ {P W : List ℕ} {s : Agenda} {a : List Entry} (x : Ready 0 P W s a) wh
                               line = l;
                               state = record {
                                 easy = goal-chain;
-                                hard = chain-kept Z U k goal-kept (k + 8) (omega arith) P Hard rest (b₂ .1) (b₂ .3 .chain);
+                                deferred = chain-kept Z U k goal-kept (k + 8) (omega arith) P Deferred rest (b₂ .1) (b₂ .3 .chain);
                                 entries = holds-kept W U (s .top) all-kept (k + 8)
                                     (omega (arith, value-end, d .higher, h .higher)) a l (st .entries);
                                 line = st .line;
@@ -647,14 +649,14 @@ module _ {P W : List ℕ} {s : Agenda} {a : List Entry} (x : Ready 0 P W s a) wh
                         higher = omega (arith, value-end, d .higher, h .higher);
                         falls = omega (arith, value-end, d .higher, h .higher, forced-room, none-easy);
                         bounds = record {
-                          whole = length-stored (itemBytes q) Z U k b ∙ forced-whole;
+                          whole = length-stored (storedBytes q) Z U k b ∙ forced-whole;
                           short = x .bounds .short;
                           top = forced-room;
                           start = omega arith;
                           even = omega (arith, h .even);
                           easy-room = omega arith;
                           easy-even = h .even;
-                          hard-room = omega (arith, h .below);
-                          hard-even = h .list-even;
+                          deferred-room = omega (arith, h .below);
+                          deferred-even = h .list-even;
                         };
                       }

@@ -1,4 +1,4 @@
--- Lists of goals put off: a goal is dropped from one and put in front. By the list, each goal before the dropped one being written anew
+-- Lists of deferred goals: a goal is dropped from one and put in front. By the list, each goal before the dropped one being written anew
 -- with what is left of the list behind it. Assumes nothing.
 use mathlib.Core.Path.{_≡_, refl, sym, ap, _∙_, subst}
 use mathlib.Core.Logic.{_↔_}
@@ -9,36 +9,37 @@ use lib.ListN.{length, getD, take, drop}
 use lib.Seq.{sets}
 use Rattle.terms.specs.Figures.{variables, patternRecords, tableBytes}
 use Rattle.terms.specs.Term.{Term, app, lam, loc, con, var, size, Below}
-use Rattle.matching.proofs.Goals.{Goal, Goal.match, Goal.build, Meets, All}
+use Rattle.matching.specs.Goals.{Goal, Goal.match, Goal.build, Meets, All}
+use Rattle.matching.specs.Occurrences.{partAt}
 use Rattle.records.specs.Parts.{Part, Whole, Ends}
 use Rattle.records.proofs.Parts.{part-bytes, whole, kind-at, whole-head, whole-argument}
 use Rattle.assignments.specs.declared.Entry.{Entry}
 use Rattle.abstractions.specs.Bodies.{Counting}
 use Rattle.abstractions.proofs.Occurrences.{part-at}
 use Rattle.agenda.specs.declared.Agenda.{Agenda}
-use Rattle.agenda.specs.declared.Item.{Item}
-use Rattle.agenda.specs.Items.{itemBytes, ItemAt, Fits}
-use Rattle.agenda.specs.State.{patternAt, nextAt, GoalAt, Easy, Hard, Node, Chain, weight, weights, Ready}
+use Rattle.agenda.specs.declared.StoredGoal.{StoredGoal}
+use Rattle.agenda.specs.Stored.{storedBytes, StoredAt, StoredFits}
+use Rattle.agenda.specs.State.{patternAt, nextAt, GoalAt, Easy, Deferred, Node, Chain, weight, weights, Ready}
 use Rattle.ordering.specs.Forwarding.{Forwarded}
-use Rattle.builds.specs.Ground.{HasEntries}
+use Rattle.builds.specs.Deciding.{HasEntries}
 use Rattle.agenda.specs.Locals.{Locals}
 use Rattle.ordering.specs.Ordering.{Reaches, Reaches.here, Reaches.further, linked, Branches, Weighs, Ranks, Drops, Dropped}
-use Rattle.matching.proofs.Occurrences.{partAt}
 use Rattle.matching.proofs.Targets.{closed-more}
-use Rattle.agenda.proofs.Frame.{Kept, next-kept, target-kept, chain-kept, holds-kept, kept-sets, kept-then, length-stored, item-stored}
+use Rattle.agenda.proofs.Frame.{Kept, next-kept, target-kept, chain-kept, holds-kept, kept-sets, kept-then, length-stored, goal-stored}
 use Rattle.agenda.proofs.Frame.{chain-match, chain-build}
 
 -- the goal at the front of a list, and the list behind it
-pub record First (K : Goal → Type 0) (P W : List ℕ) (top at : ℕ) (gs : List Goal) : Type 0 where
+pub record FrontGoal (K : Goal → Type 0) (P W : List ℕ) (top at : ℕ) (gs : List Goal) : Type 0 where
   pub goal : Goal
   pub rest : List Goal
   pub is : gs ≡ goal ∷ rest
   pub node : Node K P W top at goal
   pub chain : Chain K P W top (nextAt W at) rest
 
-pub first : (K : Goal → Type 0) (P W : List ℕ) (top at : ℕ) (gs : List Goal) → Chain K P W top at gs → 0 < at → First K P W top at gs
-first K P W top at [] x h = absurd (omega (arith, x))
-first K P W top at (g ∷ gs) x h = record { goal = g; rest = gs; is = refl; node = x .0; chain = x .1 }
+pub front-goal : (K : Goal → Type 0) (P W : List ℕ) (top at : ℕ) (gs : List Goal) → Chain K P W top at gs → 0 < at
+    → FrontGoal K P W top at gs
+front-goal K P W top at [] x h = absurd (omega (arith, x))
+front-goal K P W top at (g ∷ gs) x h = record { goal = g; rest = gs; is = refl; node = x .0; chain = x .1 }
 
 all-first : (gs : List Goal) (g : Goal) (rs : List Goal) → gs ≡ g ∷ rs → (φ : ℕ → Term) → All gs φ ↔ (Meets g φ × All rs φ)
 all-first gs g rs e φ = subst (λ (l : List Goal). All l φ ↔ (Meets g φ × All rs φ)) (sym e) (λ x. x, λ x. x)
@@ -64,10 +65,10 @@ reaches-kept W X top k P K at i (g ∷ gs) c (further h r) =
     (subst (λ (j : ℕ). Reaches X j i) (sym (next-kept W X top k at (c .0 .room))) (reaches-kept W X top k P K (nextAt W at) i gs (c .1) r))
 
 ranks :
-    (P W : List ℕ) (top at : ℕ) (gs : List Goal) → Chain Hard P W top at gs → 0 < at → top ≤ length W → length W ≤ tableBytes
+    (P W : List ℕ) (top at : ℕ) (gs : List Goal) → Chain Deferred P W top at gs → 0 < at → top ≤ length W → length W ≤ tableBytes
     → length P ≤ 4 * patternRecords → Ranks P W at
 ranks P W top at gs c h b m l =
-    let f = first Hard P W top at gs c h in
+    let f = front-goal Deferred P W top at gs c h in
     record {
       top = top;
       goals = gs;
@@ -80,57 +81,57 @@ ranks P W top at gs c h b m l =
       short = l;
     }
 
-linked-fits : {r q : Item} {n : ℕ} → Fits r → q ≡ linked r n → n < 262144 → Fits q
+linked-fits : {r q : StoredGoal} {n : ℕ} → StoredFits r → q ≡ linked r n → n < 262144 → StoredFits q
 linked-fits f e h = rw e (record { part = f .part; target = f .target; next = h; argument = f .argument })
 
 -- a goal that is written anew above `top`, in front of a list
 pub anew :
-    (P W X : List ℕ) (top at o n : ℕ) (r : Item) (g : Goal) (gs : List Goal) → Kept W X top → top ≤ o → Node Hard P W top at g
-    → ItemAt W at r → ItemAt X o (linked r n)
-    → n < o → o % 4 ≡ 0 → Chain Hard P X (o + 8) n gs → Chain Hard P X (o + 8) o (g ∷ gs)
+    (P W X : List ℕ) (top at o n : ℕ) (r : StoredGoal) (g : Goal) (gs : List Goal) → Kept W X top → top ≤ o → Node Deferred P W top at g
+    → StoredAt W at r → StoredAt X o (linked r n)
+    → n < o → o % 4 ≡ 0 → Chain Deferred P X (o + 8) n gs → Chain Deferred P X (o + 8) o (g ∷ gs)
 anew P W X top at o n r (match p t) gs k h x y z l e c =
     let q = x .goal in
-    chain-match Hard P X (o + 8) o (linked r n) z (omega (arith, x .room)) (omega arith) e l p t gs
+    chain-match Deferred P X (o + 8) o (linked r n) z (omega (arith, x .room)) (omega arith) e l p t gs
     (y .kind ∙ q .kind) (x .kind) (rw (y .part) (q .part))
     (rw (y .target) (target-kept W X top k (o + 8) (omega arith) _ _ t (q .target))) (q .suits) c
 anew P W X top at o n r (build f t e) gs k h x y z l ev c =
     let q = x .goal in
-    chain-build Hard P X (o + 8) o (linked r n) z (omega (arith, x .room)) (omega arith) ev l f t e gs
+    chain-build Deferred P X (o + 8) o (linked r n) z (omega (arith, x .room)) (omega arith) ev l f t e gs
     (y .kind ∙ q .kind) (x .kind) (rw (y .part) (q .part)) (rw (y .target) (target-kept W X top k (o + 8) (omega arith) _ _ t (q .target)))
     (rw (y .argument) (target-kept W X top k (o + 8) (omega arith) _ _ e (q .argument))) (q .suits) c
 
-module _ {W X Y : List ℕ} {top at j i list end : ℕ} {r q : Item} (x : ItemAt W at r) (y : Dropped W top j i X list end)
+module _ {W X Y : List ℕ} {top at j i list end : ℕ} {r q : StoredGoal} (x : StoredAt W at r) (y : Dropped W top j i X list end)
     (whole : length W ≡ tableBytes)
-    (room : end + 8 ≤ tableBytes) (e : q ≡ linked r list) (s : Y ≡ sets X end (itemBytes q)) where
-  stored : Y ≡ sets X end (itemBytes (linked r list))
-  stored = s ∙ ap (λ (z : Item). sets X end (itemBytes z)) e
+    (room : end + 8 ≤ tableBytes) (e : q ≡ linked r list) (s : Y ≡ sets X end (storedBytes q)) where
+  stored : Y ≡ sets X end (storedBytes (linked r list))
+  stored = s ∙ ap (λ (z : StoredGoal). sets X end (storedBytes z)) e
 
   list-kept : Kept X Y end
-  list-kept = kept-sets (itemBytes (linked r list)) X Y end end stored (omega arith) (omega (arith, y .whole))
+  list-kept = kept-sets (storedBytes (linked r list)) X Y end end stored (omega arith) (omega (arith, y .whole))
 
   below-kept : Kept W Y top
   below-kept = kept-then W X Y top end (y .higher)
       (record { same = y .kept; from = omega (arith, y .higher); to = omega (arith, y .higher, y .whole) }) list-kept
 
-  stands : ItemAt Y end (linked r list)
-  stands = item-stored X Y end (linked r list) stored (omega (arith, y .whole)) (omega (arith, x .part)) (omega (arith, x .target))
+  stands : StoredAt Y end (linked r list)
+  stands = goal-stored X Y end (linked r list) stored (omega (arith, y .whole)) (omega (arith, x .part)) (omega (arith, x .target))
       (y .list-even) (omega (arith, x .argument))
 
-  in-front : (P : List ℕ) (g : Goal) (gs : List Goal) → Node Hard P W top at g → Chain Hard P X end list gs
-      → Chain Hard P Y (end + 8) end (g ∷ gs)
+  in-front : (P : List ℕ) (g : Goal) (gs : List Goal) → Node Deferred P W top at g → Chain Deferred P X end list gs
+      → Chain Deferred P Y (end + 8) end (g ∷ gs)
   in-front P g gs n c =
       anew P W Y top at end list r g gs below-kept (y .higher) n x stands (omega (arith, y .below)) (y .even)
-      (chain-kept X Y end list-kept (end + 8) (omega arith) P Hard list gs c)
+      (chain-kept X Y end list-kept (end + 8) (omega arith) P Deferred list gs c)
 
 -- the steps of a walk that drops a goal
-module _ {W : List ℕ} {top at i : ℕ} {r : Item} (d : Drops W top at i) (x : ItemAt W at r) where
+module _ {W : List ℕ} {top at i : ℕ} {r : StoredGoal} (d : Drops W top at i) (x : StoredAt W at r) where
   pub dropped-here : at ≡ i → Dropped W top at i W (r .next) top
   dropped-here e = record {
     go = λ P gs c y.
-        let f = first Hard P W top at gs c (reaches-some W at i y) in (
+        let f = front-goal Deferred P W top at gs c (reaches-some W at i y) in (
           f .goal,
           f .rest,
-          subst (λ (j : ℕ). Node Hard P W top j (f .goal)) e (f .node),
+          subst (λ (j : ℕ). Node Deferred P W top j (f .goal)) e (f .node),
           record {
             chain = rw (x .next) (f .chain);
             few = omega (arith, ap length (f .is));
@@ -153,9 +154,9 @@ module _ {W : List ℕ} {top at i : ℕ} {r : Item} (d : Drops W top at i) (x : 
 
     pub drops-next : Drops W top (r .next) i
     drops-next =
-        let f = first Hard (d .pattern) W top at (d .goals) (d .chain) (reaches-some W at i (d .reaches)) in
-        let c : Chain Hard (d .pattern) W top (r .next) (f .rest) = rw (x .next) (f .chain) in
-        let g = first Hard (d .pattern) W top (r .next) (f .rest) c (reaches-some W (r .next) i next-reached) in
+        let f = front-goal Deferred (d .pattern) W top at (d .goals) (d .chain) (reaches-some W at i (d .reaches)) in
+        let c : Chain Deferred (d .pattern) W top (r .next) (f .rest) = rw (x .next) (f .chain) in
+        let g = front-goal Deferred (d .pattern) W top (r .next) (f .rest) c (reaches-some W (r .next) i next-reached) in
         record {
           pattern = d .pattern;
           goals = f .rest;
@@ -174,13 +175,14 @@ module _ {W : List ℕ} {top at i : ℕ} {r : Item} (d : Drops W top at i) (x : 
           let z = y .go (drops-next .pattern) (drops-next .goals) (drops-next .chain) next-reached in
           omega (arith, z .3 .few, drops-next .room)
 
-      pub anew-fits : Fits r → {q : Item} → q ≡ linked r list → Fits q
+      pub anew-fits : StoredFits r → {q : StoredGoal} → q ≡ linked r list → StoredFits q
       anew-fits f e = linked-fits f e (omega (arith, anew-room, y .below))
 
-      pub dropped-further : {Y : List ℕ} {q : Item} → q ≡ linked r list → Y ≡ sets X end (itemBytes q) → Dropped W top at i Y end (end + 8)
+      pub dropped-further : {Y : List ℕ} {q : StoredGoal} → q ≡ linked r list → Y ≡ sets X end (storedBytes q)
+          → Dropped W top at i Y end (end + 8)
       dropped-further {Y} {q} e s = record {
         go = λ P gs c u.
-            let f = first Hard P W top at gs c (reaches-some W at i u) in
+            let f = front-goal Deferred P W top at gs c (reaches-some W at i u) in
             let b = y .go P (f .rest) (rw (x .next) (f .chain)) next-reached in (
               b .0,
               f .goal ∷ b .1,
@@ -196,15 +198,15 @@ module _ {W : List ℕ} {top at i : ℕ} {r : Item} (d : Drops W top at i) (x : 
               },
             );
         later = λ P gs c u j h.
-            let f = first Hard P W top at gs c (reaches-some W at i u) in
-            let t : Chain Hard P W top (r .next) (f .rest) = rw (x .next) (f .chain) in
+            let f = front-goal Deferred P W top at gs c (reaches-some W at i u) in
+            let t : Chain Deferred P W top (r .next) (f .rest) = rw (x .next) (f .chain) in
             let b = y .go P (f .rest) t next-reached in
-            let k = reaches-kept X Y end (list-kept x y (d .whole) anew-room e s) P Hard list j (b .1) (b .3 .chain)
+            let k = reaches-kept X Y end (list-kept x y (d .whole) anew-room e s) P Deferred list j (b .1) (b .3 .chain)
             (y .later P (f .rest) t next-reached j h) in
             let n : 0 < end = omega (arith, y .below) in
             further n (subst (λ (n : ℕ). Reaches Y n j) (stands x y (d .whole) anew-room e s .next) k);
         kept = below-kept x y (d .whole) anew-room e s .same;
-        whole = length-stored (itemBytes q) X Y end s ∙ y .whole;
+        whole = length-stored (storedBytes q) X Y end s ∙ y .whole;
         higher = omega (arith, y .higher);
         even = omega (arith, y .even);
         list-even = y .even;
@@ -212,7 +214,7 @@ module _ {W : List ℕ} {top at i : ℕ} {r : Item} (d : Drops W top at i) (x : 
       }
 
 -- the parts of a goal whose cost is asked
-module _ {P W : List ℕ} {at : ℕ} {r : Item} (x : Weighs P W at) (y : ItemAt W at r) where
+module _ {P W : List ℕ} {at : ℕ} {r : StoredGoal} (x : Weighs P W at) (y : StoredAt W at r) where
   pub weighs-target : Whole W (r .target)
   weighs-target = cases (x .goal) (x .stands)
     where
@@ -240,9 +242,10 @@ module _ {P W : List ℕ} {at : ℕ} {r : Item} (x : Weighs P W at) (y : ItemAt 
       cases (build f t e) z = has f (z .part) (z .suits .0 .0)
 
   pub weighs-branches : r .kind ≡ 0 → Branches P (r .part) W (r .target)
-  weighs-branches n = record { part = weighs-part; kind = cases (x .goal) (x .stands) (x .hard); target = weighs-target; most = x .most }
+  weighs-branches n =
+      record { part = weighs-part; kind = cases (x .goal) (x .stands) (x .deferred); target = weighs-target; most = x .most }
     where
-      cases : (g : Goal) → GoalAt P W (x .top) at g → Hard g → getD P (r .part) 0 ≡ 0
+      cases : (g : Goal) → GoalAt P W (x .top) at g → Deferred g → getD P (r .part) 0 ≡ 0
       cases (match (app f a) t) z h = rw (y .part) (kind-at P (patternAt W at) (app f a) (z .part))
       cases (match (lam b) t) z h = absurd h
       cases (match (loc i) t) z h = absurd h
@@ -298,54 +301,55 @@ module _ {P W : List ℕ} {i j : ℕ} (x : Branches P i W j) where
 
 -- the steps of a walk over a list
 module _ {P W : List ℕ} {at : ℕ} (x : Ranks P W at) where
-  front : First Hard P W (x .top) at (x .goals)
-  front = first Hard P W (x .top) at (x .goals) (x .chain) (x .some)
+  front : FrontGoal Deferred P W (x .top) at (x .goals)
+  front = front-goal Deferred P W (x .top) at (x .goals) (x .chain) (x .some)
 
   pub ranks-weighs : Weighs P W at
   ranks-weighs = record {
     top = x .top;
     goal = front .goal;
     stands = front .node .goal;
-    hard = front .node .kind;
+    deferred = front .node .kind;
     within = x .within;
     most = x .most;
     short = x .short;
   }
 
-  pub ranks-next : {r : Item} → ItemAt W at r → ¬ (r .next ≡ 0) → Ranks P W (r .next)
+  pub ranks-next : {r : StoredGoal} → StoredAt W at r → ¬ (r .next ≡ 0) → Ranks P W (r .next)
   ranks-next {r} y n =
-      let c : Chain Hard P W (x .top) (r .next) (front .rest) = rw (y .next) (front .chain) in
+      let c : Chain Deferred P W (x .top) (r .next) (front .rest) = rw (y .next) (front .chain) in
       ranks P W (x .top) (r .next) (front .rest) c (omega (arith, n)) (x .below) (x .most) (x .short)
 
   pub ranks-here : Reaches W at at
   ranks-here = here (x .some) refl
 
-  pub ranks-further : {r : Item} {i : ℕ} → ItemAt W at r → Reaches W (r .next) i → Reaches W at i
+  pub ranks-further : {r : StoredGoal} {i : ℕ} → StoredAt W at r → Reaches W (r .next) i → Reaches W at i
   ranks-further y h = further (x .some) (rw (y .next) at h)
 
 -- the goal that a list comes to
-pub reached : (P W : List ℕ) (top at i : ℕ) (gs : List Goal) → Chain Hard P W top at gs → Reaches W at i
-    → (g : Goal) × Node Hard P W top i g
-reached P W top at i [] c (here h e) = absurd (omega (arith, c))
-reached P W top at i [] c (further h r) = absurd (omega (arith, c))
-reached P W top at i (g ∷ gs) c (here h e) = (g, subst (λ (j : ℕ). Node Hard P W top j g) e (c .0))
-reached P W top at i (g ∷ gs) c (further h r) = reached P W top (nextAt W at) i gs (c .1) r
+pub goal-reached : (P W : List ℕ) (top at i : ℕ) (gs : List Goal) → Chain Deferred P W top at gs → Reaches W at i
+    → (g : Goal) × Node Deferred P W top i g
+goal-reached P W top at i [] c (here h e) = absurd (omega (arith, c))
+goal-reached P W top at i [] c (further h r) = absurd (omega (arith, c))
+goal-reached P W top at i (g ∷ gs) c (here h e) = (g, subst (λ (j : ℕ). Node Deferred P W top j g) e (c .0))
+goal-reached P W top at i (g ∷ gs) c (further h r) = goal-reached P W top (nextAt W at) i gs (c .1) r
 
--- a goal put off has a weight of 2,000 or more, so that there are few
+-- a deferred goal has a weight of 2,000 or more, so that there are few
 pub weight-least : (P W : List ℕ) (top at : ℕ) (g : Goal) → GoalAt P W top at g → 2000 ≤ weight g
 weight-least P W top at (match p t) x = omega (arith, x .part .some)
 weight-least P W top at (build f t e) x = omega (arith, x .part .some)
 
-pub few-goals : (P W : List ℕ) (top at : ℕ) (gs : List Goal) → Chain Hard P W top at gs → 2000 * length gs ≤ weights 0 gs
+pub few-goals : (P W : List ℕ) (top at : ℕ) (gs : List Goal) → Chain Deferred P W top at gs → 2000 * length gs ≤ weights 0 gs
 few-goals P W top at [] c = omega arith
 few-goals P W top at (g ∷ gs) c = omega (arith, weight-least P W top at g (c .0 .goal), few-goals P W top (nextAt W at) gs (c .1))
 
 -- the goal that is to be first is brought there
-module _ {P W : List ℕ} {s : Agenda} {a : List Entry} (x : Ready 0 P W s a) (none : s .easy ≡ 0) (some : 0 < s .hard) where
-  pub ready-ranks : Ranks P W (s .hard)
+module _ {P W : List ℕ} {s : Agenda} {a : List Entry} (x : Ready 0 P W s a) (none : s .easy ≡ 0) (some : 0 < s .deferred) where
+  pub ready-ranks : Ranks P W (s .deferred)
   ready-ranks =
       let b = x .bounds in
-      ranks P W (s .top) (s .hard) (x .hs) (x .state .hard) some (omega (arith, b .top, b .whole)) (omega (arith, b .whole)) (b .short)
+      ranks P W (s .top) (s .deferred) (x .hs) (x .state .deferred) some (omega (arith, b .top, b .whole)) (omega (arith, b .whole))
+      (b .short)
 
   pub forwarded-same : Forwarded P W s a W s
   forwarded-same = record {
@@ -355,7 +359,7 @@ module _ {P W : List ℕ} {s : Agenda} {a : List Entry} (x : Ready 0 P W s a) (n
       line = l;
       state = record {
         easy = y .easy;
-        hard = y .hard;
+        deferred = y .deferred;
         entries = y .entries;
         line = y .line;
         assigns = y .assigns;
@@ -368,23 +372,24 @@ module _ {P W : List ℕ} {s : Agenda} {a : List Entry} (x : Ready 0 P W s a) (n
     level = omega arith;
     bounds = x .bounds;
     none-easy = none;
-    some-hard = some;
+    some-deferred = some;
   }
 
   relinking-room : s .top + 8 * length (x .hs) ≤ tableBytes
-  relinking-room = omega (arith, few-goals P W (s .top) (s .hard) (x .hs) (x .state .hard), x .state .room)
+  relinking-room = omega (arith, few-goals P W (s .top) (s .deferred) (x .hs) (x .state .deferred), x .state .room)
 
-  module _ {i : ℕ} (h : Reaches W (s .hard) i) where
+  module _ {i : ℕ} (h : Reaches W (s .deferred) i) where
     pub reached-room : i + 8 ≤ length W
-    reached-room = omega (arith, reached P W (s .top) (s .hard) i (x .hs) (x .state .hard) h .1 .room, x .bounds .top, x .bounds .whole)
+    reached-room =
+        omega (arith, goal-reached P W (s .top) (s .deferred) i (x .hs) (x .state .deferred) h .1 .room, x .bounds .top, x .bounds .whole)
 
-    pub ready-drops : Drops W (s .top) (s .hard) i
+    pub ready-drops : Drops W (s .top) (s .deferred) i
     ready-drops =
-        let f = first Hard P W (s .top) (s .hard) (x .hs) (x .state .hard) some in
+        let f = front-goal Deferred P W (s .top) (s .deferred) (x .hs) (x .state .deferred) some in
         record {
           pattern = P;
           goals = x .hs;
-          chain = x .state .hard;
+          chain = x .state .deferred;
           reaches = h;
           within = f .node .room;
           falls = f .node .falls;
@@ -393,31 +398,31 @@ module _ {P W : List ℕ} {s : Agenda} {a : List Entry} (x : Ready 0 P W s a) (n
           even = x .bounds .even;
         }
 
-    module _ {r : Item} {X : List ℕ} {list end : ℕ} (y : ItemAt W i r) (z : Dropped W (s .top) (s .hard) i X list end) where
+    module _ {r : StoredGoal} {X : List ℕ} {list end : ℕ} (y : StoredAt W i r) (z : Dropped W (s .top) (s .deferred) i X list end) where
       pub forward-room : end + 8 ≤ tableBytes
-      forward-room = omega (arith, z .go P (x .hs) (x .state .hard) h .3 .few, relinking-room)
+      forward-room = omega (arith, z .go P (x .hs) (x .state .deferred) h .3 .few, relinking-room)
 
-      pub forward-fits : Fits r → {q : Item} → q ≡ linked r list → Fits q
+      pub forward-fits : StoredFits r → {q : StoredGoal} → q ≡ linked r list → StoredFits q
       forward-fits f e = linked-fits f e (omega (arith, forward-room, z .below))
 
-      pub forwarded : {q : Item} {Y : List ℕ} → q ≡ linked r list → Y ≡ sets X end (itemBytes q)
-          → Forwarded P W s a Y (record { top = end + 8; easy = s .easy; hard = end })
+      pub forwarded : {q : StoredGoal} {Y : List ℕ} → q ≡ linked r list → Y ≡ sets X end (storedBytes q)
+          → Forwarded P W s a Y (record { top = end + 8; easy = s .easy; deferred = end })
       forwarded {q} {Y} e w =
           let k : Kept W Y (s .top) = below-kept y z (x .bounds .whole) forward-room e w in
           record {
             go = λ gs hs l u.
-                let b = z .go P hs (u .hard) h in
+                let b = z .go P hs (u .deferred) h in
                 record {
                   gs = gs;
                   hs = b .0 ∷ b .1;
                   line = l;
                   state = record {
                     easy = chain-kept W Y (s .top) k (end + 8) (omega (arith, z .higher)) P Easy (s .easy) gs (u .easy);
-                    hard = in-front y z (x .bounds .whole) forward-room e w P (b .0) (b .1) (b .2) (b .3 .chain);
+                    deferred = in-front y z (x .bounds .whole) forward-room e w P (b .0) (b .1) (b .2) (b .3 .chain);
                     entries = holds-kept W Y (s .top) k (end + 8) (omega (arith, z .higher)) a l (u .entries);
                     line = u .line;
                     assigns = u .assigns;
-                    room = omega (arith, few-goals P W (s .top) (s .hard) hs (u .hard), u .room, b .3 .few, b .3 .weighs);
+                    room = omega (arith, few-goals P W (s .top) (s .deferred) hs (u .deferred), u .room, b .3 .few, b .3 .weighs);
                   };
                   same = λ φ v. (
                     λ m. let n = b .3 .same φ .0 (m .1) in (m .0, (n .0, n .1), m .2),
@@ -428,16 +433,16 @@ module _ {P W : List ℕ} {s : Agenda} {a : List Entry} (x : Ready 0 P W s a) (n
             higher = omega (arith, z .higher);
             level = omega (arith, z .higher);
             bounds = record {
-              whole = length-stored (itemBytes q) X Y end w ∙ z .whole ∙ x .bounds .whole;
+              whole = length-stored (storedBytes q) X Y end w ∙ z .whole ∙ x .bounds .whole;
               short = x .bounds .short;
               top = forward-room;
               start = omega arith;
               even = omega (arith, z .even);
               easy-room = omega (arith, x .bounds .easy-room, z .higher);
               easy-even = x .bounds .easy-even;
-              hard-room = omega arith;
-              hard-even = z .even;
+              deferred-room = omega arith;
+              deferred-even = z .even;
             };
             none-easy = none;
-            some-hard = omega (arith, z .higher, x .bounds .start);
+            some-deferred = omega (arith, z .higher, x .bounds .start);
           }

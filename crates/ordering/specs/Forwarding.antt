@@ -1,4 +1,4 @@
--- Another goal put off is brought to the front.
+-- Another deferred goal is brought to the front.
 --   Brought, Forwarded ..   the same goals, another one first
 use mathlib.Core.Path.{_≡_}
 use mathlib.Core.Logic.{_↔_}
@@ -7,9 +7,8 @@ use Prim.Native.Nat.{ℕ, _<_, _≤_}
 use lib.ListN.{take}
 use Rattle.terms.specs.Term.{Term}
 use Rattle.terms.specs.Listing.{Line}
-use Rattle.matching.proofs.Lines.{Values}
-use Rattle.matching.proofs.Lists.{Predicate}
-use Rattle.matching.proofs.Goals.{Goal}
+use Rattle.matching.specs.Lists.{Values, Predicate}
+use Rattle.matching.specs.Goals.{Goal}
 use Rattle.assignments.specs.declared.Entry.{Entry}
 use Rattle.agenda.specs.declared.Agenda.{Agenda}
 use Rattle.agenda.specs.State.{State, Sat, Bounds, relinking}
@@ -29,4 +28,4 @@ pub record Forwarded (P W : List ℕ) (s : Agenda) (a : List Entry) (W′ : List
   pub level : progress s′ ≤ progress s
   pub bounds : Bounds P W′ s′
   pub none-easy : s′ .easy ≡ 0
-  pub some-hard : 0 < s′ .hard
+  pub some-deferred : 0 < s′ .deferred

@@ -1,27 +1,27 @@
--- Two goals put off that apply one variable to different constants.
---   Listed P W at          a list of goals put off begins at byte `at`
---   Second P W at i x r    the first goal of r is the one at byte i; the list from byte `at` on comes to the second, whose part repeats the
---                          variable of the one at byte x of P
---   Later P W at i x r     if r has two goals, that holds of them
---   Twice P W at r         the list from byte `at` on comes to the two goals of r, one after the other, whose parts repeat one variable
---   Finds P W at r         if r has two goals, that holds of them
+-- Two deferred goals that apply one variable to different constants.
+--   GoalsListed P W at       a list of deferred goals begins at byte `at`
+--   Second P W at i x r      the first goal of r is the one at byte i; the list from byte `at` on comes to the second, whose part repeats
+--                            the variable of the one at byte x of P
+--   Later P W at i x r       if r has two goals, that holds of them
+--   Twice P W at r           the list from byte `at` on comes to the two goals of r, one after the other, whose parts repeat one variable
+--   RepeatedFound P W at r   if r has two goals, that holds of them
 use mathlib.Core.Path.{_≡_}
 use mathlib.Core.List.{List}
 use Prim.Native.Nat.{ℕ, _+_, _*_, _≤_}
 use lib.ListN.{length, getD}
 use Rattle.terms.specs.Figures.{patternRecords, tableBytes}
-use Rattle.matching.proofs.Goals.{Goal}
+use Rattle.matching.specs.Goals.{Goal}
 use Rattle.ordering.specs.declared.repeated.Occurrences.{Occurrences}
 use Rattle.ordering.specs.declared.repeated.Search.{Search}
 use Rattle.ordering.specs.declared.repeated.Search.the-variants.{Found, Nothing}
-use Rattle.agenda.specs.State.{patternAt, nextAt, Hard, Chain}
+use Rattle.agenda.specs.State.{patternAt, nextAt, Deferred, Chain}
 use Rattle.ordering.specs.Ordering.{Reaches}
 use Rattle.joins.specs.Pairs.{Repeated}
 
-pub record Listed (P W : List ℕ) (at : ℕ) : Type 0 where
+pub record GoalsListed (P W : List ℕ) (at : ℕ) : Type 0 where
   pub top : ℕ
   pub goals : List Goal
-  pub chain : Chain Hard P W top at goals
+  pub chain : Chain Deferred P W top at goals
   pub within : at + 8 ≤ length W
   pub below : top ≤ length W
   pub most : length W ≤ tableBytes
@@ -44,6 +44,6 @@ pub record Twice (P W : List ℕ) (at : ℕ) (r : Occurrences) : Type 0 where
   pub second-kind : getD W (r .second + 1) 0 ≡ 0
   pub repeated : Repeated P (patternAt W (r .first)) (patternAt W (r .second)) (r .pairs)
 
-unfoldable pub Finds : List ℕ → List ℕ → ℕ → Search → Type 0
-Finds P W at (Found r) = Twice P W at r
-Finds P W at Nothing = Unit {0}
+unfoldable pub RepeatedFound : List ℕ → List ℕ → ℕ → Search → Type 0
+RepeatedFound P W at (Found r) = Twice P W at r
+RepeatedFound P W at Nothing = Unit {0}

@@ -1,9 +1,9 @@
-// Which of the goals put off is taken first. The one that is likely to branch least is brought to the front of their list; any order has
+// Which of the deferred goals is taken first. The one that is likely to branch least is brought to the front of their list; any order has
 // the same assignments, so that nothing depends on how well this is judged.
 
 use agenda::Agenda;
-use agenda::ITEM;
-use agenda::Item;
+use agenda::GOAL;
+use agenda::StoredGoal;
 use assignments::Entry;
 use records::RECORD;
 use records::VARIABLES;
@@ -36,11 +36,11 @@ fn bodies(copies: usize) -> usize {
 }
 
 // 1 if the part of p at byte `argument` may sweep to the part of work at byte `at`, moved out of binders, and 0 if it can't.
-fn candidate(p: &[u8], argument: usize, work: &[u8], at: usize) -> usize
-    requires { ⌜ Whole (now p) argument × Whole (now work) at ⌝ }
+fn candidate(pattern: &[u8], argument: usize, work: &[u8], at: usize) -> usize
+    requires { ⌜ Whole (now pattern) argument × Whole (now work) at ⌝ }
     ensures { λ r. ⌜ r ≤ 1 ⌝ }
 {
-    if agenda::heads::heads_agree(p, argument, work, at) {
+    if agenda::heads::heads_agree(pattern, argument, work, at) {
         return 1;
     }
     0
@@ -48,19 +48,19 @@ fn candidate(p: &[u8], argument: usize, work: &[u8], at: usize) -> usize
 
 // In how many ways the application at byte `part` of p comes to the target, about: the two that need no target for its argument, and one
 // for each part of the target that the argument may sweep to. A flexible argument may sweep to any.
-fn candidates(p: &[u8], part: usize, work: &[u8], target: usize) -> usize
-    requires { ⌜ Branches (now p) part (now work) target ⌝ }
+fn candidates(pattern: &[u8], part: usize, work: &[u8], target: usize) -> usize
+    requires { ⌜ Branches (now pattern) part (now work) target ⌝ }
 {
-    let argument = records::end_at(p, part + RECORD);
+    let argument = records::end_at(pattern, part + RECORD);
     let end = records::end_at(work, target);
     let n = (end - target) / RECORD;
-    if !shifting::is_rigid(p, argument) {
+    if !shifting::is_rigid(pattern, argument) {
         return 2 + n;
     }
     let mut count = 2;
     let mut k = 0;
     while k < n {
-        count += candidate(p, argument, work, target + RECORD * k);
+        count += candidate(pattern, argument, work, target + RECORD * k);
         k += 1;
     }
     count
@@ -68,22 +68,22 @@ fn candidates(p: &[u8], part: usize, work: &[u8], target: usize) -> usize
 
 // In how many ways the goal at byte `at` goes on, about. A goal without open variables is decided, and an application has its candidates. A
 // goal to build has its bodies: where the head lacks a local of the argument one is left.
-fn cost(p: &[u8], work: &[u8], at: usize, a: [Entry; VARIABLES]) -> usize
-    requires { ⌜ Weighs (now p) (now work) at ⌝ }
+fn cost(pattern: &[u8], work: &[u8], at: usize, entries: [Entry; VARIABLES]) -> usize
+    requires { ⌜ Weighs (now pattern) (now work) at ⌝ }
 {
-    let item = agenda::item_at(work, at);
-    let part = item.part;
-    let end = records::end_at(p, part);
-    if builds::ground::is_ground(&p[part..end], a) {
+    let goal = agenda::goal_at(work, at);
+    let part = goal.part;
+    let end = records::end_at(pattern, part);
+    if builds::deciding::is_assigned(&pattern[part..end], entries) {
         return 0;
     }
-    if item.kind == Item::MATCH {
-        return candidates(p, part, work, item.target);
+    if goal.kind == StoredGoal::MATCH {
+        return candidates(pattern, part, work, goal.target);
     }
-    if agenda::locals::lacks_local(p, part, work, item.argument) {
+    if agenda::locals::lacks_local(pattern, part, work, goal.argument) {
         return 1;
     }
-    let copies = abstractions::copies(work, item.target, 0, item.argument);
+    let copies = abstractions::copies(work, goal.target, 0, goal.argument);
     bodies(copies.count)
 }
 
@@ -94,20 +94,20 @@ struct Choice {
 }
 
 // The first goal of least cost in a list that has one.
-fn cheapest(p: &[u8], work: &[u8], list: usize, a: [Entry; VARIABLES]) -> Choice
-    requires { ⌜ Ranks (now p) (now work) list ⌝ }
+fn cheapest(pattern: &[u8], work: &[u8], list: usize, entries: [Entry; VARIABLES]) -> Choice
+    requires { ⌜ Ranks (now pattern) (now work) list ⌝ }
     ensures { λ r. ⌜ Reaches (now (work .entry)) list (r .goal) ⌝ }
 {
-    let own = cost(p, work, list, a);
-    let item = agenda::item_at(work, list);
-    let next = item.next;
+    let own = cost(pattern, work, list, entries);
+    let goal = agenda::goal_at(work, list);
+    let next = goal.next;
     if next == 0 {
         return Choice {
             goal: list,
             cost: own,
         };
     }
-    let best = cheapest(p, work, next, a);
+    let best = cheapest(pattern, work, next, entries);
     if best.cost < own {
         return best;
     }
@@ -124,15 +124,15 @@ pub struct Rest {
 }
 
 // A goal with another one next.
-fn linked(item: Item, next: usize) -> Item
-    ensures { λ r. ⌜ r ≡ linkedTo item next ⌝ }
+fn linked(goal: StoredGoal, next: usize) -> StoredGoal
+    ensures { λ r. ⌜ r ≡ linkedTo goal next ⌝ }
 {
-    Item {
-        part: item.part,
-        kind: item.kind,
-        target: item.target,
+    StoredGoal {
+        part: goal.part,
+        kind: goal.kind,
+        target: goal.target,
         next,
-        argument: item.argument,
+        argument: goal.argument,
     }
 }
 
@@ -142,43 +142,48 @@ pub fn without(work: &mut [u8], top: usize, list: usize, goal: usize) -> Rest
     requires { ⌜ Drops (now work) top list goal ⌝ }
     ensures { λ r. ⌜ Dropped (now (work .entry)) top list goal (now (work .exit)) (r .list) (r .top) ⌝ }
 {
-    let item = agenda::item_at(work, list);
+    let stored = agenda::goal_at(work, list);
     if list == goal {
         return Rest {
-            list: item.next,
+            list: stored.next,
             top,
         };
     }
-    let rest = without(work, top, item.next, goal);
+    let rest = without(work, top, stored.next, goal);
     let at = rest.top;
-    agenda::put_item(work, at, linked(item, rest.list));
+    agenda::put_goal(work, at, linked(stored, rest.list));
     Rest {
         list: at,
-        top: at + ITEM,
+        top: at + GOAL,
     }
 }
 
-// Brings the cheapest of the goals put off to the front of their list. Where it is there already, as the only one is, nothing is written.
-pub fn bring_forward(p: &[u8], work: &mut [u8], s: Agenda, a: [Entry; VARIABLES]) -> Agenda
-    requires { ⌜ Ready 0 (now p) (now work) s a × (s .easy ≡ 0) × (0 < s .hard) ⌝ }
-    ensures { λ r. ⌜ Forwarded (now (p .entry)) (now (work .entry)) s a (now (work .exit)) r ⌝ }
+// Brings the cheapest of the deferred goals to the front of their list. Where it is there already, as the only one is, nothing is written.
+pub fn bring_forward(
+    pattern: &[u8],
+    work: &mut [u8],
+    agenda: Agenda,
+    entries: [Entry; VARIABLES],
+) -> Agenda
+    requires { ⌜ Ready 0 (now pattern) (now work) agenda entries × (agenda .easy ≡ 0) × (0 < agenda .deferred) ⌝ }
+    ensures { λ r. ⌜ Forwarded (now (pattern .entry)) (now (work .entry)) agenda entries (now (work .exit)) r ⌝ }
 {
-    let first = agenda::item_at(work, s.hard);
+    let first = agenda::goal_at(work, agenda.deferred);
     if first.next == 0 {
-        return s;
+        return agenda;
     }
-    let best = cheapest(p, work, s.hard, a);
+    let best = cheapest(pattern, work, agenda.deferred, entries);
     let goal = best.goal;
-    if goal == s.hard {
-        return s;
+    if goal == agenda.deferred {
+        return agenda;
     }
-    let item = agenda::item_at(work, goal);
-    let rest = without(work, s.top, s.hard, goal);
+    let stored = agenda::goal_at(work, goal);
+    let rest = without(work, agenda.top, agenda.deferred, goal);
     let at = rest.top;
-    agenda::put_item(work, at, linked(item, rest.list));
+    agenda::put_goal(work, at, linked(stored, rest.list));
     Agenda {
-        top: at + ITEM,
-        easy: s.easy,
-        hard: at,
+        top: at + GOAL,
+        easy: agenda.easy,
+        deferred: at,
     }
 }

@@ -1,9 +1,9 @@
-// One variable applied to constants in two goals put off: its value can be read off the two targets.
+// One variable applied to constants in two deferred goals: its value can be read off the two targets.
 
 use agenda::Agenda;
 use agenda::Decision;
-use agenda::ITEM;
-use agenda::Item;
+use agenda::GOAL;
+use agenda::StoredGoal;
 use agenda::TARGET_BYTES;
 use assignments::Entry;
 use joins::pairs::Pairs;
@@ -14,7 +14,7 @@ ghost use mathlib.Core.Path.{_≡_};
 ghost use Rattle.records.specs.Parts.{Whole};
 ghost use Rattle.agenda.specs.State.{Ready};
 ghost use Rattle.agenda.specs.Moves.{Decided};
-ghost use Rattle.ordering.specs.Repeated.{Listed, Later, Finds};
+ghost use Rattle.ordering.specs.Repeated.{GoalsListed, Later, RepeatedFound};
 
 // Two goals that apply one variable to constants, and the pairs of these.
 pub struct Occurrences {
@@ -30,76 +30,81 @@ pub enum Search {
 }
 
 // The first goal of a list whose part repeats the variable of `goal`, the part of which is at byte x of the pattern.
-fn find_second(p: &[u8], work: &[u8], list: usize, goal: usize, x: usize) -> Search
-    requires { ⌜ Listed (now p) (now work) list × Whole (now p) x ⌝ }
-    ensures { λ r. ⌜ Later (now (p .entry)) (now (work .entry)) list goal x r ⌝ }
+fn find_second(pattern: &[u8], work: &[u8], list: usize, goal: usize, x: usize) -> Search
+    requires { ⌜ GoalsListed (now pattern) (now work) list × Whole (now pattern) x ⌝ }
+    ensures { λ r. ⌜ Later (now (pattern .entry)) (now (work .entry)) list goal x r ⌝ }
 {
     if list == 0 {
         return Search::Nothing;
     }
-    let item = agenda::item_at(work, list);
-    if item.kind != Item::MATCH {
-        return find_second(p, work, item.next, goal, x);
+    let stored = agenda::goal_at(work, list);
+    if stored.kind != StoredGoal::MATCH {
+        return find_second(pattern, work, stored.next, goal, x);
     }
-    let spines = joins::pairs::spines_at(p, x, item.part);
+    let spines = joins::pairs::spines_at(pattern, x, stored.part);
     match spines {
         Spines::Apart(pairs) => Search::Found(Occurrences {
             first: goal,
             second: list,
             pairs,
         }),
-        Spines::Other => find_second(p, work, item.next, goal, x),
+        Spines::Other => find_second(pattern, work, stored.next, goal, x),
     }
 }
 
 // The first two goals of a list that repeat one variable.
-fn find_first(p: &[u8], work: &[u8], list: usize) -> Search
-    requires { ⌜ Listed (now p) (now work) list ⌝ }
-    ensures { λ r. ⌜ Finds (now (p .entry)) (now (work .entry)) list r ⌝ }
+fn find_first(pattern: &[u8], work: &[u8], list: usize) -> Search
+    requires { ⌜ GoalsListed (now pattern) (now work) list ⌝ }
+    ensures { λ r. ⌜ RepeatedFound (now (pattern .entry)) (now (work .entry)) list r ⌝ }
 {
     if list == 0 {
         return Search::Nothing;
     }
-    let item = agenda::item_at(work, list);
-    if item.kind != Item::MATCH {
-        return find_first(p, work, item.next);
+    let goal = agenda::goal_at(work, list);
+    if goal.kind != StoredGoal::MATCH {
+        return find_first(pattern, work, goal.next);
     }
-    let second = find_second(p, work, item.next, list, item.part);
+    let second = find_second(pattern, work, goal.next, list, goal.part);
     match second {
         Search::Found(r) => Search::Found(r),
-        Search::Nothing => find_first(p, work, item.next),
+        Search::Nothing => find_first(pattern, work, goal.next),
     }
 }
 
 // Puts one easy goal in the place of two goals that apply one variable to different constants, if there are two such goals. The value that
 // comes to both targets is the only one, and where there is none the goals have no assignment.
-pub fn force(p: &[u8], work: &mut [u8], s: Agenda, a: [Entry; VARIABLES]) -> Decision
-    requires { ⌜ Ready 0 (now p) (now work) s a × (s .easy ≡ 0) ⌝ }
-    ensures { λ r. ⌜ Decided 0 (now (p .entry)) (now (work .entry)) s a (now (work .exit)) r ⌝ }
+pub fn force(
+    pattern: &[u8],
+    work: &mut [u8],
+    agenda: Agenda,
+    entries: [Entry; VARIABLES],
+) -> Decision
+    requires { ⌜ Ready 0 (now pattern) (now work) agenda entries × (agenda .easy ≡ 0) ⌝ }
+    ensures { λ r. ⌜ Decided 0 (now (pattern .entry)) (now (work .entry)) agenda entries (now (work .exit)) r ⌝ }
 {
-    let search = find_first(p, work, s.hard);
+    let search = find_first(pattern, work, agenda.deferred);
     let Search::Found(r) = search else {
         return Decision::Open;
     };
     let pairs = r.pairs;
-    let first = agenda::item_at(work, r.first);
-    let second = agenda::item_at(work, r.second);
+    let first = agenda::goal_at(work, r.first);
+    let second = agenda::goal_at(work, r.second);
     let target = first.target;
     let mut b = [0u8; TARGET_BYTES];
-    let walk = joins::joining::join_into(p, pairs, work, target, second.target, 0, &mut b, 0);
+    let walk = joins::joining::join_into(pattern, pairs, work, target, second.target, 0, &mut b, 0);
     let Walk::Upto(end) = walk else {
         return Decision::Failed;
     };
     let n = end - target;
-    let top = joins::joining::enclose_into(&b[0..n], pairs.count, work, s.top);
-    let one = crate::order::without(work, top, s.hard, r.first);
+    let top = joins::joining::enclose_into(&b[0..n], pairs.count, work, agenda.top);
+    let one = crate::order::without(work, top, agenda.deferred, r.first);
     let both = crate::order::without(work, one.top, one.list, r.second);
     let at = both.top;
-    let goal = agenda::match_item(pairs.first, s.top, s.easy);
-    agenda::put_item(work, at, goal);
+    let goal = agenda::match_goal(pairs.first, agenda.top, agenda.easy);
+    agenda::put_goal(work, at, goal);
     Decision::Next(Agenda {
-        top: at + ITEM,
+        top: at + GOAL,
         easy: at,
-        hard: both.list,
+        deferred: both.list,
     })
 }

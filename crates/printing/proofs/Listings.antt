@@ -10,52 +10,53 @@ use lib.ListN.{length, take, drop, length-append}
 use lib.Seq.{take-at, drop-at, drop-drop}
 use Rattle.terms.specs.Figures.{variables, tableBytes}
 use Rattle.terms.specs.Listing.{Line}
-use Rattle.terms.specs.Layout.{valueRecords, valuesRecords, lineBytes, lineValues, lineTable, valueTable}
+use Rattle.terms.specs.Layout.{lineValueRecords, valuesRecords, lineBytes, lineValues, lineTable, valueTable}
 use Rattle.arranging.specs.Order.{Standing}
 use Rattle.listing.specs.Outcome.{Laid}
 use Rattle.arranging.proofs.Comparing.{laid-standing, next-standing, value-within}
 use Rattle.listing.proofs.Stores.{Entire, line-table-length, value-table-length}
 use Rattle.listing.proofs.Writers.{line-bytes-length, line-values-length}
-use Rattle.printing.specs.Text.{Within, Printable}
+use Rattle.printing.specs.Text.{SpansWithin, Printable}
 
 -- the line i of a table of lines
-pub record Stands (X D : List ℕ) : Type 0 where
+pub record LineStandsAt (X D : List ℕ) : Type 0 where
   pub line : Line
   pub laid : Laid X D line
 
 line-at : (X behind rest : List ℕ) (k i : ℕ) (ls : List Line) → Entire ls → i < length ls → drop (4 * k) X ≡ valueTable ls ++ behind
-    → 4 * (k + valuesRecords ls) ≤ length X → Stands X (drop ((4 * variables) * i) (lineTable k ls ++ rest))
+    → 4 * (k + valuesRecords ls) ≤ length X → LineStandsAt X (drop ((4 * variables) * i) (lineTable k ls ++ rest))
 line-at X behind rest k i [] e h d w = absurd (omega (arith, h))
 line-at X behind rest k zero (l ∷ ls) e h d w = record {
   line = l;
   laid = record {
     first = k;
-    rest = lineTable (k + valueRecords l) ls ++ rest;
+    rest = lineTable (k + lineValueRecords l) ls ++ rest;
     behind = valueTable ls ++ behind;
-    line = append-assoc (lineBytes k l) (lineTable (k + valueRecords l) ls) rest;
+    line = append-assoc (lineBytes k l) (lineTable (k + lineValueRecords l) ls) rest;
     stand = d ∙ append-assoc (lineValues l) (valueTable ls) behind;
     within = omega (arith, w);
     entries = e l (inl refl);
   };
 }
 line-at X behind rest k (suc i) (l ∷ ls) e h d w =
-    let t = lineTable (k + valueRecords l) ls ++ rest in
+    let t = lineTable (k + lineValueRecords l) ls ++ rest in
     let p : (4 * variables) * suc i ≡ 4 * variables + (4 * variables) * i = omega arith in
-    let q : 4 * (k + valueRecords l) ≡ 4 * k + 4 * valueRecords l = omega arith in
+    let q : 4 * (k + lineValueRecords l) ≡ 4 * k + 4 * lineValueRecords l = omega arith in
     let n : length (lineBytes k l) ≡ 4 * variables = line-bytes-length k l ∙ ap (λ (j : ℕ). 4 * j) (e l (inl refl)) in
     let s : drop ((4 * variables) * suc i) (lineTable k (l ∷ ls) ++ rest) ≡ drop ((4 * variables) * i) t =
     ap (λ (j : ℕ). drop j (lineTable k (l ∷ ls) ++ rest)) p
     ∙ sym (drop-drop ((4 * variables) * i) (4 * variables) (lineTable k (l ∷ ls) ++ rest))
-    ∙ ap (drop ((4 * variables) * i)) (ap (drop (4 * variables)) (append-assoc (lineBytes k l) (lineTable (k + valueRecords l) ls) rest)
+    ∙ ap (drop ((4 * variables) * i)) (ap (drop (4 * variables)) (append-assoc (lineBytes k l) (lineTable (k + lineValueRecords l) ls) rest)
     ∙ drop-at (lineBytes k l) t (4 * variables) n) in
-    let v : drop (4 * (k + valueRecords l)) X ≡ valueTable ls ++ behind =
-    ap (λ (j : ℕ). drop j X) q ∙ sym (drop-drop (4 * valueRecords l) (4 * k) X)
-    ∙ ap (drop (4 * valueRecords l)) (d ∙ append-assoc (lineValues l) (valueTable ls) behind)
-    ∙ drop-at (lineValues l) (valueTable ls ++ behind) (4 * valueRecords l) (line-values-length l) in
-    subst (Stands X) (sym s) (line-at X behind rest (k + valueRecords l) i ls (λ m z. e m (inr z)) (omega (arith, h)) v (omega (arith, w)))
+    let v : drop (4 * (k + lineValueRecords l)) X ≡ valueTable ls ++ behind =
+    ap (λ (j : ℕ). drop j X) q ∙ sym (drop-drop (4 * lineValueRecords l) (4 * k) X)
+    ∙ ap (drop (4 * lineValueRecords l)) (d ∙ append-assoc (lineValues l) (valueTable ls) behind)
+    ∙ drop-at (lineValues l) (valueTable ls ++ behind) (4 * lineValueRecords l) (line-values-length l) in
+    subst (LineStandsAt X) (sym s)
+    (line-at X behind rest (k + lineValueRecords l) i ls (λ m z. e m (inr z)) (omega (arith, h)) v (omega (arith, w)))
 
 -- its entries
-module _ (X D : List ℕ) (x : Stands X D) where
+module _ (X D : List ℕ) (x : LineStandsAt X D) where
   laid-bytes : take (4 * variables) D ≡ lineBytes (x .laid .first) (x .line)
   laid-bytes =
       ap (take (4 * variables)) (x .laid .line)
@@ -93,7 +94,7 @@ module _ (X D : List ℕ) (x : Stands X D) where
   from zero h = record { entries = x .line; stand = standing }
   from (suc v) h = let y = from v (omega (arith, h)) in next-from v (y .entries) (omega (arith, h)) (y .stand)
 
-  line-within : length X ≤ tableBytes → Within (take (4 * variables) D) X
+  line-within : length X ≤ tableBytes → SpansWithin (take (4 * variables) D) X
   line-within f = record {
     whole = laid-length;
     few = f;
@@ -107,7 +108,7 @@ printable n L X a b ls e c p q f g = record {
   enough = omega (arith, c, ap length p ∙ length-append (lineTable 0 ls) a, line-table-length 0 ls e);
   most = f;
   each = λ i h.
-      line-within X (drop ((4 * variables) * i) L) (subst (λ (l : List ℕ). Stands X (drop ((4 * variables) * i) l)) (sym p)
+      line-within X (drop ((4 * variables) * i) L) (subst (λ (l : List ℕ). LineStandsAt X (drop ((4 * variables) * i) l)) (sym p)
       (line-at X b a 0 i ls e (omega (arith, c, h)) q
       (omega (arith, ap length q ∙ length-append (valueTable ls) b, value-table-length ls)))) g;
 }

@@ -15,10 +15,10 @@ use Rattle.assignments.specs.Entries.{entryAt}
 use Rattle.assignments.specs.declared.Span.{Span}
 use Rattle.assignments.specs.declared.Entry.{Entry}
 use Rattle.assignments.specs.declared.Entry.the-variants.{Open}
-use Rattle.printing.specs.Text.{Opens, room, Within, Printable}
+use Rattle.printing.specs.Text.{OpenBefore, room, SpansWithin, Printable}
 
 module _ (l : List ℕ) (v : ℕ) (e : Entry) (b : Bool) (is : e ≡ entryAt l v) (says : Says b (e ≡ Open)) where
-  pub opens-more : Opens l v → b ≡ true → Opens l (v + 1)
+  pub opens-more : OpenBefore l v → b ≡ true → OpenBefore l (v + 1)
   opens-more x t =
       let o : e ≡ Open = subst (λ (a : Bool). Says a (e ≡ Open)) t says in
       record {
@@ -26,14 +26,14 @@ module _ (l : List ℕ) (v : ℕ) (e : Entry) (b : Bool) (is : e ≡ entryAt l v
             λ i h. ⊎-elim (λ (q : i ≡ v). ap (entryAt l) q ∙ sym is ∙ o) (λ (q : i < v). x .each i q) (eq-or-lt-of-le (omega (arith, h)));
       }
 
-  pub opens-not : (n : ℕ) → v < n → b ≡ false → ¬ Opens l n
+  pub opens-not : (n : ℕ) → v < n → b ≡ false → ¬ OpenBefore l n
   opens-not n h t x = subst (λ (a : Bool). Says a (e ≡ Open)) t says (is ∙ x .each v h)
 
-pub opens-none : (l : List ℕ) → Opens l 0
+pub opens-none : (l : List ℕ) → OpenBefore l 0
 opens-none l = record { each = λ i h. absurd (omega (arith, h)) }
 
-pub opens-all : (l : List ℕ) (v n : ℕ) → v ≡ n → Opens l v → Opens l n
-opens-all l v n e x = subst (Opens l) e x
+pub opens-all : (l : List ℕ) (v n : ℕ) → v ≡ n → OpenBefore l v → OpenBefore l n
+opens-all l v n e x = subst (OpenBefore l) e x
 
 -- room for the printed line of a value
 pub value-fits : (x : Span) (s v : List ℕ) (n : ℕ) → v ≡ take (4 * x .count) (drop (4 * x .first) s) → 4 * (x .first + x .count) ≤ length s
@@ -45,7 +45,7 @@ value-fits x s v n e w f r =
 
 -- a line of a listing, as a part of the table of lines
 pub line-within : (n : ℕ) (lines s : List ℕ) (i : ℕ) → Printable n lines s → i < n
-    → Within (take ((4 * variables) * i + (4 * variables) - (4 * variables) * i) (drop ((4 * variables) * i) lines)) s
+    → SpansWithin (take ((4 * variables) * i + (4 * variables) - (4 * variables) * i) (drop ((4 * variables) * i) lines)) s
 line-within n lines s i x h =
     let e : (4 * variables) ≡ (4 * variables) * i + (4 * variables) - (4 * variables) * i = omega arith in
-    subst (λ (k : ℕ). Within (take k (drop ((4 * variables) * i) lines)) s) e (x .each i h)
+    subst (λ (k : ℕ). SpansWithin (take k (drop ((4 * variables) * i) lines)) s) e (x .each i h)

@@ -1,21 +1,21 @@
 -- What the program prints, as document 01's section "Cases" has it. A text is a list of ASCII codes, and a text with numbers in it is given
 -- by a predicate.
---   Is t               the text t
---   P ⨾ Q              a text with P and then one with Q
---   Decimal n          the number n in decimal digits, the fewest that hold it
---   blank, newline     one character
---   hex b              a byte as a pair of lowercase hexadecimal digits
---   recordText l k     a blank and the record k of the table l
---   recordsText l n    the first n records of the table l, each behind a blank
---   Numbers i v n      line i, variable v and n records, with blanks between
---   Entry i v n l      the printed line of an assigned entry: its numbers, and the records of the table l
---   Bare i             the printed line of line i if it assigns nothing
---   Labelled w n       the word w and a number: the first printed line
+--   Is t                    the text t
+--   P ⨾ Q                   a text with P and then one with Q
+--   Decimal n               the number n in decimal digits, the fewest that hold it
+--   blank, newline          one character
+--   hex b                   a byte as a pair of lowercase hexadecimal digits
+--   recordText l k          a blank and the record k of the table l
+--   recordsText l n         the first n records of the table l, each behind a blank
+--   Numbers i v n           line i, variable v and n records, with blanks between
+--   Entry i v n l           the printed line of an assigned entry: its numbers, and the records of the table l
+--   Bare i                  the printed line of line i if it assigns nothing
+--   Labelled w n            the word w and a number: the first printed line
 --   Puts P out at r after   a text with P was put into out from byte `at` on, and r is its end
---   Opens l i          the entries of the line l are open, for variables below i
---   room               room for the longest printed line
---   Within l s         each entry of the line l that is assigned has its records in the value table s
---   Printable n ls s   the table ls begins with n such lines
+--   OpenBefore l i          the entries of the line l are open, for variables below i
+--   room                    room for the longest printed line
+--   SpansWithin l s         each entry of the line l that is assigned has its records in the value table s
+--   Printable n ls s        the table ls begins with n such lines
 use mathlib.Core.Path.{_≡_}
 use mathlib.Core.List.{List, [], _∷_, _++_}
 use Prim.Native.Nat.{ℕ, zero, suc, _+_, _*_, _/_, _%_, _≤_, _<_}
@@ -84,14 +84,14 @@ pub record Puts (P : Text) (out : List ℕ) (at r : ℕ) (after : List ℕ) : Ty
   pub end : r ≡ at + length text
   pub bytes : after ≡ sets out at text
 
-pub record Opens (l : List ℕ) (i : ℕ) : Type 0 where
+pub record OpenBefore (l : List ℕ) (i : ℕ) : Type 0 where
   pub each : (v : ℕ) → v < i → entryAt l v ≡ Open
 
 -- three numbers of at most 20 digits, two blanks, the records of a whole value table and the line's end, rounded up
 abbrev pub room : ℕ
 room = 147520
 
-pub record Within (l s : List ℕ) : Type 0 where
+pub record SpansWithin (l s : List ℕ) : Type 0 where
   pub whole : length l ≡ 4 * variables
   pub few : length s ≤ tableBytes
   pub each : (v : ℕ) (x : Span) → v < variables → entryAt l v ≡ Assigned x → 4 * (x .first + x .count) ≤ length s
@@ -99,4 +99,4 @@ pub record Within (l s : List ℕ) : Type 0 where
 pub record Printable (n : ℕ) (lines s : List ℕ) : Type 0 where
   pub enough : 4 * variables * n ≤ length lines
   pub most : length lines ≤ tableBytes
-  pub each : (i : ℕ) → i < n → Within (take (4 * variables) (drop (4 * variables * i) lines)) s
+  pub each : (i : ℕ) → i < n → SpansWithin (take (4 * variables) (drop (4 * variables * i) lines)) s

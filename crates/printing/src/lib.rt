@@ -21,7 +21,7 @@ ghost use Rattle.io.specs.Digits.{glyph as Digits·glyph};
 ghost use Rattle.terms.specs.Figures.{variables, tableBytes};
 ghost use Rattle.records.specs.Tests.{Says};
 ghost use Rattle.printing.specs.Text.{Is, Decimal, Numbers, Entry as EntryText, Bare, Labelled, hex, recordText, recordsText, Puts};
-ghost use Rattle.printing.specs.Text.{Opens, room, Within, Printable};
+ghost use Rattle.printing.specs.Text.{OpenBefore, room, SpansWithin, Printable};
 ghost use Rattle.assignments.specs.declared.Entry.{Entry as assignments·Entry};
 
 // Room for the longest printed line: three numbers, the records of a whole value table, a blank before each but the first,
@@ -184,7 +184,7 @@ fn print_value(out: &mut [u8], line: usize, variable: usize, span: Span, values:
 
 // Prints the entry of a variable, if it is assigned.
 fn print_entry(out: &mut [u8], number: usize, line: &[u8], variable: usize, values: &[u8])
-    requires { ⌜ (room ≤ length (now out)) × Within (now line) (now values) × (variable < variables) ⌝ }
+    requires { ⌜ (room ≤ length (now out)) × SpansWithin (now line) (now values) × (variable < variables) ⌝ }
 {
     let entry = assignments::entry_at(line, variable);
     match entry {
@@ -205,7 +205,7 @@ fn is_open(entry: Entry) -> bool
 // Whether a line assigns nothing.
 fn is_bare(line: &[u8]) -> bool
     requires { ⌜ length (now line) ≡ 4 * variables ⌝ }
-    ensures { λ r. ⌜ Says r (Opens (now (line .entry)) variables) ⌝ }
+    ensures { λ r. ⌜ Says r (OpenBefore (now (line .entry)) variables) ⌝ }
 {
     let mut v = 0;
     while v < VARIABLES {
@@ -219,7 +219,7 @@ fn is_bare(line: &[u8]) -> bool
 
 // Prints a line of a listing.
 fn print_line(out: &mut [u8], number: usize, line: &[u8], values: &[u8])
-    requires { ⌜ (room ≤ length (now out)) × Within (now line) (now values) ⌝ }
+    requires { ⌜ (room ≤ length (now out)) × SpansWithin (now line) (now values) ⌝ }
 {
     if is_bare(line) {
         print_bare(out, number);

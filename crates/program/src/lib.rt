@@ -4,6 +4,9 @@
 // it: `onestep`, document 01's program, on `pattern.rec` and `recipe.rec` in the folder it is run in, and `test_program` on cases whose
 // outputs are compared with stored ones. It promises that it is safe and ends; `matcher` promises the listing, and `printing` the text of
 // each printed line. It rests on these two.
+//
+// It reads one record more than a table may have, so that `list` itself refuses a file that is too long, with 1 or 4. The function that
+// runs takes the two paths, so that the cases of `test_program` are folders of one crate.
 
 use enumeration::ListAnswer;
 use libc::close;

@@ -23,7 +23,8 @@ use Rattle.records.specs.declared.PatternCheck.{PatternCheck}
 use Rattle.records.specs.declared.RecipeCheck.{RecipeCheck}
 use Rattle.records.specs.Parts.{Ended, Tree}
 use Rattle.records.specs.Tests.{Says, Tells}
-use Rattle.records.specs.Checks.{patternRefusal, recipeRefusal, Answers, Pattern, NormalTable, ValueTable, OneTerm, Good, Checked}
+use Rattle.records.specs.Checks.{patternRefusal, recipeRefusal, Answers, Pattern, NormalTable, ValueTable, OneTerm, Good}
+use Rattle.records.specs.Checks.{TableChecked}
 use Rattle.records.proofs.Record.{Bytes, rest-bytes, number-fits}
 use Rattle.records.proofs.Parts.{at-start, tree, size-some}
 use Rattle.records.proofs.Tests.{says}
@@ -84,61 +85,61 @@ one-term l false x c = λ o. c (o .tree) (o .table .0) (o .table .1)
 
 -- the answers of `check_table`, by what its tests say
 module _ (m : ℕ) (l : List ℕ) (b : Bool) (bad : Says b (BadLength m l)) where
-  pub found-length : (v : ℕ) → b ≡ true → Checked m v l PatternCheck.BadLength
-  unfolding Checked
+  pub found-length : (v : ℕ) → b ≡ true → TableChecked m v l PatternCheck.BadLength
+  unfolding TableChecked
   found-length v p = says (BadLength m l) b true bad p
 
   module _ (p : b ≡ false) where
     pub found-most : length l ≤ 4 * m
     found-most = length-most m l (says (BadLength m l) b false bad p)
 
-    pub found-record : (v : ℕ) → goodRecords v l ≡ false → Checked m v l PatternCheck.BadRecord
-    unfolding Checked
+    pub found-record : (v : ℕ) → goodRecords v l ≡ false → TableChecked m v l PatternCheck.BadRecord
+    unfolding TableChecked
     found-record v q = (says (BadLength m l) b false bad p, q)
 
-    pub found-term : (v : ℕ) → goodRecords v l ≡ true → OneTerm l → Checked m v l PatternCheck.Right
-    unfolding Checked
+    pub found-term : (v : ℕ) → goodRecords v l ≡ true → OneTerm l → TableChecked m v l PatternCheck.Right
+    unfolding TableChecked
     found-term v q o = (says (BadLength m l) b false bad p, q, o)
 
-    pub found-none : (v : ℕ) → goodRecords v l ≡ true → ¬ OneTerm l → Checked m v l PatternCheck.NoTerm
-    unfolding Checked
+    pub found-none : (v : ℕ) → goodRecords v l ≡ true → ¬ OneTerm l → TableChecked m v l PatternCheck.NoTerm
+    unfolding TableChecked
     found-none v q o = (says (BadLength m l) b false bad p, q, λ t x. o (record { tree = t; table = x }))
 
 -- a check's answer, at the answer that it is equal to
-pub checked : (m v : ℕ) (l : List ℕ) (r s : PatternCheck) → Checked m v l r → r ≡ s → Checked m v l s
-checked m v l r s x e = subst (Checked m v l) e x
+pub checked : (m v : ℕ) (l : List ℕ) (r s : PatternCheck) → TableChecked m v l r → r ≡ s → TableChecked m v l s
+checked m v l r s x e = subst (TableChecked m v l) e x
 
 -- the first three rows, whatever their numbers and whatever rows follow
 module _ (m v : ℕ) (l : List ℕ) (a b c : ℕ) (more : List Row) where
   abbrev rows : List Row
   rows = (a, BadLength m l) ∷ (b, goodRecords v l ≡ false) ∷ (c, NoTerm l) ∷ more
 
-  pub refused-length : Checked m v l PatternCheck.BadLength → Refused rows a
-  unfolding Checked
+  pub refused-length : TableChecked m v l PatternCheck.BadLength → Refused rows a
+  unfolding TableChecked
   refused-length x = inl (x, refl)
 
-  pub refused-record : Checked m v l PatternCheck.BadRecord → Refused rows b
-  unfolding Checked
+  pub refused-record : TableChecked m v l PatternCheck.BadRecord → Refused rows b
+  unfolding TableChecked
   refused-record x = inr (x .0, inl (x .1, refl))
 
-  pub refused-term : Checked m v l PatternCheck.NoTerm → Refused rows c
-  unfolding Checked
+  pub refused-term : TableChecked m v l PatternCheck.NoTerm → Refused rows c
+  unfolding TableChecked
   refused-term x = inr (x .0, inr (not-both (goodRecords v l) (x .1), inl (x .2, refl)))
 
-  pub passed-three : (k : ℕ) → Checked m v l PatternCheck.Right → Refused more k → Refused rows k
-  unfolding Checked
+  pub passed-three : (k : ℕ) → TableChecked m v l PatternCheck.Right → Refused more k → Refused rows k
+  unfolding TableChecked
   passed-three k x y = inr (x .0, inr (not-both (goodRecords v l) (x .1), inr (λ n. n (x .2 .tree) (x .2 .table), y)))
 
-  pub passed-all : Checked m v l PatternCheck.Right → Passed more → Passed rows
-  unfolding Checked
+  pub passed-all : TableChecked m v l PatternCheck.Right → Passed more → Passed rows
+  unfolding TableChecked
   passed-all x y = (x .0, (not-both (goodRecords v l) (x .1), (λ n. n (x .2 .tree) (x .2 .table), y)))
 
 below-good : (v : ℕ) (l : List ℕ) (t : Term) → goodRecords v l ≡ true → l ≡ encode t → Below v t
 below-good v l t g e = good-below v t [] (ap (goodRecords v) (append-nil (encode t) ∙ sym e) ∙ g) .0
 
-pub pattern-answer : (l : List ℕ) (r : PatternCheck) → Checked patternRecords variables l r
+pub pattern-answer : (l : List ℕ) (r : PatternCheck) → TableChecked patternRecords variables l r
     → Answers (pattern l) (Pattern l) (patternRefusal r)
-unfolding Checked
+unfolding TableChecked
 pattern-answer l PatternCheck.Right x = (
   passed-all patternRecords variables l 1 2 3 [] x tt,
   record {
@@ -172,9 +173,9 @@ ground-table l t b e h = ground t [] (subst Bytes (e ∙ sym (append-nil (encode
 abbrev pub last : List ℕ → List Row
 last l = (7, (t : Term) → IsTable l t → ¬ Normal t) ∷ []
 
-pub normal-right : (m : ℕ) (l : List ℕ) → Bytes l → Checked m 0 l PatternCheck.Right → Tells l Normal true
+pub normal-right : (m : ℕ) (l : List ℕ) → Bytes l → TableChecked m 0 l PatternCheck.Right → Tells l Normal true
     → Answers (recipeRows m l) (NormalTable m l) none
-unfolding Checked
+unfolding TableChecked
 normal-right m l b x n =
     let t = x .2 .tree in
     let e = x .2 .table .0 in (
@@ -188,15 +189,15 @@ normal-right m l b x n =
       },
     )
 
-pub normal-not : (m : ℕ) (l : List ℕ) → Checked m 0 l PatternCheck.Right → Tells l Normal false → Refused (recipeRows m l) 7
+pub normal-not : (m : ℕ) (l : List ℕ) → TableChecked m 0 l PatternCheck.Right → Tells l Normal false → Refused (recipeRows m l) 7
 normal-not m l x n = passed-three m 0 l 4 5 6 (last l) 7 x (inl ((λ t y. n t (y .0)), refl))
 
-pub tree-checked : (m v : ℕ) (l : List ℕ) → Checked m v l PatternCheck.Right → Tree l
-unfolding Checked
+pub tree-checked : (m v : ℕ) (l : List ℕ) → TableChecked m v l PatternCheck.Right → Tree l
+unfolding TableChecked
 tree-checked m v l x = tree l (x .2 .tree) (x .2 .table .0)
 
-pub most-checked : (m v : ℕ) (l : List ℕ) → Checked m v l PatternCheck.Right → length l ≤ 4 * m
-unfolding Checked
+pub most-checked : (m v : ℕ) (l : List ℕ) → TableChecked m v l PatternCheck.Right → length l ≤ 4 * m
+unfolding TableChecked
 most-checked m v l x = length-most m l (x .0)
 
 -- values

@@ -8,7 +8,7 @@ use lib.ListN.{length, getD, take, drop, length-append, length-drop, length-take
 use lib.Seq.{drop-drop, drop-at, take-at, take-all}
 use Rattle.terms.specs.Term.{Term, app, lam, loc, con, var, size}
 use Rattle.terms.specs.Table.{bytes, encode}
-use Rattle.terms.proofs.Table.{kind, number, encode-length, encode-inj}
+use Rattle.terms.proofs.Table.{kind, numberOf, encode-length, encode-inj}
 use Rattle.records.specs.Record.{parts, numberAt}
 use Rattle.records.specs.Parts.{Part, Whole, Ends, Tree, Divided, Lies}
 use Rattle.records.proofs.Record.{kind-read, number-read, rest-read}
@@ -37,7 +37,7 @@ children-length (con n) = refl
 children-length (var n) = refl
 
 -- a term's table is its first record and its parts
-pub encode-first : (t : Term) → encode t ≡ bytes (kind t) (number t) (tables (children t))
+pub encode-first : (t : Term) → encode t ≡ bytes (kind t) (numberOf t) (tables (children t))
 encode-first (app f a) = ap (λ (x : List ℕ). bytes 0 0 (encode f ++ x)) (sym (append-nil (encode a)))
 encode-first (lam b) = ap (bytes 1 0) (sym (append-nil (encode b)))
 encode-first (loc n) = refl
@@ -71,17 +71,17 @@ whole l at t x = record { tree = t; part = x; least = omega (arith, x .some, x .
 
 -- the first record of a term that stands in a table
 module _ (l : List ℕ) (at : ℕ) (t : Term) (x : Part l at t) where
-  first : drop at l ≡ bytes (kind t) (number t) (tables (children t) ++ x .rest)
+  first : drop at l ≡ bytes (kind t) (numberOf t) (tables (children t) ++ x .rest)
   first = x .bytes ∙ ap (_++ x .rest) (encode-first t)
 
   pub kind-at : getD l at 0 ≡ kind t
-  kind-at = kind-read l at (kind t) (number t) (tables (children t) ++ x .rest) first
+  kind-at = kind-read l at (kind t) (numberOf t) (tables (children t) ++ x .rest) first
 
-  pub number-at : numberAt l at ≡ number t
-  number-at = number-read l at (kind t) (number t) (tables (children t) ++ x .rest) first
+  pub number-at : numberAt l at ≡ numberOf t
+  number-at = number-read l at (kind t) (numberOf t) (tables (children t) ++ x .rest) first
 
   pub behind : drop (at + 4) l ≡ tables (children t) ++ x .rest
-  behind = rest-read l at (kind t) (number t) (tables (children t) ++ x .rest) first
+  behind = rest-read l at (kind t) (numberOf t) (tables (children t) ++ x .rest) first
 
 -- the parts of an application and of an abstraction
 pub record Application (l : List ℕ) (at : ℕ) (t : Term) : Type 0 where

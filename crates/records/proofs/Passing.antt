@@ -8,15 +8,15 @@ use native.Mathlib.Omega.{arith}
 use lib.ListN.{length, getD, drop, length-append, length-drop}
 use Rattle.terms.specs.Term.{Term, app, lam, loc, con, var}
 use Rattle.terms.specs.Table.{bytes, encode, goodRecords}
-use Rattle.terms.proofs.Table.{kind, number, encode-length}
+use Rattle.terms.proofs.Table.{kind, numberOf, encode-length}
 use Rattle.records.specs.Record.{parts, numberAt}
 use Rattle.records.specs.declared.End.the-variants.{At, Nowhere}
-use Rattle.records.specs.Parts.{Part, Whole, Ends, Found, Reached, Ended}
+use Rattle.records.specs.Parts.{Part, Whole, Ends, EndFound, Reached, Ended}
 use Rattle.records.proofs.Record.{good-split, allowed-is, kind-read, rest-read}
 use Rattle.records.proofs.Parts.{children, children-length, tables, tables-append, encode-first, part, whole}
 
 -- m terms stand in l from `at` on, one behind another, and then rest
-pub record Row (l : List ℕ) (at m : ℕ) (rest : List ℕ) : Type 0 where
+pub record TermRow (l : List ℕ) (at m : ℕ) (rest : List ℕ) : Type 0 where
   pub terms : List Term
   pub count : length terms ≡ m
   pub bytes : drop at l ≡ tables terms ++ rest
@@ -26,8 +26,8 @@ pub record Passing (l : List ℕ) (from at m : ℕ) : Type 0 where
   pub within : at ≤ length l
   pub few : 4 * m + from ≤ at + 4
   pub more : from + 4 ≤ at + 4 * m
-  pub to : (rest : List ℕ) → Row l from 1 rest → Row l at m rest
-  pub back : (v : ℕ) → goodRecords v (drop from l) ≡ true → (rest : List ℕ) → Row l at m rest → Row l from 1 rest
+  pub to : (rest : List ℕ) → TermRow l from 1 rest → TermRow l at m rest
+  pub back : (v : ℕ) → goodRecords v (drop from l) ≡ true → (rest : List ℕ) → TermRow l at m rest → TermRow l from 1 rest
   pub good : (v : ℕ) → goodRecords v (drop from l) ≡ true → goodRecords v (drop at l) ≡ true
 
 pub passing-start : (l : List ℕ) (from : ℕ) → from ≤ length l → Passing l from from 1
@@ -41,21 +41,21 @@ passing-start l from h = record {
 }
 
 -- a record takes a term from the front of a row and puts its parts there
-open-row : (l : List ℕ) (at m : ℕ) (rest : List ℕ) → 0 < m → Row l at m rest → Row l (at + 4) (m - 1 + parts (getD l at 0)) rest
+open-row : (l : List ℕ) (at m : ℕ) (rest : List ℕ) → 0 < m → TermRow l at m rest → TermRow l (at + 4) (m - 1 + parts (getD l at 0)) rest
 open-row l at m rest h x = go (x .terms) (x .count) (x .bytes)
   where
-    go : (ts : List Term) → length ts ≡ m → drop at l ≡ tables ts ++ rest → Row l (at + 4) (m - 1 + parts (getD l at 0)) rest
+    go : (ts : List Term) → length ts ≡ m → drop at l ≡ tables ts ++ rest → TermRow l (at + 4) (m - 1 + parts (getD l at 0)) rest
     go [] c e = absurd (omega arith)
     go (t ∷ ts) c e =
         let b : List ℕ = tables (children t) ++ (tables ts ++ rest) in
-        let d : drop at l ≡ bytes (kind t) (number t) b =
+        let d : drop at l ≡ bytes (kind t) (numberOf t) b =
         e ∙ append-assoc (encode t) (tables ts) rest ∙ ap (_++ (tables ts ++ rest)) (encode-first t) in
-        let k : getD l at 0 ≡ kind t = kind-read l at (kind t) (number t) b d in
+        let k : getD l at 0 ≡ kind t = kind-read l at (kind t) (numberOf t) b d in
         let p : length (children t) ≡ parts (getD l at 0) = children-length t ∙ ap parts (sym k) in
         record {
           terms = children t ++ ts;
           count = omega (arith, length-append (children t) ts);
-          bytes = rest-read l at (kind t) (number t) b d ∙ sym (append-assoc (tables (children t)) (tables ts) rest)
+          bytes = rest-read l at (kind t) (numberOf t) b d ∙ sym (append-assoc (tables (children t)) (tables ts) rest)
               ∙ ap (_++ rest) (sym (tables-append (children t) ts));
         }
 
@@ -74,7 +74,7 @@ made (suc (suc (suc (suc zero)))) n m ts h z c = (var n ∷ ts, omega arith, ref
 made (suc (suc (suc (suc (suc k))))) n m ts h z c = absurd (omega arith)
 
 close-row : (v : ℕ) (l : List ℕ) (at m : ℕ) (rest : List ℕ) → 0 < m → at + 4 ≤ length l → getD l (at + 2 + 1) 0 < 256
-    → goodRecords v (drop at l) ≡ true → Row l (at + 4) (m - 1 + parts (getD l at 0)) rest → Row l at m rest
+    → goodRecords v (drop at l) ≡ true → TermRow l (at + 4) (m - 1 + parts (getD l at 0)) rest → TermRow l at m rest
 close-row v l at m rest h w b g x =
     let a = allowed-is v l at w b (good-split l at v w g .0) in
     let u = made (getD l at 0) (numberAt l at) (m - 1) (x .terms) (a .known) (a .none) (x .count) in
@@ -96,10 +96,10 @@ passing-step l from at m x h w b n e u = rw e (record {
 })
 
 -- one term is a row, and a row of none is the rest
-one : (l : List ℕ) (at : ℕ) (t : Term) (x : Part l at t) → Row l at 1 (x .rest)
+one : (l : List ℕ) (at : ℕ) (t : Term) (x : Part l at t) → TermRow l at 1 (x .rest)
 one l at t x = record { terms = t ∷ []; count = refl; bytes = x .bytes ∙ ap (_++ x .rest) (sym (append-nil (encode t))) }
 
-only : (l : List ℕ) (at : ℕ) (rest : List ℕ) → Row l at 1 rest → Whole l at
+only : (l : List ℕ) (at : ℕ) (rest : List ℕ) → TermRow l at 1 rest → Whole l at
 only l at rest x = go (x .terms) (x .count) (x .bytes)
   where
     go : (ts : List Term) → length ts ≡ 1 → drop at l ≡ tables ts ++ rest → Whole l at
@@ -107,14 +107,14 @@ only l at rest x = go (x .terms) (x .count) (x .bytes)
     go (t ∷ []) c e = whole l at t (part l at t rest (e ∙ ap (_++ rest) (append-nil (encode t))))
     go (t ∷ u ∷ ts) c e = absurd (omega arith)
 
-none : (l : List ℕ) (at : ℕ) (rest : List ℕ) → Row l at 0 rest → drop at l ≡ rest
+none : (l : List ℕ) (at : ℕ) (rest : List ℕ) → TermRow l at 0 rest → drop at l ≡ rest
 none l at rest x = go (x .terms) (x .count) (x .bytes)
   where
     go : (ts : List Term) → length ts ≡ 0 → drop at l ≡ tables ts ++ rest → drop at l ≡ rest
     go [] c e = e
     go (t ∷ ts) c e = absurd (omega arith)
 
-passing-found : (l : List ℕ) (from at : ℕ) → from ≤ length l → Passing l from at 0 → Found l from at
+passing-found : (l : List ℕ) (from at : ℕ) → from ≤ length l → Passing l from at 0 → EndFound l from at
 passing-found l from at h x = (
   record {
     more = omega (arith, x .more);
@@ -147,7 +147,7 @@ unfolding Reached
 reached-short l from at zero x h s = absurd (omega arith)
 reached-short l from at (suc m) x h s = λ t y. go (x .to (y .rest) (one l from t y))
   where
-    go : {rest : List ℕ} → Row l at (suc m) rest → ⊥
+    go : {rest : List ℕ} → TermRow l at (suc m) rest → ⊥
     go {rest} r = end (r .terms) (r .count) (r .bytes)
       where
         end : (ts : List Term) → length ts ≡ suc m → drop at l ≡ tables ts ++ rest → ⊥

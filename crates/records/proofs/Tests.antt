@@ -11,7 +11,7 @@ use lib.ListN.{getD}
 use borrow.Author.Tests.{ltb-true, ltb-false, not-true, not-false, eq-eqb, ne-eqb}
 use Rattle.terms.specs.Term.{Term, app, lam, loc, con, var, size, uses, isInnermost, isEta, isAbstraction, Normal}
 use Rattle.terms.specs.Table.{encode}
-use Rattle.terms.proofs.Table.{kind, number}
+use Rattle.terms.proofs.Table.{kind, numberOf}
 use Rattle.terms.proofs.Tests.{or-false, and-true}
 use Rattle.records.specs.declared.Ask.{Ask}
 use Rattle.records.specs.declared.Ask.the-variants.{Below, Other}
@@ -148,7 +148,7 @@ asks-var Below n i = tt
 asks-var Other n i = refl
 
 -- a term that ends behind a record is the innermost local if it begins there and the record is that local
-leaf-last : (l : List ℕ) (at last : ℕ) (a : Term) → Part l at a → at ≡ last → isInnermost a ≡ (eqb (kind a) 2 && eqb (number a) 0)
+leaf-last : (l : List ℕ) (at last : ℕ) (a : Term) → Part l at a → at ≡ last → isInnermost a ≡ (eqb (kind a) 2 && eqb (numberOf a) 0)
     → isInnermost a ≡ (eqb at last && innermostAt l last)
 leaf-last l at last a x e i =
     subst (λ (k : ℕ). isInnermost a ≡ (eqb at k && innermostAt l k)) e

@@ -1,14 +1,14 @@
 -- What the checks of a table answer.
---   patternRefusal c   document 01's number for a check of a pattern or a right side, if it refuses
---   recipeRefusal c    document 01's number for a check of a recipe, if it refuses
---   Answers rows W o   o is the number of the first row whose cause holds; or it is none, no cause holds, and W
---   Pattern l          l is the table of a pattern, or of a right side
---   NormalTable m l    l is the table of a normal term without variables, of at most m records
---   Recipe l           l is the table of a recipe
---   ValueTable l       l is the table of a value of at most 160 records
---   Checked m v l c    what is known of a table l once c is found, where m records and v variables are allowed
---   OneTerm l          l is the table of a term
---   Good l             the records of l are good for some number of variables
+--   patternRefusal c       document 01's number for a check of a pattern or a right side, if it refuses
+--   recipeRefusal c        document 01's number for a check of a recipe, if it refuses
+--   Answers rows W o       o is the number of the first row whose cause holds; or it is none, no cause holds, and W
+--   Pattern l              l is the table of a pattern, or of a right side
+--   NormalTable m l        l is the table of a normal term without variables, of at most m records
+--   Recipe l               l is the table of a recipe
+--   ValueTable l           l is the table of a value of at most 160 records
+--   TableChecked m v l c   what is known of a table l once c is found, where m records and v variables are allowed
+--   OneTerm l              l is the table of a term
+--   Good l                 the records of l are good for some number of variables
 use mathlib.Core.Path.{_≡_}
 use mathlib.Core.Bool.{true, false}
 use mathlib.Core.Option.{Option, none, some}
@@ -70,8 +70,8 @@ pub record Good (l : List ℕ) : Type 0 where
   pub allowed : ℕ
   pub good : goodRecords allowed l ≡ true
 
-unfoldable pub Checked : ℕ → ℕ → List ℕ → PatternCheck → Type 0
-Checked m v l PatternCheck.Right = ¬ BadLength m l × (goodRecords v l ≡ true) × OneTerm l
-Checked m v l PatternCheck.BadLength = BadLength m l
-Checked m v l PatternCheck.BadRecord = ¬ BadLength m l × (goodRecords v l ≡ false)
-Checked m v l PatternCheck.NoTerm = ¬ BadLength m l × (goodRecords v l ≡ true) × NoTerm l
+unfoldable pub TableChecked : ℕ → ℕ → List ℕ → PatternCheck → Type 0
+TableChecked m v l PatternCheck.Right = ¬ BadLength m l × (goodRecords v l ≡ true) × OneTerm l
+TableChecked m v l PatternCheck.BadLength = BadLength m l
+TableChecked m v l PatternCheck.BadRecord = ¬ BadLength m l × (goodRecords v l ≡ false)
+TableChecked m v l PatternCheck.NoTerm = ¬ BadLength m l × (goodRecords v l ≡ true) × NoTerm l

@@ -1,14 +1,14 @@
 -- Parts of a table: terms that stand in it from some byte on.
---   Part l at t      the term t stands in l from byte `at` on
---   Whole l at       some term does
---   Ends l at r      each term that stands in l from byte `at` on ends at byte r
---   Found l at r     a term that stands in l from byte `at` on ends at byte r, and one does if the records from there on are good
---   Nothing l at     no term stands in l from byte `at` on
+--   Part l at t       the term t stands in l from byte `at` on
+--   Whole l at        some term does
+--   Ends l at r       each term that stands in l from byte `at` on ends at byte r
+--   EndFound l at r   a term that stands in l from byte `at` on ends at byte r, and one does if the records from there on are good
+--   Nothing l at      no term stands in l from byte `at` on
 --   Reached l at n r what a pass over the part at byte `at` shows that came to byte r with n parts missing
---   Ended l r        what the answer r shows of the term that l begins with
---   Tree l           l is the table of some term
---   Divided l r      in a table l of an application, the head ends at byte r and the argument begins there
---   Lies l part      part is the table of some term, and shorter than l
+--   Ended l r         what the answer r shows of the term that l begins with
+--   Tree l            l is the table of some term
+--   Divided l r       in a table l of an application, the head ends at byte r and the argument begins there
+--   Lies l part       part is the table of some term, and shorter than l
 use mathlib.Core.Path.{_≡_}
 use mathlib.Core.Bool.{true}
 use mathlib.Core.List.{List, _++_}
@@ -37,19 +37,19 @@ pub record Ends (l : List ℕ) (at r : ℕ) : Type 0 where
   pub exact : (t : Term) → Part l at t → r ≡ at + 4 * size t
 
 -- bytes that are good records begin with a term where their kinds do; of other bytes only the kinds are looked at
-abbrev pub Found : List ℕ → ℕ → ℕ → Type 0
-Found l at r = Ends l at r × ((v : ℕ) → goodRecords v (drop at l) ≡ true → Whole l at)
+abbrev pub EndFound : List ℕ → ℕ → ℕ → Type 0
+EndFound l at r = Ends l at r × ((v : ℕ) → goodRecords v (drop at l) ≡ true → Whole l at)
 
 abbrev pub Nothing : List ℕ → ℕ → Type 0
 Nothing l at = (t : Term) → ¬ Part l at t
 
 -- where parts are still missing no term stands at `at`
 unfoldable pub Reached : List ℕ → ℕ → ℕ → ℕ → Type 0
-Reached l at zero r = Found l at r
+Reached l at zero r = EndFound l at r
 Reached l at (suc n) r = Nothing l at
 
 unfoldable pub Ended : List ℕ → End → Type 0
-Ended l (At r) = Found l 0 r
+Ended l (At r) = EndFound l 0 r
 Ended l Nowhere = Nothing l 0
 
 pub record Tree (l : List ℕ) : Type 0 where

@@ -5,6 +5,10 @@
 // the checks by which bytes from outside come in. It promises that each check gives exactly the first of document 01's causes 1 to 7 that
 // holds, for any bytes at all, and that each test answers for the very term whose table it was lent. It rests on the definitions of
 // `terms`; that a record begins with its kind is used throughout, how its other bytes lie only by the functions of one record.
+//
+// `part_end` looks at the kinds alone and passes each record once; that a term stands there is promised for good records, which
+// `good_records` tells. The checks need no `requires`: what they find is what the other functions require, so that a caller with raw bytes
+// can meet it.
 
 ghost use mathlib.Core.Path.{_≡_};
 ghost use mathlib.Core.Bool.{true, false};
@@ -22,7 +26,7 @@ ghost use Rattle.records.specs.Record.{kindOf, parts as partsOf, numberA
 ghost use Rattle.records.specs.Parts.{Whole, Ends, Reached, Ended, Tree, Divided, Lies};
 ghost use Rattle.records.specs.Tests.{Says, Tells, Equals, Within, EqualsAt, Head, asked, Asks, Walked};
 ghost use Rattle.records.specs.Checks.{patternRefusal, recipeRefusal, Answers, Pattern, NormalTable, Recipe, ValueTable, OneTerm};
-ghost use Rattle.records.specs.Checks.{Good, Checked};
+ghost use Rattle.records.specs.Checks.{Good, TableChecked};
 
 // The bytes of one record.
 pub const RECORD: usize = 4;
@@ -471,7 +475,7 @@ fn is_one_term(s: &[u8]) -> bool
 // Checks any bytes, in the order of document 01's causes, with the figures of the table that they are to be.
 fn check_table(s: &[u8], most: usize, variables: usize) -> PatternCheck
     requires { ⌜ 4 * most ≤ tableBytes ⌝ }
-    ensures { λ r. ⌜ Checked most variables (now (s .entry)) r ⌝ }
+    ensures { λ r. ⌜ TableChecked most variables (now (s .entry)) r ⌝ }
 {
     if is_bad_length(s, most) {
         return PatternCheck::BadLength;

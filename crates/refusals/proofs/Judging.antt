@@ -18,7 +18,7 @@ use Rattle.terms.specs.Sweep.{fill}
 use Rattle.terms.proofs.Tests.{by-eqb}
 use Rattle.terms.proofs.Refusal.{refused-first, refused-later, passed-both}
 use Rattle.terms.proofs.Table.{encode-one}
-use Rattle.terms.proofs.Occurs.{occurs-below, Chosen, chosen-values}
+use Rattle.terms.proofs.Occurs.{occurs-below, ChosenValues, chosen-values}
 use Rattle.records.specs.Tests.{Says}
 use Rattle.records.specs.Checks.{Answers, Pattern}
 use Rattle.assignments.specs.declared.Entry.{Entry}
@@ -26,7 +26,7 @@ use Rattle.assignments.specs.Entries.{Read, Given, AllGiven}
 use Rattle.assignments.proofs.Entries.{given-stored, stored-given, occurs-mentions, mentions-occurs}
 use Rattle.refusals.specs.declared.Verdict.{Verdict}
 use Rattle.refusals.specs.declared.Refusal.{Refusal}
-use Rattle.refusals.specs.Judged.{number, Judged, firstOf, tableRow, areaRow, Ready}
+use Rattle.refusals.specs.Judged.{number, Judged, firstOf, tableRow, areaRow, FilledTables}
 
 -- one step after the other
 module _ (rows : List Row) (W : Type 0) (v : Verdict) (x : Judged rows W v) where
@@ -126,7 +126,7 @@ module _ (p l s : List ℕ) (a : List Entry) (e : length l ≡ 4 * variables) (r
   given-at : AllGiven p s a true → (i : ℕ) → Occurs i (x .tree) → (v : Term) × Given s a i v
   given-at g i o = g i (occurs-below variables i (x .tree) (x .below) o) (occurs-mentions p i (x .tree) (x .table .0) o)
 
-  pub all-ready : (b : Bool) → AllGiven p s a b → b ≡ true → Judged (assignment (OccursIn p) l s) (Ready p l s) Verdict.Right
+  pub all-ready : (b : Bool) → AllGiven p s a b → b ≡ true → Judged (assignment (OccursIn p) l s) (FilledTables p l s) Verdict.Right
   unfolding Judged
   all-ready b g q =
       ((λ c. missing (c .0) (c .1) (c .2), tt), record { checked = x; line = e; term = fill (given .φ) (x .tree); filled = filled })
@@ -142,14 +142,14 @@ module _ (p l s : List ℕ) (a : List Entry) (e : length l ≡ 4 * variables) (r
           let w = stored-at i (rw t at (o .2)) in
           n (w .0) (w .1)
 
-      given : Chosen (Stored l s) (x .tree)
+      given : ChosenValues (Stored l s) (x .tree)
       given = chosen-values (Stored l s) (x .tree) stored-at
 
       filled : Filled p l s (fill (given .φ) (x .tree))
       filled = record { term = x .tree; table = x .table; φ = given .φ; stored = given .holds; is = refl }
 
   pub one-missing : (b : Bool) → AllGiven p s a b → b ≡ false
-      → Judged (assignment (OccursIn p) l s) (Ready p l s) (Verdict.Refused Refusal.Assignment)
+      → Judged (assignment (OccursIn p) l s) (FilledTables p l s) (Verdict.Refused Refusal.Assignment)
   unfolding Judged
   one-missing b g q =
       let m = subst (AllGiven p s a) q g in

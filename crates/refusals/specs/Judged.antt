@@ -1,9 +1,9 @@
 -- The numbers of refusals, and what a verdict on lent tables says.
---   number c           document 01's number of the refusal c
---   Judged rows W v    the verdict v is the first row whose cause holds; or none does, and W
---   firstOf a b        the first of two verdicts that refuses
+--   number c                  document 01's number of the refusal c
+--   Judged rows W v           the verdict v is the first row whose cause holds; or none does, and W
+--   firstOf a b               the first of two verdicts that refuses
 --   tableRow n l, areaRow w   the row 8 of a table of places of n bytes, and of the work area
---   Ready p l s        the pattern's table p can be filled from the line l and the value table s
+--   FilledTables p l s        the pattern's table p can be filled from the line l and the value table s
 use mathlib.Core.Path.{_≡_}
 use mathlib.Core.List.{List, [], _∷_}
 use Prim.Native.Nat.{ℕ, _*_}
@@ -48,7 +48,7 @@ tableRow place l = (8, BadTable place l) ∷ []
 abbrev pub areaRow : List ℕ → List Row
 areaRow w = (8, BadArea w) ∷ []
 
-pub record Ready (p l s : List ℕ) : Type 0 where
+pub record FilledTables (p l s : List ℕ) : Type 0 where
   pub checked : Pattern p
   pub line : length l ≡ 4 * variables
   pub term : Term

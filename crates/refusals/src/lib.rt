@@ -4,6 +4,8 @@
 // operation asks. The crate judges a table's length, the work area, a pattern, a recipe and an assignment, and makes a work area zero. It
 // promises, for any bytes, that a verdict is the first of its rows whose cause holds, and else what the tables are then known to hold. It
 // rests on `records` and `assignments` alone, so that an operation which searches nothing refuses by the same rows.
+//
+// The enum has a case for each cause that an operation can give. Those of 9 and 10 are named after what there is no room for.
 
 use assignments::LINE;
 use records::PatternCheck;
@@ -19,7 +21,7 @@ ghost use Rattle.terms.specs.Figures.{variables, tableBytes};
 ghost use Rattle.terms.specs.Refusal.{OccursIn, BadTable, assignmentTables, pattern as patternRows, recipe as recipeRows, assignment};
 ghost use Rattle.records.specs.Tests.{Says};
 ghost use Rattle.records.specs.Checks.{Pattern, Recipe};
-ghost use Rattle.refusals.specs.Judged.{number, Judged, firstOf, tableRow, areaRow, Ready};
+ghost use Rattle.refusals.specs.Judged.{number, Judged, firstOf, tableRow, areaRow, FilledTables};
 ghost use Rattle.refusals.specs.Lent.{cleared};
 
 // Why an operation refuses. Document 01 numbers these causes.
@@ -157,7 +159,7 @@ pub fn judge_recipe(s: &[u8]) -> Verdict
 pub fn judge_assignment(p: &[u8], line: &[u8], values: &[u8]) -> Verdict
     requires { ⌜ Pattern (now p) × (length (now line) ≡ 4 * variables) ⌝ }
     ensures { λ r. ⌜ Judged (assignment (OccursIn (now (p .entry))) (now (line .entry)) (now (values .entry)))
-        (Ready (now (p .entry)) (now (line .entry)) (now (values .entry))) r ⌝ }
+        (FilledTables (now (p .entry)) (now (line .entry)) (now (values .entry))) r ⌝ }
 {
     let a = assignments::entries_of(line);
     if assignments::all_given(p, values, a) {
@@ -171,8 +173,8 @@ pub fn judge_sides(left: &[u8], right: &[u8], line: &[u8], values: &[u8]) -> Ver
     requires { ⌜ Pattern (now left) × Pattern (now right) × (length (now line) ≡ 4 * variables) ⌝ }
     ensures { λ r. ⌜ Judged
         (assignment (λ i. OccursIn (now (left .entry)) i ⊎ OccursIn (now (right .entry)) i) (now (line .entry)) (now (values .entry)))
-        (Ready (now (left .entry)) (now (line .entry)) (now (values .entry))
-        × Ready (now (right .entry)) (now (line .entry)) (now (values .entry))) r ⌝ }
+        (FilledTables (now (left .entry)) (now (line .entry)) (now (values .entry))
+        × FilledTables (now (right .entry)) (now (line .entry)) (now (values .entry))) r ⌝ }
 {
     let one = judge_assignment(left, line, values);
     match one {

@@ -13,7 +13,7 @@ use Rattle.rewriting.specs.declared.CheckAnswer.{CheckAnswer}
 use Rattle.rewriting.specs.declared.SweepAnswer.{SweepAnswer}
 use Rattle.rewriting.specs.declared.RewriteAnswer.{RewriteAnswer}
 use Rattle.rewriting.specs.Operations.{lentForCheck, lentForSweep, lentForRewrite, Checked, Swept, Rewritten}
-use Rattle.rewriting.specs.Steps.{Matched, Put}
+use Rattle.rewriting.specs.Steps.{Matched, SideSwept}
 
 -- what the tables decide
 module _ (rows : List Row) (W : Type 0) (v : Verdict) (x : Judged rows W v) where
@@ -53,11 +53,11 @@ module _ (p l s o w : List ℕ) (W : Type 0) (v : Verdict) (x : Judged (lentForS
   unfolding Swept
   swept-lent c e = (refused-lent (lentForSweep p l s o w) W v x (swept p l s ++ output p l s o) c e, refl)
 
-  pub swept-put : v ≡ Verdict.Right → (a : SweepAnswer) (after : List ℕ) → Put p l s o a after → Swept p l s o w a after
-  unfolding Swept Put
+  pub swept-put : v ≡ Verdict.Right → (a : SweepAnswer) (after : List ℕ) → SideSwept p l s o a after → Swept p l s o w a after
+  unfolding Swept SideSwept
   swept-put e a after y = go a y
     where
-      go : (a : SweepAnswer) → Put p l s o a after → Swept p l s o w a after
+      go : (a : SweepAnswer) → SideSwept p l s o a after → Swept p l s o w a after
       go (SweepAnswer.Records n) z =
           (passed-both (lentForSweep p l s o w) (swept p l s ++ output p l s o) (passed-lent (lentForSweep p l s o w) W v x e) (z .0), z .1)
       go (SweepAnswer.Refused c) z = (
@@ -97,7 +97,7 @@ module _ (p q r l s o w : List ℕ) (W : Type 0) (v : Verdict) (x : Judged (lent
         )
 
     -- the left side matches, and the right side is written or refused
-    module _ (z : m ≡ Match.Yes) (a : SweepAnswer) (after : List ℕ) (u : Put q l s o a after) where
+    module _ (z : m ≡ Match.Yes) (a : SweepAnswer) (after : List ℕ) (u : SideSwept q l s o a after) where
       left-passed : Passed (lent ++ (swept p l s ++ unmatched p l s r))
       unfolding Matched
       left-passed =
@@ -109,15 +109,15 @@ module _ (p q r l s o w : List ℕ) (W : Type 0) (v : Verdict) (x : Judged (lent
       regroup = simp append-assoc
 
       pub rewritten-records : (n : ℕ) → a ≡ SweepAnswer.Records n → Rewritten p q r l s o w (RewriteAnswer.Records n) after
-      unfolding Rewritten Put
+      unfolding Rewritten SideSwept
       rewritten-records n f =
-          let k = subst (λ (b : SweepAnswer). Put q l s o b after) f u in
+          let k = subst (λ (b : SweepAnswer). SideSwept q l s o b after) f u in
           (subst Passed (sym regroup) (passed-both (lent ++ (swept p l s ++ unmatched p l s r)) right left-passed (k .0)), k .1)
 
       pub rewritten-refused : (c : Refusal) → a ≡ SweepAnswer.Refused c → Rewritten p q r l s o w (RewriteAnswer.Refused c) after
-      unfolding Rewritten Put
+      unfolding Rewritten SideSwept
       rewritten-refused c f =
-          let k = subst (λ (b : SweepAnswer). Put q l s o b after) f u in (
+          let k = subst (λ (b : SweepAnswer). SideSwept q l s o b after) f u in (
             subst (λ (rows : List Row). Refused rows (number c)) (sym regroup)
                 (refused-later (lent ++ (swept p l s ++ unmatched p l s r)) right (number c) left-passed (k .0)),
             k .1,

@@ -22,18 +22,18 @@ use Rattle.assignments.specs.Entries.{Read, Gives}
 use Rattle.assignments.proofs.Entries.{stored-given}
 use Rattle.sweeping.specs.declared.Length.{Length}
 use Rattle.sweeping.specs.declared.Length.the-variants.{Records, TooLong}
-use Rattle.sweeping.specs.Swept.{Fillable, Sweeps, Swept}
+use Rattle.sweeping.specs.Swept.{Fillable, WritesSwept, FormSwept}
 use Rattle.copying.specs.Equality.{Same}
-use Rattle.sweeping.proofs.Sweeps.{result, swept-long}
+use Rattle.sweeping.proofs.Sweeps.{swept-table, swept-long}
 use Rattle.refusals.specs.declared.Refusal.{Refusal}
-use Rattle.refusals.specs.Judged.{Ready}
+use Rattle.refusals.specs.Judged.{FilledTables}
 use Rattle.rewriting.specs.declared.Match.{Match}
 use Rattle.rewriting.specs.declared.SweepAnswer.{SweepAnswer}
 use Rattle.rewriting.specs.Operations.{Written}
-use Rattle.rewriting.specs.Steps.{SweptSide, Matched, Put}
+use Rattle.rewriting.specs.Steps.{SweptSide, Matched, SideSwept}
 
 -- the entries of the line give the values that fill the pattern
-module _ (p l s : List ℕ) (a : List Entry) (r : Read l a variables) (x : Ready p l s) where
+module _ (p l s : List ℕ) (a : List Entry) (r : Read l a variables) (x : FilledTables p l s) where
   pub gives : (t : Term) (f : Filled p l s t) → Gives s a (f .φ) (f .term)
   gives t f i o =
       let e : f .term ≡ x .checked .tree = encode-one (f .term) (x .checked .tree) (sym (f .table .0) ∙ x .checked .table .0) in
@@ -46,11 +46,12 @@ module _ (p l s : List ℕ) (a : List Entry) (r : Read l a variables) (x : Ready
       record { tree = f .term; table = f .table; few = omega (arith, ap size e, x .checked .most); φ = f .φ; gives = gives (x .term) f }
 
   -- the sweep of the pattern is that of each filled term
-  pub swept-side-of : (out : List ℕ) (q : Length) (after : List ℕ) → Sweeps p s a out q after → SweptSide p l s out q after
-  swept-side-of out q after w t f = subst (λ (u : Term). Swept u out q after) (sym (f .is)) (w (f .term) (f .φ) (f .table .0) (gives t f))
+  pub swept-side-of : (out : List ℕ) (q : Length) (after : List ℕ) → WritesSwept p s a out q after → SweptSide p l s out q after
+  swept-side-of out q after w t f =
+      subst (λ (u : Term). FormSwept u out q after) (sym (f .is)) (w (f .term) (f .φ) (f .table .0) (gives t f))
 
 -- the swept form of a side, in a table of 256 records
-pub record SweptAs (p l s : List ℕ) (n : ℕ) (after : List ℕ) : Type 0 where
+pub record SideForm (p l s : List ℕ) (n : ℕ) (after : List ℕ) : Type 0 where
   pub term : Term
   pub filled : Filled p l s term
   pub records : n ≡ size (sweep term)
@@ -59,10 +60,10 @@ pub record SweptAs (p l s : List ℕ) (n : ℕ) (after : List ℕ) : Type 0 wher
   pub within : n * 4 ≤ length after
   pub bytes : take (n * 4 - 0) (drop 0 after) ≡ encode (sweep term)
 
-module _ (p l s out : List ℕ) (r : Length) (after : List ℕ) (x : Ready p l s) (w : SweptSide p l s out r after) where
-  pub swept-as : (n : ℕ) → length out ≡ 1024 → r ≡ Records n → SweptAs p l s n after
+module _ (p l s out : List ℕ) (r : Length) (after : List ℕ) (x : FilledTables p l s) (w : SweptSide p l s out r after) where
+  pub swept-as : (n : ℕ) → length out ≡ 1024 → r ≡ Records n → SideForm p l s n after
   swept-as n h e =
-      let q = result (x .term) out after r n (w (x .term) (x .filled)) e h in
+      let q = swept-table (x .term) out after r n (w (x .term) (x .filled)) e h in
       let m = ap length (q .bytes) ∙ encode-length (sweep (x .term)) in
       record {
         term = x .term;
@@ -78,7 +79,7 @@ module _ (p l s out : List ℕ) (r : Length) (after : List ℕ) (x : Ready p l s
   too-long e = inl ((x .term, x .filled, swept-long (x .term) out after r (w (x .term) (x .filled)) e), refl)
 
 -- a side whose swept forms fit
-module _ (p l s : List ℕ) (n : ℕ) (after : List ℕ) (x : SweptAs p l s n after) where
+module _ (p l s : List ℕ) (n : ℕ) (after : List ℕ) (x : SideForm p l s n after) where
   pub swept-passed : Passed (swept p l s)
   swept-passed = (λ c. omega (arith, x .all, ap largest (filled-one p l s (c .0) (x .term) (c .1) (x .filled)), c .2), tt)
 
@@ -112,16 +113,16 @@ module _ (p l s : List ℕ) (n : ℕ) (after : List ℕ) (x : SweptAs p l s n af
       }
 
 -- the answers of the two steps
-module _ (p l s out : List ℕ) (r : Length) (after : List ℕ) (x : Ready p l s) (w : SweptSide p l s out r after) where
+module _ (p l s out : List ℕ) (r : Length) (after : List ℕ) (x : FilledTables p l s) (w : SweptSide p l s out r after) where
   pub matched-long : (t : List ℕ) → r ≡ TooLong → Matched p l s t Match.TooLong
   unfolding Matched
   matched-long t e = too-long p l s out r after x w e
 
-  pub put-long : (o : List ℕ) → r ≡ TooLong → Put p l s o (SweepAnswer.Refused Refusal.SweptForm) o
-  unfolding Put
+  pub put-long : (o : List ℕ) → r ≡ TooLong → SideSwept p l s o (SweepAnswer.Refused Refusal.SweptForm) o
+  unfolding SideSwept
   put-long o e = (refused-first (swept p l s) (output p l s o) 12 (too-long p l s out r after x w e), refl)
 
-module _ (p l s : List ℕ) (n : ℕ) (after : List ℕ) (x : SweptAs p l s n after) where
+module _ (p l s : List ℕ) (n : ℕ) (after : List ℕ) (x : SideForm p l s n after) where
   pub matched-yes : (t : List ℕ) → Recipe t → (c : Bool) → Same (take (n * 4 - 0) (drop 0 after)) t c → c ≡ true → Matched p l s t Match.Yes
   unfolding Matched Same
   matched-yes t y c q z = (swept-passed p l s n after x, matches p l s n after x t y (subst (Same (take (n * 4 - 0) (drop 0 after)) t) z q))
@@ -130,12 +131,13 @@ module _ (p l s : List ℕ) (n : ℕ) (after : List ℕ) (x : SweptAs p l s n af
   unfolding Matched Same
   matched-no t c q z = (swept-passed p l s n after x, matches-not p l s n after x t (subst (Same (take (n * 4 - 0) (drop 0 after)) t) z q))
 
-  pub put-short : (o : List ℕ) → length o < n * 4 → Put p l s o (SweepAnswer.Refused Refusal.Output) o
-  unfolding Put
+  pub put-short : (o : List ℕ) → length o < n * 4 → SideSwept p l s o (SweepAnswer.Refused Refusal.Output) o
+  unfolding SideSwept
   put-short o h = (refused-later (swept p l s) (output p l s o) 13 (swept-passed p l s n after x) (output-short p l s n after x o h), refl)
 
-  pub put-done : (o m : List ℕ) → n * 4 ≤ length o → m ≡ sets o 0 (take (n * 4 - 0) (drop 0 after)) → Put p l s o (SweepAnswer.Records n) m
-  unfolding Put
+  pub put-done : (o m : List ℕ) → n * 4 ≤ length o → m ≡ sets o 0 (take (n * 4 - 0) (drop 0 after))
+      → SideSwept p l s o (SweepAnswer.Records n) m
+  unfolding SideSwept
   put-done o m h q = (
     passed-both (swept p l s) (output p l s o) (swept-passed p l s n after x) (output-passed p l s n after x o h),
     written p l s n after x o m h q,

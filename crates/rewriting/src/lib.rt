@@ -5,6 +5,10 @@
 // that are left, for every input there is, refusals included: then the output table is as it was, and the work area is all zero unless its
 // own length was wrong. It rests on `refusals` for the verdicts, and on `assignments` and `sweeping` for the swept form; it searches
 // nothing.
+//
+// The swept form is made in a local table of 256 records and copied at the end, so that every refusal, 12 and 13 included, leaves the
+// output as it was without undoing anything. Intermediate tables are on the stack, two of 1,024 bytes for each level of application in the
+// pattern and one for each abstraction; the work area is only made zero, after the tables were judged.
 
 use records::RECORD;
 use refusals::Refusal;
@@ -13,10 +17,10 @@ use sweeping::Length;
 use sweeping::SWEPT_BYTES;
 ghost use mathlib.Core.Path.{_≡_};
 ghost use Rattle.records.specs.Checks.{Recipe};
-ghost use Rattle.refusals.specs.Judged.{Judged, Ready};
+ghost use Rattle.refusals.specs.Judged.{Judged, FilledTables};
 ghost use Rattle.refusals.specs.Lent.{cleared};
 ghost use Rattle.rewriting.specs.Operations.{lentForCheck, lentForSweep, lentForRewrite, Checked, Swept, Rewritten};
-ghost use Rattle.rewriting.specs.Steps.{SweptSide, Matched, Put};
+ghost use Rattle.rewriting.specs.Steps.{SweptSide, Matched, SideSwept};
 
 pub enum CheckAnswer {
     Yes,
@@ -45,7 +49,7 @@ enum Match {
 fn judge_check(pattern: &[u8], recipe: &[u8], line: &[u8], values: &[u8], work: &[u8]) -> Verdict
     ensures { λ r. ⌜ Judged
         (lentForCheck (now (pattern .entry)) (now (recipe .entry)) (now (line .entry)) (now (values .entry)) (now (work .entry)))
-        (Ready (now (pattern .entry)) (now (line .entry)) (now (values .entry)) × Recipe (now (recipe .entry))) r ⌝ }
+        (FilledTables (now (pattern .entry)) (now (line .entry)) (now (values .entry)) × Recipe (now (recipe .entry))) r ⌝ }
 {
     let sides = refusals::first(
         refusals::judge_pattern(pattern),
@@ -63,7 +67,7 @@ fn judge_check(pattern: &[u8], recipe: &[u8], line: &[u8], values: &[u8], work: 
 fn judge_sweep(pattern: &[u8], line: &[u8], values: &[u8], out: &[u8], work: &[u8]) -> Verdict
     ensures { λ r. ⌜ Judged
         (lentForSweep (now (pattern .entry)) (now (line .entry)) (now (values .entry)) (now (out .entry)) (now (work .entry)))
-        (Ready (now (pattern .entry)) (now (line .entry)) (now (values .entry))) r ⌝ }
+        (FilledTables (now (pattern .entry)) (now (line .entry)) (now (values .entry))) r ⌝ }
 {
     let sides = refusals::first(
         refusals::judge_table(out, RECORD),
@@ -89,8 +93,8 @@ fn judge_rewrite(
 ) -> Verdict
     ensures { λ r. ⌜ Judged (lentForRewrite (now (left .entry)) (now (right .entry)) (now (recipe .entry)) (now (line .entry))
         (now (values .entry)) (now (out .entry)) (now (work .entry)))
-        ((Ready (now (left .entry)) (now (line .entry)) (now (values .entry))
-        × Ready (now (right .entry)) (now (line .entry)) (now (values .entry))) × Recipe (now (recipe .entry))) r ⌝ }
+        ((FilledTables (now (left .entry)) (now (line .entry)) (now (values .entry))
+        × FilledTables (now (right .entry)) (now (line .entry)) (now (values .entry))) × Recipe (now (recipe .entry))) r ⌝ }
 {
     let whole = refusals::judge_recipe(recipe);
     let other = refusals::judge_pattern(right);
@@ -107,7 +111,7 @@ fn judge_rewrite(
 
 // Sweeps the pattern p, filled from a line and a value table.
 fn sweep_side(p: &[u8], line: &[u8], values: &[u8], out: &mut [u8; SWEPT_BYTES]) -> Length
-    requires { ⌜ Ready (now p) (now line) (now values) ⌝ }
+    requires { ⌜ FilledTables (now p) (now line) (now values) ⌝ }
     ensures { λ r. ⌜ SweptSide (now (p .entry)) (now (line .entry)) (now (values .entry)) (now (out .entry)) r (now (out .exit)) ⌝ }
 {
     let a = assignments::entries_of(line);
@@ -116,7 +120,7 @@ fn sweep_side(p: &[u8], line: &[u8], values: &[u8], out: &mut [u8; SWEPT_BYTES])
 
 // Whether the filled pattern p sweeps to the recipe.
 fn match_recipe(p: &[u8], line: &[u8], values: &[u8], recipe: &[u8]) -> Match
-    requires { ⌜ Ready (now p) (now line) (now values) × Recipe (now recipe) ⌝ }
+    requires { ⌜ FilledTables (now p) (now line) (now values) × Recipe (now recipe) ⌝ }
     ensures { λ r. ⌜ Matched (now (p .entry)) (now (line .entry)) (now (values .entry)) (now (recipe .entry)) r ⌝ }
 {
     let mut swept = [0u8; SWEPT_BYTES];
@@ -132,8 +136,8 @@ fn match_recipe(p: &[u8], line: &[u8], values: &[u8], recipe: &[u8]) -> Match
 
 // Writes the swept form of the filled pattern p, if it has room.
 fn put_swept(p: &[u8], line: &[u8], values: &[u8], out: &mut [u8]) -> SweepAnswer
-    requires { ⌜ Ready (now p) (now line) (now values) ⌝ }
-    ensures { λ r. ⌜ Put (now (p .entry)) (now (line .entry)) (now (values .entry)) (now (out .entry)) r (now (out .exit)) ⌝ }
+    requires { ⌜ FilledTables (now p) (now line) (now values) ⌝ }
+    ensures { λ r. ⌜ SideSwept (now (p .entry)) (now (line .entry)) (now (values .entry)) (now (out .entry)) r (now (out .exit)) ⌝ }
 {
     let mut swept = [0u8; SWEPT_BYTES];
     let length = sweep_side(p, line, values, &mut swept);

@@ -15,21 +15,23 @@ use Rattle.terms.specs.Figures.{variables}
 use Rattle.terms.specs.Term.{Term, app, lam, loc, con, var}
 use Rattle.terms.specs.Listing.{In, Line}
 use Rattle.terms.specs.Refusal.{OccursIn}
+use Rattle.matching.specs.Bodies.{ChosenSoFar}
+use Rattle.matching.specs.Lists.{Values, Extends, Predicate}
+use Rattle.matching.specs.Goals.{Goal, Goal.match, Goal.build, All, Listable}
+use Rattle.matching.specs.Alternatives.{Alternative}
 use Rattle.matching.proofs.Decide.{by-dec}
-use Rattle.matching.proofs.Lines.{Values, Extends}
-use Rattle.matching.proofs.Lists.{Predicate, Under}
-use Rattle.matching.proofs.Goals.{Goal, Goal.match, Goal.build, All, Listable, Listing, listing-goals, listing-line, listing-both}
+use Rattle.matching.proofs.Lists.{Under}
+use Rattle.matching.proofs.Goals.{Listing, listing-goals, listing-line, listing-both}
 use Rattle.matching.proofs.Goals.{listing-same, listing-none, listing-or}
-use Rattle.matching.proofs.Alternatives.{Alternative, alternatives, alternatives-apart, listing-alternative}
+use Rattle.matching.proofs.Alternatives.{alternatives, alternatives-apart, listing-alternative}
 use Rattle.matching.proofs.Bodies.{chosen-none, chosen-next, chosen-apart, chosen-all}
-use Rattle.matching.proofs.Bodies as Bodies
 use Rattle.matching.proofs.Choices.{listing-chosen}
 use Rattle.abstractions.specs.Bodies.{chosenIn}
 use Rattle.assignments.specs.declared.Entry.{Entry}
 use Rattle.agenda.specs.declared.Agenda.{Agenda}
 use Rattle.agenda.specs.State.{Chain, GoalAt, State, Sat}
 use Rattle.alternatives.specs.Ways.{Way, HasWays}
-use Rattle.builds.specs.Choices.{Choices, Copies, Chosen}
+use Rattle.builds.specs.Choices.{Choices, CopiesAre, ChosenBody}
 
 -- every goal of a list can be listed
 goal-listable : (P W : List ℕ) (top at : ℕ) (g : Goal) → GoalAt P W top at g → Listable variables (OccursIn P) g
@@ -65,21 +67,21 @@ module _ (k : ℕ) (P W : List ℕ) (s : Agenda) (a : List Entry) where
       → Sat gs hs l φ ↔ Under (λ i. Way i gs hs l) n φ
   ways-all gs [] l n x w φ v = absurd w
   ways-all gs (match (app f e) t ∷ hs) l n x w φ v =
-      let r = alternatives φ f e t (x .hard .0 .goal .target .normal) in (
+      let r = alternatives φ f e t (x .deferred .0 .goal .target .normal) in (
         λ q. let (i, h, u) = r .0 (q .1 .0) in (i, omega arith, (q .0, (u, q .1 .1), q .2)),
         λ (i, h, u). (u .0, (r .1 (i, omega arith, u .1 .0), u .1 .1), u .2),
       )
-  ways-all gs (match (lam b) t ∷ hs) l n x w φ v = absurd (x .hard .0 .kind)
-  ways-all gs (match (loc m) t ∷ hs) l n x w φ v = absurd (x .hard .0 .kind)
-  ways-all gs (match (con m) t ∷ hs) l n x w φ v = absurd (x .hard .0 .kind)
-  ways-all gs (match (var m) t ∷ hs) l n x w φ v = absurd (x .hard .0 .kind)
+  ways-all gs (match (lam b) t ∷ hs) l n x w φ v = absurd (x .deferred .0 .kind)
+  ways-all gs (match (loc m) t ∷ hs) l n x w φ v = absurd (x .deferred .0 .kind)
+  ways-all gs (match (con m) t ∷ hs) l n x w φ v = absurd (x .deferred .0 .kind)
+  ways-all gs (match (var m) t ∷ hs) l n x w φ v = absurd (x .deferred .0 .kind)
   ways-all gs (build f t e ∷ hs) l n x w φ v = absurd w
 
   pub ways-apart : (gs hs : List Goal) (l : Line) (i j : ℕ) → State k P W s a gs hs l → (φ : ℕ → Term) → Way i gs hs l φ
       → Way j gs hs l φ → i ≡ j
   ways-apart gs [] l i j x φ p q = absurd p
   ways-apart gs (match (app f e) t ∷ hs) l i j x φ p q =
-      alternatives-apart φ f e t i j (x .hard .0 .goal .target .normal) (p .1 .0) (q .1 .0)
+      alternatives-apart φ f e t i j (x .deferred .0 .goal .target .normal) (p .1 .0) (q .1 .0)
   ways-apart gs (match (lam b) t ∷ hs) l i j x φ p q = absurd p
   ways-apart gs (match (loc m) t ∷ hs) l i j x φ p q = absurd p
   ways-apart gs (match (con m) t ∷ hs) l i j x φ p q = absurd p
@@ -89,8 +91,8 @@ module _ (k : ℕ) (P W : List ℕ) (s : Agenda) (a : List Entry) where
   way-listing : (gs hs : List Goal) (l : Line) (i : ℕ) → State k P W s a gs hs l → Listing variables (OccursIn P) (Way i gs hs l)
   way-listing gs [] l i x = listing-none variables (OccursIn P) (λ φ. ⊥) (λ φ v q. q)
   way-listing gs (match (app f e) t ∷ hs) l i x =
-      listing-beside gs hs _ l _ _ (Alternative f e t i) x (x .hard .1)
-      (listing-alternative variables (OccursIn P) f e t (x .hard .0 .goal .suits) i)
+      listing-beside gs hs _ l _ _ (Alternative f e t i) x (x .deferred .1)
+      (listing-alternative variables (OccursIn P) f e t (x .deferred .0 .goal .suits) i)
   way-listing gs (match (lam b) t ∷ hs) l i x = listing-none variables (OccursIn P) (λ φ. ⊥) (λ φ v q. q)
   way-listing gs (match (loc m) t ∷ hs) l i x = listing-none variables (OccursIn P) (λ φ. ⊥) (λ φ v q. q)
   way-listing gs (match (con m) t ∷ hs) l i x = listing-none variables (OccursIn P) (λ φ. ⊥) (λ φ v q. q)
@@ -141,7 +143,7 @@ module _ (k : ℕ) (P W : List ℕ) (s : Agenda) (a : List Entry) where
       from (inr (j, p, q, r)) = (j, q, r)
 
   -- the choices of a goal to build
-  pub choices-all : (gs hs : List Goal) (l : Line) (n : ℕ) (c : List ℕ) → Copies n hs → (φ : ℕ → Term)
+  pub choices-all : (gs hs : List Goal) (l : Line) (n : ℕ) (c : List ℕ) → CopiesAre n hs → (φ : ℕ → Term)
       → Sat gs hs l φ ↔ Choices c 0 gs hs l φ
   choices-all gs [] l n c w φ = absurd w
   choices-all gs (match p t ∷ hs) l n c w φ = absurd w
@@ -149,8 +151,8 @@ module _ (k : ℕ) (P W : List ℕ) (s : Agenda) (a : List Entry) where
       let r = chosen-none φ f t e (chosenIn c) in
       (λ q. (q .0, (r .0 (q .1 .0), q .1 .1), q .2), λ q. (q .0, (r .1 (q .1 .0), q .1 .1), q .2))
 
-  pub choices-last : (gs hs : List Goal) (l : Line) (n j : ℕ) (c : List ℕ) → Copies n hs → n ≤ j → (φ : ℕ → Term)
-      → Choices c j gs hs l φ ↔ Chosen c gs hs l φ
+  pub choices-last : (gs hs : List Goal) (l : Line) (n j : ℕ) (c : List ℕ) → CopiesAre n hs → n ≤ j → (φ : ℕ → Term)
+      → Choices c j gs hs l φ ↔ ChosenBody c gs hs l φ
   choices-last gs [] l n j c w h φ = absurd w
   choices-last gs (match p t ∷ hs) l n j c w h φ = absurd w
   choices-last gs (build f t e ∷ hs) l n j c w h φ =
@@ -168,7 +170,7 @@ module _ (k : ℕ) (P W : List ℕ) (s : Agenda) (a : List Entry) where
     replaced-here = ap (λ z. ltb 0 z) (getD-set-same c j 1 0 h)
 
     pub choices-next :
-        (gs hs : List Goal) (l : Line) (n : ℕ) → Copies n hs → (φ : ℕ → Term)
+        (gs hs : List Goal) (l : Line) (n : ℕ) → CopiesAre n hs → (φ : ℕ → Term)
         → Choices c j gs hs l φ ↔ (Choices (set c j 1) (j + 1) gs hs l φ ⊎ Choices (set c j 0) (j + 1) gs hs l φ)
     choices-next gs [] l n w φ = absurd w
     choices-next gs (match p t ∷ hs) l n w φ = absurd w
@@ -181,27 +183,27 @@ module _ (k : ℕ) (P W : List ℕ) (s : Agenda) (a : List Entry) where
               (λ q. (q .0, (r .1 (inl (less (set c j 0) (q .1 .0))), q .1 .1), q .2)),
         )
       where
-        more : (d : List ℕ) → Bodies.Chosen f t e (chosenIn d) (suc j) φ → Bodies.Chosen f t e (chosenIn d) (j + 1) φ
-        more d u = subst (λ z. Bodies.Chosen f t e (chosenIn d) z φ) (omega arith) u
+        more : (d : List ℕ) → ChosenSoFar f t e (chosenIn d) (suc j) φ → ChosenSoFar f t e (chosenIn d) (j + 1) φ
+        more d u = subst (λ z. ChosenSoFar f t e (chosenIn d) z φ) (omega arith) u
 
-        less : (d : List ℕ) → Bodies.Chosen f t e (chosenIn d) (j + 1) φ → Bodies.Chosen f t e (chosenIn d) (suc j) φ
-        less d u = subst (λ z. Bodies.Chosen f t e (chosenIn d) z φ) (omega arith) u
+        less : (d : List ℕ) → ChosenSoFar f t e (chosenIn d) (j + 1) φ → ChosenSoFar f t e (chosenIn d) (suc j) φ
+        less d u = subst (λ z. ChosenSoFar f t e (chosenIn d) z φ) (omega arith) u
 
     pub choices-apart :
-        (gs hs : List Goal) (l : Line) (n : ℕ) → Copies n hs → j < n → (φ : ℕ → Term)
+        (gs hs : List Goal) (l : Line) (n : ℕ) → CopiesAre n hs → j < n → (φ : ℕ → Term)
         → Choices (set c j 1) (j + 1) gs hs l φ → Choices (set c j 0) (j + 1) gs hs l φ → ⊥
     choices-apart gs [] l n w g φ q p = absurd w
     choices-apart gs (match u t ∷ hs) l n w g φ q p = absurd w
     choices-apart gs (build f t e ∷ hs) l n w g φ q p =
         chosen-apart φ f t e (chosenIn c) (chosenIn (set c j 0)) (chosenIn (set c j 1)) j (same-below 0) (same-below 1)
         kept-here replaced-here (omega arith)
-        (subst (λ z. Bodies.Chosen f t e (chosenIn (set c j 0)) z φ) (omega arith) (p .1 .0))
-        (subst (λ z. Bodies.Chosen f t e (chosenIn (set c j 1)) z φ) (omega arith) (q .1 .0))
+        (subst (λ z. ChosenSoFar f t e (chosenIn (set c j 0)) z φ) (omega arith) (p .1 .0))
+        (subst (λ z. ChosenSoFar f t e (chosenIn (set c j 1)) z φ) (omega arith) (q .1 .0))
 
   pub choices-listing : (gs hs : List Goal) (l : Line) (j : ℕ) (c : List ℕ) → State k P W s a gs hs l
       → Listing variables (OccursIn P) (Choices c j gs hs l)
   choices-listing gs [] l j c x = listing-none variables (OccursIn P) (λ φ. ⊥) (λ φ v q. q)
   choices-listing gs (match p t ∷ hs) l j c x = listing-none variables (OccursIn P) (λ φ. ⊥) (λ φ v q. q)
   choices-listing gs (build f t e ∷ hs) l j c x =
-      listing-beside gs hs _ l _ _ (Bodies.Chosen f t e (chosenIn c) j) x (x .hard .1)
-      (listing-chosen variables (OccursIn P) f t e (x .hard .0 .goal .suits) (chosenIn c) j)
+      listing-beside gs hs _ l _ _ (ChosenSoFar f t e (chosenIn c) j) x (x .deferred .1)
+      (listing-chosen variables (OccursIn P) f t e (x .deferred .0 .goal .suits) (chosenIn c) j)

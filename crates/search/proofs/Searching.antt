@@ -1,6 +1,6 @@
 -- One step of the search after another: a search from the next state answers for the state before, and searches for parts of a question
 -- answer for the whole of it. By the laws of moves and of tallies; what stands below `top` stays for the next search. Assumes nothing.
---   Going ..   what is known while the ways of a goal are gone through
+--   SearchingOn ..   what is known while the ways of a goal are gone through
 use mathlib.Core.Path.{_≡_, refl, sym, ap, _∙_, subst}
 use mathlib.Core.List.{List, [], _∷_}
 use mathlib.Core.Logic.{_⊎_, inl, inr, _↔_}
@@ -9,26 +9,26 @@ use native.Mathlib.Omega.{arith}
 use native.Mathlib.Decide.{decLt}
 use lib.ListN.{length, getD, take, set, length-set}
 use lib.Seq.{take-take, getD-take}
-use Rattle.terms.specs.Figures as figures
+use Rattle.terms.specs.Figures.{valueRecords}
 use Rattle.terms.specs.Term.{Term}
 use Rattle.terms.specs.Listing.{Line}
+use Rattle.matching.specs.Goals.{Goal, All}
 use Rattle.matching.proofs.Decide.{by-dec}
 use Rattle.matching.proofs.Lists.{Under}
-use Rattle.matching.proofs.Goals.{Goal, All}
 use Rattle.records.specs.Parts.{Ends}
 use Rattle.assignments.specs.declared.Entry.{Entry}
 use Rattle.listing.specs.declared.Tally.{Tally}
 use Rattle.assignments.specs.Held.{Holds}
-use Rattle.listing.specs.Outcome.{lineRecords, outcome, Finds, Found}
+use Rattle.listing.specs.Outcome.{lineRecords, outcome, Storable, LineStored}
 use Rattle.listing.proofs.Stores.{found-tally}
 use Rattle.agenda.specs.declared.Agenda.{Agenda}
 use Rattle.agenda.specs.declared.Ways.{Ways}
-use Rattle.agenda.specs.State.{Easy, Hard, Chain, State, Sat, Bounds, Ready, relinking}
+use Rattle.agenda.specs.State.{Easy, Deferred, Chain, State, Sat, Bounds, Ready, relinking}
 use Rattle.agenda.specs.Moves.{Question, Move, Failed}
 use Rattle.alternatives.specs.Ways.{Way, HasWays}
-use Rattle.builds.specs.Choices.{Choices, Copies, Chosen}
+use Rattle.builds.specs.Choices.{Choices, CopiesAre, ChosenBody}
 use Rattle.ordering.specs.Forwarding.{Forwarded}
-use Rattle.alternatives.specs.Applications.{Matches, Counted}
+use Rattle.alternatives.specs.Applications.{ApplicationDeferred, Counted}
 use Rattle.builds.specs.Builds.{Builds}
 use Rattle.agenda.proofs.Frame.{Kept, state-kept}
 use Rattle.search.specs.Collected.{Tallied}
@@ -94,7 +94,7 @@ holds-length W top (e ∷ a) [] x = absurd x
 holds-length W top (e ∷ a) (o ∷ l) x = ap suc (holds-length W top a l (x .1))
 
 module _ (P W : List ℕ) (s : Agenda) (a : List Entry) (limit : ℕ) (L X : List ℕ) (done : Tally) (b : Begins 0 P W s a limit L X done) where
-  pub finds : Finds W a L X done
+  pub finds : Storable W a L X done
   finds = record {
     line = b .ready .line;
     top = s .top;
@@ -106,7 +106,7 @@ module _ (P W : List ℕ) (s : Agenda) (a : List Entry) (limit : ℕ) (L X : Lis
     records-few = b .counts .records;
   }
 
-  pub searched-found : (L₁ X₁ : List ℕ) (r : Tally) → s .easy ≡ 0 → s .hard ≡ 0 → Found W a L X done L₁ X₁ r
+  pub searched-found : (L₁ X₁ : List ℕ) (r : Tally) → s .easy ≡ 0 → s .deferred ≡ 0 → LineStored W a L X done L₁ X₁ r
       → Searched 0 Sat P W s a limit L X done W L₁ X₁ r
   searched-found L₁ X₁ r e h f = record {
     kept = refl;
@@ -114,7 +114,7 @@ module _ (P W : List ℕ) (s : Agenda) (a : List Entry) (limit : ℕ) (L X : Lis
     records = tally .1;
     answer = λ gs hs l x.
         let g : gs ≡ [] = none-left Easy P W (s .top) gs (subst (λ (i : ℕ). Chain Easy P W (s .top) i gs) e (x .easy)) in
-        let k : hs ≡ [] = none-left Hard P W (s .top) hs (subst (λ (i : ℕ). Chain Hard P W (s .top) i hs) h (x .hard)) in
+        let k : hs ≡ [] = none-left Deferred P W (s .top) hs (subst (λ (i : ℕ). Chain Deferred P W (s .top) i hs) h (x .deferred)) in
         tallied-one P limit (Sat gs hs l) (outcome L X done) (outcome L₁ X₁ r) l (f .stored (s .top) l (x .entries)) (x .line) (x .assigns)
         (λ φ v. (λ q. q .2, λ q. (subst (λ js. All js φ) (sym g) tt, subst (λ js. All js φ) (sym k) tt, q)));
   }
@@ -146,8 +146,8 @@ begins-kept k P W s a limit L X done W₁ L₁ X₁ r e n m o u w b =
           even = y .even;
           easy-room = y .easy-room;
           easy-even = y .easy-even;
-          hard-room = y .hard-room;
-          hard-even = y .hard-even;
+          deferred-room = y .deferred-room;
+          deferred-even = y .deferred-even;
         };
       };
       counts = record {
@@ -164,12 +164,17 @@ byte-kept : (W : List ℕ) (s : Agenda) (W₁ : List ℕ) (i : ℕ) → i < s .t
 byte-kept W s W₁ i h e = sym (getD-take (s .top) W₁ i 0 h) ∙ ap (λ (l : List ℕ). getD l i 0) e ∙ getD-take (s .top) W i 0 h
 
 kind-kept : (P W : List ℕ) (s : Agenda) (W₁ : List ℕ) → Bounds P W s → take (s .top) W₁ ≡ take (s .top) W
-    → getD W₁ (s .hard + 1) 0 ≡ getD W (s .hard + 1) 0
-kind-kept P W s W₁ b e = byte-kept W s W₁ (s .hard + 1) (omega (arith, b .hard-room)) e
+    → getD W₁ (s .deferred + 1) 0 ≡ getD W (s .deferred + 1) 0
+kind-kept P W s W₁ b e = byte-kept W s W₁ (s .deferred + 1) (omega (arith, b .deferred-room)) e
 
 pub matches-kept : (P W : List ℕ) (s : Agenda) (a : List Entry) (W₁ : List ℕ) → take (s .top) W₁ ≡ take (s .top) W
-    → Ready relinking P W₁ s a → Matches P W s a → Matches P W₁ s a
-matches-kept P W s a W₁ e r x = record { ready = r; some-hard = x .some-hard; kind = kind-kept P W s W₁ (x .ready .bounds) e ∙ x .kind }
+    → Ready relinking P W₁ s a → ApplicationDeferred P W s a → ApplicationDeferred P W₁ s a
+matches-kept P W s a W₁ e r x = record {
+  ready = r;
+  some-deferred = x .some-deferred;
+  kind = kind-kept P W s W₁ (x .ready .bounds) e
+      ∙ x .kind;
+}
 
 pub counted-kept :
     (P W : List ℕ) (s : Agenda) (a : List Entry) (W₁ : List ℕ) (w : Ways) → take (s .top) W₁ ≡ take (s .top) W
@@ -178,7 +183,8 @@ pub counted-kept :
 counted-kept P W s a W₁ w e n b c = record {
   ways = λ gs hs l x. c .ways gs hs l (back gs hs l x);
   argument =
-      subst (λ (i : ℕ). Ends P (4 * i + 4) (w .argument)) (sym (byte-kept W s W₁ (s .hard) (omega (arith, b .hard-room)) e)) (c .argument);
+      subst (λ (i : ℕ). Ends P (4 * i + 4) (w .argument)) (sym (byte-kept W s W₁ (s .deferred) (omega (arith, b .deferred-room)) e))
+      (c .argument);
   rigid-argument = c .rigid-argument;
   depths-are = λ gs hs l x. c .depths-are gs hs l (back gs hs l x);
   skeleton-table = c .skeleton-table;
@@ -193,12 +199,12 @@ counted-kept P W s a W₁ w e n b c = record {
 pub builds-kept : (P W : List ℕ) (s : Agenda) (W₁ : List ℕ) → Bounds P W s → take (s .top) W₁ ≡ take (s .top) W → Builds W s → Builds W₁ s
 builds-kept P W s W₁ b e x = record {
   none-easy = x .none-easy;
-  some-hard = x .some-hard;
+  some-deferred = x .some-deferred;
   kind = λ q. x .kind (sym (kind-kept P W s W₁ b e) ∙ q);
 }
 
 -- one way after another
-pub record Going
+pub record SearchingOn
     (P W : List ℕ) (s : Agenda) (a : List Entry) (limit : ℕ) (L X : List ℕ) (done : Tally) (n i : ℕ) (W₁ L₁ X₁ : List ℕ)
     (r : Tally) : Type 0 where
   pub within : i ≤ n
@@ -218,7 +224,7 @@ module _ (P W : List ℕ) (s : Agenda) (a : List Entry) (limit : ℕ) (L X : Lis
       let y = b .ready .bounds in
       record { same = e; from = omega (arith, y .whole, y .top); to = omega (arith, y .whole, y .top) }
 
-  pub going-start : Going P W s a limit L X done n 0 W L X done
+  pub going-start : SearchingOn P W s a limit L X done n 0 W L X done
   going-start = record {
     within = omega arith;
     area = refl;
@@ -231,13 +237,13 @@ module _ (P W : List ℕ) (s : Agenda) (a : List Entry) (limit : ℕ) (L X : Lis
         (λ φ v (i, h, q). omega arith);
   }
 
-  module _ (i : ℕ) (W₁ L₁ X₁ : List ℕ) (r : Tally) (g : Going P W s a limit L X done n i W₁ L₁ X₁ r) where
+  module _ (i : ℕ) (W₁ L₁ X₁ : List ℕ) (r : Tally) (g : SearchingOn P W s a limit L X done n i W₁ L₁ X₁ r) where
     pub begins-going : r .lines ≤ limit → Begins relinking P W₁ s a limit L₁ X₁ r
     begins-going h = begins-kept relinking P W s a limit L X done W₁ L₁ X₁ r (g .kept) (g .area) (g .lines) (g .values) h (g .records) b
 
     pub going-next :
         (W₂ L₂ X₂ : List ℕ) (r₂ : Tally) → r .lines ≤ limit → i < n → length W₂ ≡ length W₁ → length L₂ ≡ length L₁ → length X₂ ≡ length X₁
-        → Searched relinking (Way i) P W₁ s a limit L₁ X₁ r W₂ L₂ X₂ r₂ → Going P W s a limit L X done n (i + 1) W₂ L₂ X₂ r₂
+        → Searched relinking (Way i) P W₁ s a limit L₁ X₁ r W₂ L₂ X₂ r₂ → SearchingOn P W s a limit L X done n (i + 1) W₂ L₂ X₂ r₂
     going-next W₂ L₂ X₂ r₂ h m p q o y = record {
       within = omega arith;
       area = p ∙ g .area;
@@ -302,14 +308,14 @@ module _ (P W : List ℕ) (s : Agenda) (a : List Entry) (limit : ℕ) (L X : Lis
 -- one choice after another
 module _ (P W : List ℕ) (s : Agenda) (a : List Entry) (limit : ℕ) (L X : List ℕ) (done : Tally) (c : List ℕ) (j n : ℕ)
     (z : Choosing P W s a c j n) where
-  pub searched-last : (W₁ L₁ X₁ : List ℕ) (r : Tally) → n ≤ j → Searched relinking (Chosen c) P W s a limit L X done W₁ L₁ X₁ r
+  pub searched-last : (W₁ L₁ X₁ : List ℕ) (r : Tally) → n ≤ j → Searched relinking (ChosenBody c) P W s a limit L X done W₁ L₁ X₁ r
       → Searched relinking (Choices c j) P W s a limit L X done W₁ L₁ X₁ r
   searched-last W₁ L₁ X₁ r h y = record {
     kept = y .kept;
     upto = y .upto;
     records = y .records;
     answer = λ gs hs l x.
-        tallied-same P limit (Choices c j gs hs l) (Chosen c gs hs l) (outcome L X done) (outcome L₁ X₁ r)
+        tallied-same P limit (Choices c j gs hs l) (ChosenBody c gs hs l) (outcome L X done) (outcome L₁ X₁ r)
         (λ φ v. choices-last relinking P W s a gs hs l n j c (z .are gs hs l x) h φ) (y .answer gs hs l x);
   }
 
@@ -371,7 +377,7 @@ module _ (P W : List ℕ) (s : Agenda) (a : List Entry) (limit : ℕ) (L X : Lis
 searched-bodies :
     (P W : List ℕ) (s : Agenda) (a : List Entry) (limit : ℕ) (L X : List ℕ) (done : Tally) (c : List ℕ) (n : ℕ)
     (W₁ L₁ X₁ : List ℕ) (r : Tally)
-    → ((gs hs : List Goal) (l : Line) → State relinking P W s a gs hs l → Copies n hs)
+    → ((gs hs : List Goal) (l : Line) → State relinking P W s a gs hs l → CopiesAre n hs)
     → Searched relinking (Choices c 0) P W s a limit L X done W₁ L₁ X₁ r → Searched relinking Sat P W s a limit L X done W₁ L₁ X₁ r
 searched-bodies P W s a limit L X done c n W₁ L₁ X₁ r w y = record {
   kept = y .kept;
@@ -386,8 +392,8 @@ searched-bodies P W s a limit L X done c n W₁ L₁ X₁ r w y = record {
 pub planned-begins :
     (P W : List ℕ) (s : Agenda) (a : List Entry) (limit : ℕ) (L X : List ℕ) (done : Tally) (n : ℕ) (W₁ c : List ℕ) → W₁ ≡ W
     → Begins relinking P W s a limit L X done → Builds W s
-    → n ≤ figures.valueRecords → length c ≡ figures.valueRecords
-    → ((gs hs : List Goal) (l : Line) → State relinking P W s a gs hs l → Copies n hs)
+    → n ≤ valueRecords → length c ≡ valueRecords
+    → ((gs hs : List Goal) (l : Line) → State relinking P W s a gs hs l → CopiesAre n hs)
     → Begins relinking P W₁ s a limit L X done × Builds W₁ s × Choosing P W₁ s a c 0 n
 planned-begins P W s a limit L X done n W₁ c e b x m q w =
     subst (λ (Y : List ℕ). Begins relinking P Y s a limit L X done × Builds Y s × Choosing P Y s a c 0 n) (sym e)
@@ -396,7 +402,7 @@ planned-begins P W s a limit L X done n W₁ c e b x m q w =
 pub planned-searched :
     (P W : List ℕ) (s : Agenda) (a : List Entry) (limit : ℕ) (L X : List ℕ) (done : Tally) (c : List ℕ) (n : ℕ) (W₁ W₂ L₂ X₂ : List ℕ)
     (r : Tally) → W₁ ≡ W
-    → ((gs hs : List Goal) (l : Line) → State relinking P W s a gs hs l → Copies n hs)
+    → ((gs hs : List Goal) (l : Line) → State relinking P W s a gs hs l → CopiesAre n hs)
     → Searched relinking (Choices c 0) P W₁ s a limit L X done W₂ L₂ X₂ r → Searched relinking Sat P W s a limit L X done W₂ L₂ X₂ r
 planned-searched P W s a limit L X done c n W₁ W₂ L₂ X₂ r e w y =
     searched-bodies P W s a limit L X done c n W₂ L₂ X₂ r w (searched-open relinking P W s a limit L X done W₁ e (Choices c 0) W₂ L₂ X₂ r y)

@@ -6,14 +6,13 @@ use Prim.Native.Nat.{ℕ, zero, suc, _+_, _-_, _*_, _≤_}
 use native.Mathlib.Omega.{arith}
 use lib.ListN.{length, replicate}
 use lib.Seq.{sets}
-use Rattle.matching.proofs.Goals.{Goal.match}
+use Rattle.matching.specs.Goals.{Goal.match, Sweeps}
 use Rattle.terms.specs.Figures.{variables, patternRecords, recipeRecords, tableBytes}
 use Rattle.terms.specs.Term.{Term, size, Normal, Ground, Below, Closed}
 use Rattle.terms.specs.Table.{encode}
 use Rattle.terms.specs.Refusal.{OccursIn}
 use Rattle.terms.proofs.Table.{encode-one, encode-length}
-use Rattle.matching.proofs.Lines.{blank, length-blank, extends-blank, assigns-blank}
-use Rattle.matching.proofs.Lister.{Sweeps}
+use Rattle.matching.proofs.Lines.{openLine, length-blank, extends-blank, assigns-blank}
 use Rattle.matching.proofs.Targets.{closed-more}
 use Rattle.records.specs.Parts.{Part}
 use Rattle.records.proofs.Parts.{part}
@@ -22,15 +21,15 @@ use Rattle.listing.specs.declared.Tally.{Tally}
 use Rattle.assignments.specs.Held.{Holds}
 use Rattle.listing.specs.Outcome.{outcome}
 use Rattle.agenda.specs.declared.Agenda.{Agenda}
-use Rattle.agenda.specs.declared.Item.{Item}
-use Rattle.agenda.specs.Items.{itemBytes}
+use Rattle.agenda.specs.declared.StoredGoal.{StoredGoal}
+use Rattle.agenda.specs.Stored.{storedBytes}
 use Rattle.agenda.specs.State.{Easy, Target, State, Sat}
-use Rattle.agenda.proofs.Frame.{part-kept, part-stored, kept-sets, length-stored, item-stored, chain-match}
+use Rattle.agenda.proofs.Frame.{part-kept, part-stored, kept-sets, length-stored, goal-stored, chain-match}
 use Rattle.search.specs.Collected.{Tallied, nothing, Collects, Collected}
 use Rattle.search.specs.Searched.{Begins, Searched}
 use Rattle.search.proofs.Tallies.{tallied-same}
 
-holds-open : (W : List ℕ) (top n : ℕ) → Holds W top (replicate n Open) (blank n)
+holds-open : (W : List ℕ) (top n : ℕ) → Holds W top (replicate n Open) (openLine n)
 holds-open W top zero = tt
 holds-open W top (suc n) = (tt, holds-open W top n)
 
@@ -38,13 +37,13 @@ pub recipe-short : (p t : List ℕ) (limit : ℕ) (L X W : List ℕ) → Collect
 recipe-short p t limit L X W c = omega (arith, ap length (c .recipe .table .0), encode-length (c .recipe .tree), c .recipe .most)
 
 abbrev pub start : ℕ → Agenda
-start n = record { top = n + 8; easy = n; hard = 0 }
+start n = record { top = n + 8; easy = n; deferred = 0 }
 
-abbrev pub first : Item
-first = record { part = 0; kind = 0; target = 0; next = 0; argument = 0 }
+abbrev pub first-goal : StoredGoal
+first-goal = record { part = 0; kind = 0; target = 0; next = 0; argument = 0 }
 
 module _ (p t : List ℕ) (limit : ℕ) (L X W : List ℕ) (c : Collects p t limit L X W) (W₁ W₂ : List ℕ) (e₁ : W₁ ≡ sets W 0 t)
-    (e₂ : W₂ ≡ sets W₁ (length t) (itemBytes first)) where
+    (e₂ : W₂ ≡ sets W₁ (length t) (storedBytes first-goal)) where
   recipe-length : length t ≡ 4 * size (c .recipe .tree)
   recipe-length = ap length (c .recipe .table .0) ∙ encode-length (c .recipe .tree)
 
@@ -70,7 +69,7 @@ module _ (p t : List ℕ) (limit : ℕ) (L X W : List ℕ) (c : Collects p t lim
     stands : Part W₂ 0 y
     stands =
         part-kept W₁ W₂ (length t)
-        (kept-sets (itemBytes first) W₁ W₂ (length t) (length t) e₂ (omega arith) (omega (arith, area, y-length, short))) 0 y
+        (kept-sets (storedBytes first-goal) W₁ W₂ (length t) (length t) e₂ (omega arith) (omega (arith, area, y-length, short))) 0 y
         (omega (arith, y-length))
         (subst (λ (l : List ℕ). Part l 0 y) (sym (e₁ ∙ ap (sets W 0) t-is)) (part-stored y W 0 (omega (arith, c .area, short))))
 
@@ -85,17 +84,17 @@ module _ (p t : List ℕ) (limit : ℕ) (L X W : List ℕ) (c : Collects p t lim
       short = omega (arith, few, short);
     }
 
-    pub state : State 0 p W₂ (start (length t)) (replicate variables Open) (match x y ∷ []) [] (blank variables)
+    pub state : State 0 p W₂ (start (length t)) (replicate variables Open) (match x y ∷ []) [] (openLine variables)
     state = record {
       easy =
-          chain-match Easy p W₂ (length t + 8) (length t) first
-          (item-stored W₁ W₂ (length t) first e₂ (omega (arith, area, y-length, short)) refl refl refl refl)
+          chain-match Easy p W₂ (length t + 8) (length t) first-goal
+          (goal-stored W₁ W₂ (length t) first-goal e₂ (omega (arith, area, y-length, short)) refl refl refl refl)
           (omega (arith, y-length, stands .some)) (omega arith) (omega (arith, y-length)) (omega (arith, y-length, stands .some))
           x y [] refl tt (part p 0 x [] (p-is ∙ sym (append-nil (encode x)))) target (
             (subst (Below variables) x-is (c .pattern .below), λ i o. (x, (p-is, subst (Closed 0) x-is (c .pattern .table .1)), o)),
             subst Normal y-is (c .recipe .normal),
           ) refl;
-      hard = refl;
+      deferred = refl;
       entries = holds-open W₂ (length t + 8) variables;
       line = length-blank variables;
       assigns = assigns-blank (OccursIn p) variables;
@@ -106,26 +105,26 @@ module _ (p t : List ℕ) (limit : ℕ) (L X W : List ℕ) (c : Collects p t lim
         (W₃ L₃ X₃ : List ℕ) (r : Tally) → Searched 0 Sat p W₂ (start (length t)) (replicate variables Open) limit L X nothing W₃ L₃ X₃ r
         → Tallied p (Sweeps x y) limit (outcome L X nothing) (outcome L₃ X₃ r)
     collected W₃ L₃ X₃ r z =
-        tallied-same p limit (Sweeps x y) (Sat (match x y ∷ []) [] (blank variables)) (outcome L X nothing) (outcome L₃ X₃ r)
-        (λ φ v. (λ q. ((q, tt), tt, extends-blank φ variables), λ q. q .0 .0)) (z .answer (match x y ∷ []) [] (blank variables) state)
+        tallied-same p limit (Sweeps x y) (Sat (match x y ∷ []) [] (openLine variables)) (outcome L X nothing) (outcome L₃ X₃ r)
+        (λ φ v. (λ q. ((q, tt), tt, extends-blank φ variables), λ q. q .0 .0)) (z .answer (match x y ∷ []) [] (openLine variables) state)
 
   pub begins : Begins 0 p W₂ (start (length t)) (replicate variables Open) limit L X nothing
   begins = record {
     ready = record {
       gs = match (c .pattern .tree) (c .recipe .tree) ∷ [];
       hs = [];
-      line = blank variables;
+      line = openLine variables;
       state = state (c .pattern .tree) (c .recipe .tree) (c .pattern .table .0) (c .recipe .table .0);
       bounds = record {
-        whole = length-stored (itemBytes first) W₁ W₂ (length t) e₂ ∙ area;
+        whole = length-stored (storedBytes first-goal) W₁ W₂ (length t) e₂ ∙ area;
         short = omega (arith, ap length (c .pattern .table .0), encode-length (c .pattern .tree), c .pattern .most);
         top = omega (arith, recipe-length, c .recipe .most);
         start = omega arith;
         even = omega (arith, recipe-length);
         easy-room = omega arith;
         easy-even = omega (arith, recipe-length);
-        hard-room = omega arith;
-        hard-even = refl;
+        deferred-room = omega arith;
+        deferred-even = refl;
       };
     };
     counts = record { lines = c .lines; values = c .values; limited = c .limited; upto = omega arith; records = omega arith };

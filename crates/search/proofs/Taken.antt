@@ -5,7 +5,7 @@ use Prim.Native.Nat.{ℕ, _<_, _≤_}
 use lib.ListN.{set}
 use Rattle.terms.specs.Figures.{variables, valueRecords}
 use Rattle.terms.specs.Listing.{Line}
-use Rattle.matching.proofs.Goals.{Goal}
+use Rattle.matching.specs.Goals.{Goal}
 use Rattle.assignments.specs.declared.Entry.{Entry}
 use Rattle.assignments.specs.declared.Entry.the-variants.{Assigned}
 use Rattle.agenda.specs.declared.Agenda.{Agenda}
@@ -17,7 +17,7 @@ use Rattle.agenda.specs.declared.Plan.{Plan}
 use Rattle.agenda.specs.State.{State, Sat, relinking}
 use Rattle.agenda.specs.Moves.{Question, Move, Failed, Branched, Decided}
 use Rattle.steps.specs.Steps.{Stepped}
-use Rattle.builds.specs.Choices.{Copies, Planned}
+use Rattle.builds.specs.Choices.{CopiesAre, Planned}
 
 module _ (P W : List ℕ) (s : Agenda) (a : List Entry) (W₁ : List ℕ) where
   module _ (r : Step) (x : Stepped P W s a W₁ r) where
@@ -56,5 +56,5 @@ module _ (P W : List ℕ) (s : Agenda) (a : List Entry) (W₁ : List ℕ) where
     planned-next s₁ e = unfold Planned in subst (Planned P W s a W₁) e x
 
     pub planned-bodies : (n : ℕ) → r ≡ Plan.Bodies n
-        → (W₁ ≡ W) × (n ≤ valueRecords) × ((gs hs : List Goal) (l : Line) → State relinking P W s a gs hs l → Copies n hs)
+        → (W₁ ≡ W) × (n ≤ valueRecords) × ((gs hs : List Goal) (l : Line) → State relinking P W s a gs hs l → CopiesAre n hs)
     planned-bodies n e = unfold Planned in subst (Planned P W s a W₁) e x

@@ -11,8 +11,8 @@ use Rattle.terms.specs.Term.{Term}
 use Rattle.terms.specs.Assignment.{Assigns}
 use Rattle.terms.specs.Listing.{Line}
 use Rattle.terms.specs.Refusal.{OccursIn}
-use Rattle.matching.proofs.Lines.{Values, Extends}
-use Rattle.matching.proofs.Lists.{Predicate, lists-same, lists-none, lists-one, lists-or}
+use Rattle.matching.specs.Lists.{Values, Extends, Predicate}
+use Rattle.matching.proofs.Lists.{lists-same, lists-none, lists-one, lists-or}
 use Rattle.matching.proofs.Goals.{Listing}
 use Rattle.listing.specs.Outcome.{Outcome, store, stores}
 use Rattle.listing.proofs.Stores.{stores-append, store-count, stores-count}

@@ -12,8 +12,8 @@ use Rattle.terms.specs.Term.{Term}
 use Rattle.terms.specs.Table.{encode}
 use Rattle.terms.specs.Listing.{Line}
 use Rattle.terms.specs.Refusal.{OccursIn}
-use Rattle.matching.proofs.Lists.{Predicate, Lists}
-use Rattle.matching.proofs.Lister.{Sweeps}
+use Rattle.matching.specs.Lists.{Predicate, Lists}
+use Rattle.matching.specs.Goals.{Sweeps}
 use Rattle.records.specs.Checks.{Pattern, Recipe}
 use Rattle.listing.specs.declared.Tally.{Tally}
 use Rattle.listing.specs.Outcome.{Outcome, stores, outcome}

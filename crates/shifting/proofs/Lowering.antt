@@ -43,11 +43,11 @@ inside-high n c d h = go (ltb n (c + d)) refl
     go true e = (h, ltb-true n (c + d) e)
     go false e = λ p. omega (arith, ltb-false n (c + d) e, p .1)
 
-pub lowered-low : (n c d : ℕ) → n < c → loc n ≡ unshift d c (loc n)
-lowered-low n c d h = rw (lt-ltb n c h)
+pub unshifted-low : (n c d : ℕ) → n < c → loc n ≡ unshift d c (loc n)
+unshifted-low n c d h = rw (lt-ltb n c h)
 
-pub lowered-high : (n c d : ℕ) → c ≤ n → loc (n - d) ≡ unshift d c (loc n)
-lowered-high n c d h = rw (le-ltb n c h)
+pub unshifted-high : (n c d : ℕ) → c ≤ n → loc (n - d) ≡ unshift d c (loc n)
+unshifted-high n c d h = rw (le-ltb n c h)
 
 pub outside : (n c d : ℕ) → ¬ Inside c d n → c ≤ n → c + d ≤ n
 outside n c d i h = go (decLt n (c + d))

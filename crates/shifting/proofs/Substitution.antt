@@ -8,7 +8,7 @@ use native.Mathlib.Numerals.{add-one}
 use native.Mathlib.Decide.{decLt}
 use lib.ListN.{getD}
 use Rattle.terms.specs.Term.{Term, app, lam, loc, con, var, unshift, substitute}
-use Rattle.terms.proofs.Table.{kind, number}
+use Rattle.terms.proofs.Table.{kind, numberOf}
 use Rattle.terms.proofs.Substitute.{substitute-here, substitute-low, substitute-high}
 use Rattle.records.specs.declared.Walk.{Walk}
 use Rattle.records.specs.declared.Walk.the-variants as walk
@@ -19,10 +19,10 @@ use Rattle.sweeping.proofs.Writers.{Other, local-at}
 use Rattle.shifting.specs.declared.Places.{Places}
 use Rattle.shifting.specs.declared.Pairing.{Pairing}
 use Rattle.shifting.specs.declared.Pairing.the-variants.{Upto, No}
-use Rattle.shifting.specs.Tests.{Shifted, Compared}
+use Rattle.shifting.specs.Tests.{Shifted, PartsCompared}
 use Rattle.shifting.specs.Substitution.{Substitutes, Replaced, Substituted}
 use Rattle.shifting.proofs.Tests.{heads-same, bodies-same, same-first, compared-ends, compared-yes, compared-no}
-use Rattle.shifting.proofs.Lowering.{lowered-low, lowered-high}
+use Rattle.shifting.proofs.Lowering.{unshifted-low, unshifted-high}
 
 -- substitution by kinds
 kind-substitute : (k : ℕ) (y x : Term) → ¬ (kind x ≡ 2) → kind (substitute k y x) ≡ kind x
@@ -44,18 +44,18 @@ local-substitute : (n k : ℕ) (y : Term) → ¬ (n ≡ k) → substitute k y (l
 local-substitute n k y h = go (decLt n k)
   where
     go : Dec (n < k) → substitute k y (loc n) ≡ unshift 1 k (loc n)
-    go (yes l) = substitute-low n k y l ∙ lowered-low n k 1 l
-    go (no l) = substitute-high n k y (omega arith) ∙ lowered-high n k 1 (omega arith)
+    go (yes l) = substitute-low n k y l ∙ unshifted-low n k 1 l
+    go (no l) = substitute-high n k y (omega arith) ∙ unshifted-high n k 1 (omega arith)
 
 -- what a walk came to
-pub record Reached (l : List ℕ) (b k e t : ℕ) (p : Places) : Type 0 where
+pub record WalkReached (l : List ℕ) (b k e t : ℕ) (p : Places) : Type 0 where
   pub body-ends : Ends l b (p .first)
   pub target-ends : Ends l t (p .second)
   pub replaced : (x y z : Term) → Part l b x → Part l e y → Part l t z → Replaced k x y z
 
-pub reached : (l : List ℕ) (b k e t : ℕ) (p : Places) (r : Pairing) → r ≡ Upto p → Substituted l b k e t r → Reached l b k e t p
+pub walk-reached : (l : List ℕ) (b k e t : ℕ) (p : Places) (r : Pairing) → r ≡ Upto p → Substituted l b k e t r → WalkReached l b k e t p
 unfolding Substituted
-reached l b k e t p r i q =
+walk-reached l b k e t p r i q =
     let m : Substituted l b k e t (Upto p) = subst (Substituted l b k e t) i q in
     record { body-ends = m .0; target-ends = m .1; replaced = m .2 }
 
@@ -79,7 +79,7 @@ module _ (l : List ℕ) (b k e t : ℕ) where
     ends-local a = ends-leaf l b (λ q. omega arith) (λ q. omega arith) a
 
     module _ (h : n ≡ k) where
-      pub substituted-copy : (j : ℕ) (r : Walk) → Whole l b → r ≡ walk.Upto j → Compared l t e (Shifted k 0) r
+      pub substituted-copy : (j : ℕ) (r : Walk) → Whole l b → r ≡ walk.Upto j → PartsCompared l t e (Shifted k 0) r
           → Substituted l b k e t (Upto (record { first = b + 4; second = j }))
       unfolding Substituted
       substituted-copy j r a u q = (
@@ -89,7 +89,7 @@ module _ (l : List ℕ) (b k e t : ℕ) where
             ∙ sym (ap (substitute k y) (at-local x p) ∙ substitute-here k y n h),
       )
 
-      pub substituted-copy-no : (r : Walk) → r ≡ walk.No → Compared l t e (Shifted k 0) r → Substituted l b k e t No
+      pub substituted-copy-no : (r : Walk) → r ≡ walk.No → PartsCompared l t e (Shifted k 0) r → Substituted l b k e t No
       unfolding Substituted
       substituted-copy-no r u q = λ x y z p s v g.
           compared-no l t e (Shifted k 0) r q z y v s u (g ∙ ap (substitute k y) (at-local x p) ∙ substitute-here k y n h)
@@ -113,7 +113,7 @@ module _ (l : List ℕ) (b k e t : ℕ) where
 
       pub substituted-local-no : (j : ℕ) → getD l t 0 ≡ 2 → j ≡ numberAt l t → ¬ (j ≡ m) → Substituted l b k e t No
       unfolding Substituted
-      substituted-local-no j o u q = λ x y z p s v g. q (ap number (sym (local-at l t j z v o u) ∙ g ∙ other-local x y p))
+      substituted-local-no j o u q = λ x y z p s v g. q (ap numberOf (sym (local-at l t j z v o u) ∙ g ∙ other-local x y p))
 
   module _ (c : getD l b 0 ≡ getD l t 0) where
     module _ (w : getD l b 0 ≡ 0) where
@@ -133,8 +133,8 @@ module _ (l : List ℕ) (b k e t : ℕ) where
           }
 
       module _ (p : Places) (r : Pairing) (i : r ≡ Upto p) (q : Substituted l (b + 4) k e (t + 4) r) where
-        come : Reached l (b + 4) k e (t + 4) p
-        come = reached l (b + 4) k e (t + 4) p r i q
+        come : WalkReached l (b + 4) k e (t + 4) p
+        come = walk-reached l (b + 4) k e (t + 4) p r i q
 
         pub substitutes-argument : Substitutes l b k e t → Substitutes l (p .first) k e (p .second)
         substitutes-argument x =
@@ -226,11 +226,11 @@ module _ (l : List ℕ) (b k e t : ℕ) where
         ends-leaf l t (λ q. o .no-application (c ∙ q)) (λ q. o .no-abstraction (c ∙ q)) d,
         λ x y z p s v.
             let f : kind x ≡ kind z = sym (kind-at l b x p) ∙ c ∙ kind-at l t z v in
-            let g : number x ≡ number z = sym (number-at l b x p) ∙ sym i ∙ h ∙ j ∙ number-at l t z v in
+            let g : numberOf x ≡ numberOf z = sym (number-at l b x p) ∙ sym i ∙ h ∙ j ∙ number-at l t z v in
             sym (same-first x z (above x p) f g) ∙ sym (other-substitute k y x (above x p)),
       )
 
       pub substituted-other-no : ¬ (n ≡ m) → Substituted l b k e t No
       unfolding Substituted
       substituted-other-no h = λ x y z p s v g.
-          h (i ∙ number-at l b x p ∙ ap number (sym (g ∙ other-substitute k y x (above x p))) ∙ sym (number-at l t z v) ∙ sym j)
+          h (i ∙ number-at l b x p ∙ ap numberOf (sym (g ∙ other-substitute k y x (above x p))) ∙ sym (number-at l t z v) ∙ sym j)

@@ -10,9 +10,9 @@ use lib.Dec.{eqb, ltb}
 use lib.ListN.{getD}
 use borrow.Author.Tests.{lt-ltb, le-ltb, eqb-true, eqb-false}
 use Rattle.terms.specs.Term.{Term, app, lam, loc, con, var, size, shift}
-use Rattle.terms.proofs.Table.{kind, number}
+use Rattle.terms.specs.Heads.{rigid}
+use Rattle.terms.proofs.Table.{kind, numberOf}
 use Rattle.terms.proofs.Shift.{size-shift}
-use Rattle.terms.proofs.Locals.{rigid}
 use Rattle.records.specs.declared.Walk.{Walk}
 use Rattle.records.specs.declared.Walk.the-variants.{Upto, No}
 use Rattle.records.specs.Record.{numberAt}
@@ -21,7 +21,7 @@ use Rattle.records.specs.Tests.{Says}
 use Rattle.records.proofs.Parts.{Application, whole, kind-at, number-at, application, abstraction, argument-part, ends-app, ends-lam}
 use Rattle.records.proofs.Parts.{ends-leaf}
 use Rattle.sweeping.proofs.Writers.{Other, local-at}
-use Rattle.shifting.specs.Tests.{Compares, Shifted, Compared}
+use Rattle.shifting.specs.Tests.{PartsComparable, Shifted, PartsCompared}
 
 -- the parts of two equal terms
 pub heads-same : (f a g b : Term) → app f a ≡ app g b → (f ≡ g) × (a ≡ b)
@@ -67,35 +67,36 @@ other-shift d c (var n) h = refl
 abbrev leaf : ℕ → ℕ → Term
 leaf k n = cond (eqb k 3) (con n) (var n)
 
-is-leaf : (t : Term) → 2 < kind t → t ≡ leaf (kind t) (number t)
+is-leaf : (t : Term) → 2 < kind t → t ≡ leaf (kind t) (numberOf t)
 is-leaf (app f a) h = absurd (omega arith)
 is-leaf (lam b) h = absurd (omega arith)
 is-leaf (loc n) h = absurd (omega arith)
 is-leaf (con n) h = refl
 is-leaf (var n) h = refl
 
-pub same-first : (x y : Term) → 2 < kind x → kind x ≡ kind y → number x ≡ number y → x ≡ y
+pub same-first : (x y : Term) → 2 < kind x → kind x ≡ kind y → numberOf x ≡ numberOf y → x ≡ y
 same-first x y h k e = is-leaf x h ∙ ap₂ leaf k e ∙ sym (is-leaf y (subst (λ (i : ℕ). 2 < i) k h))
 
-pub compared-ends : (l : List ℕ) (at e : ℕ) (P : Term → Term → Type 0) (h : ℕ) (w : Walk) → w ≡ Upto h → Compared l at e P w → Ends l at h
-unfolding Compared
-compared-ends l at e P h w i x = let y : Compared l at e P (Upto h) = subst (Compared l at e P) i x in y .0
+pub compared-ends : (l : List ℕ) (at e : ℕ) (P : Term → Term → Type 0) (h : ℕ) (w : Walk) → w ≡ Upto h → PartsCompared l at e P w
+    → Ends l at h
+unfolding PartsCompared
+compared-ends l at e P h w i x = let y : PartsCompared l at e P (Upto h) = subst (PartsCompared l at e P) i x in y .0
 
 -- what an answer says of the terms that stand there
-module _ (l : List ℕ) (at e : ℕ) (P : Term → Term → Type 0) (r : Walk) (q : Compared l at e P r) (x y : Term) (p : Part l at x)
+module _ (l : List ℕ) (at e : ℕ) (P : Term → Term → Type 0) (r : Walk) (q : PartsCompared l at e P r) (x y : Term) (p : Part l at x)
     (t : Part l e y) where
   pub compared-yes : (h : ℕ) → r ≡ Upto h → P x y
-  unfolding Compared
-  compared-yes h i = let m : Compared l at e P (Upto h) = subst (Compared l at e P) i q in m .1 x y p t
+  unfolding PartsCompared
+  compared-yes h i = let m : PartsCompared l at e P (Upto h) = subst (PartsCompared l at e P) i q in m .1 x y p t
 
   pub compared-no : r ≡ No → ¬ P x y
-  unfolding Compared
-  compared-no i = let m : Compared l at e P No = subst (Compared l at e P) i q in m x y p t
+  unfolding PartsCompared
+  compared-no i = let m : PartsCompared l at e P No = subst (PartsCompared l at e P) i q in m x y p t
 
 module _ (l : List ℕ) (at e c d : ℕ) where
   -- first records of different kinds
-  pub compared-kinds : ¬ (getD l at 0 ≡ getD l e 0) → Compared l at e (Shifted d c) No
-  unfolding Compared
+  pub compared-kinds : ¬ (getD l at 0 ≡ getD l e 0) → PartsCompared l at e (Shifted d c) No
+  unfolding PartsCompared
   compared-kinds n = λ x y p q i. n (kind-at l at x p ∙ ap kind i ∙ kind-shift d c y ∙ sym (kind-at l e y q))
 
   module _ (k : getD l at 0 ≡ getD l e 0) where
@@ -104,24 +105,24 @@ module _ (l : List ℕ) (at e c d : ℕ) where
       w = sym k ∙ z
 
       -- where the first's head ends, the second's does as far on
-      pub second-argument : (h : ℕ) (r : Walk) → r ≡ Upto h → Compared l (at + 4) (e + 4) (Shifted d c) r → (x y : Term) → Part l at x
+      pub second-argument : (h : ℕ) (r : Walk) → r ≡ Upto h → PartsCompared l (at + 4) (e + 4) (Shifted d c) r → (x y : Term) → Part l at x
           → (u : Application l at x) → (v : Application l e y) → Part l (e + (h - at)) (v .a)
-      unfolding Compared
+      unfolding PartsCompared
       second-argument h r i q x y p u v =
-          let o : Compared l (at + 4) (e + 4) (Shifted d c) (Upto h) = subst (Compared l (at + 4) (e + 4) (Shifted d c)) i q in
+          let o : PartsCompared l (at + 4) (e + 4) (Shifted d c) (Upto h) = subst (PartsCompared l (at + 4) (e + 4) (Shifted d c)) i q in
           let s : size (u .f) ≡ size (v .f) = ap size (o .1 (u .f) (v .f) (u .head) (v .head)) ∙ size-shift d c (v .f) in
           let n : e + 4 + 4 * size (v .f) ≡ e + (h - at) = omega (arith, o .0 .exact (u .f) (u .head)) in
           subst (λ (j : ℕ). Part l j (v .a)) n (v .argument)
 
-      pub compared-app : (h : ℕ) (r s : Walk) → r ≡ Upto h → Compared l (at + 4) (e + 4) (Shifted d c) r
-          → Compared l h (e + (h - at)) (Shifted d c) s → Compared l at e (Shifted d c) s
-      unfolding Compared
+      pub compared-app : (h : ℕ) (r s : Walk) → r ≡ Upto h → PartsCompared l (at + 4) (e + 4) (Shifted d c) r
+          → PartsCompared l h (e + (h - at)) (Shifted d c) s → PartsCompared l at e (Shifted d c) s
+      unfolding PartsCompared
       compared-app h r s i q o = go s o
         where
-          m : Compared l (at + 4) (e + 4) (Shifted d c) (Upto h)
-          m = subst (Compared l (at + 4) (e + 4) (Shifted d c)) i q
+          m : PartsCompared l (at + 4) (e + 4) (Shifted d c) (Upto h)
+          m = subst (PartsCompared l (at + 4) (e + 4) (Shifted d c)) i q
 
-          go : (s : Walk) → Compared l h (e + (h - at)) (Shifted d c) s → Compared l at e (Shifted d c) s
+          go : (s : Walk) → PartsCompared l h (e + (h - at)) (Shifted d c) s → PartsCompared l at e (Shifted d c) s
           go (Upto j) o = (
             ends-app l at h j z (m .0) (o .0),
             λ x y p t.
@@ -138,10 +139,10 @@ module _ (l : List ℕ) (at e c d : ℕ) where
               o (u .a) (v .a) (argument-part l at h x (m .0) u) (second-argument h r i q x y p u v)
               (heads-same (u .f) (u .a) (shift d c (v .f)) (shift d c (v .a)) (sym (u .is) ∙ g ∙ ap (shift d c) (v .is)) .1)
 
-      pub compared-stop : (r : Walk) → r ≡ No → Compared l (at + 4) (e + 4) (Shifted d c) r → Compared l at e (Shifted d c) No
-      unfolding Compared
+      pub compared-stop : (r : Walk) → r ≡ No → PartsCompared l (at + 4) (e + 4) (Shifted d c) r → PartsCompared l at e (Shifted d c) No
+      unfolding PartsCompared
       compared-stop r i q =
-          let m : Compared l (at + 4) (e + 4) (Shifted d c) No = subst (Compared l (at + 4) (e + 4) (Shifted d c)) i q in
+          let m : PartsCompared l (at + 4) (e + 4) (Shifted d c) No = subst (PartsCompared l (at + 4) (e + 4) (Shifted d c)) i q in
           λ x y p t g.
           let u = application l at x p z in
           let v = application l e y t w in
@@ -149,7 +150,7 @@ module _ (l : List ℕ) (at e c d : ℕ) where
           (heads-same (u .f) (u .a) (shift d c (v .f)) (shift d c (v .a)) (sym (u .is) ∙ g ∙ ap (shift d c) (v .is)) .0)
 
       -- what the walks over the heads and over the arguments need
-      pub compares-head : Compares l at e c d → Compares l (at + 4) (e + 4) c d
+      pub compares-head : PartsComparable l at e c d → PartsComparable l (at + 4) (e + 4) c d
       compares-head x =
           let u = application l at (x .first .tree) (x .first .part) z in
           let v = application l e (x .second .tree) (x .second .part) w in
@@ -163,8 +164,9 @@ module _ (l : List ℕ) (at e c d : ℕ) where
             few = x .few;
           }
 
-      pub compares-argument : (h : ℕ) (r : Walk) → r ≡ Upto h → Compared l (at + 4) (e + 4) (Shifted d c) r → Compares l at e c d
-          → Compares l h (e + (h - at)) c d
+      pub compares-argument : (h : ℕ) (r : Walk) → r ≡ Upto h → PartsCompared l (at + 4) (e + 4) (Shifted d c) r
+          → PartsComparable l at e c d
+          → PartsComparable l h (e + (h - at)) c d
       compares-argument h r i q x =
           let u = application l at (x .first .tree) (x .first .part) z in
           let v = application l e (x .second .tree) (x .second .part) w in
@@ -182,7 +184,7 @@ module _ (l : List ℕ) (at e c d : ℕ) where
           }
 
     module _ (z : getD l at 0 ≡ 1) where
-      pub compares-body : Compares l at e c d → Compares l (at + 4) (e + 4) (c + 1) d
+      pub compares-body : PartsComparable l at e c d → PartsComparable l (at + 4) (e + 4) (c + 1) d
       compares-body x =
           let u = abstraction l at (x .first .tree) (x .first .part) z in
           let v = abstraction l e (x .second .tree) (x .second .part) (sym k ∙ z) in
@@ -196,8 +198,8 @@ module _ (l : List ℕ) (at e c d : ℕ) where
             few = x .few;
           }
 
-      pub compared-lam : (r : Walk) → Compared l (at + 4) (e + 4) (Shifted d (c + 1)) r → Compared l at e (Shifted d c) r
-      unfolding Compared
+      pub compared-lam : (r : Walk) → PartsCompared l (at + 4) (e + 4) (Shifted d (c + 1)) r → PartsCompared l at e (Shifted d c) r
+      unfolding PartsCompared
       compared-lam (Upto h) q = (
         ends-lam l at h z (q .0),
         λ x y p t.
@@ -214,37 +216,37 @@ module _ (l : List ℕ) (at e c d : ℕ) where
           ∙ ap (λ (j : ℕ). shift d j (v .b)) (sym (add-one c)))
 
     module _ (m n : ℕ) (i : m ≡ numberAt l at) (j : n ≡ numberAt l e) where
-      pub compared-local : Whole l at → getD l at 0 ≡ 2 → loc m ≡ shift d c (loc n) → Compared l at e (Shifted d c) (Upto (at + 4))
-      unfolding Compared
+      pub compared-local : Whole l at → getD l at 0 ≡ 2 → loc m ≡ shift d c (loc n) → PartsCompared l at e (Shifted d c) (Upto (at + 4))
+      unfolding PartsCompared
       compared-local o z g = (
         ends-leaf l at (λ q. omega arith) (λ q. omega arith) o,
         λ x y p t. local-at l at m x p z i ∙ g ∙ ap (shift d c) (sym (local-at l e n y t (sym k ∙ z) j)),
       )
 
-      pub compared-local-no : getD l at 0 ≡ 2 → ¬ (loc m ≡ shift d c (loc n)) → Compared l at e (Shifted d c) No
-      unfolding Compared
+      pub compared-local-no : getD l at 0 ≡ 2 → ¬ (loc m ≡ shift d c (loc n)) → PartsCompared l at e (Shifted d c) No
+      unfolding PartsCompared
       compared-local-no z g = λ x y p t f. g (sym (local-at l at m x p z i) ∙ f ∙ ap (shift d c) (local-at l e n y t (sym k ∙ z) j))
 
       module _ (o : Other l at) where
         above : (x : Term) → Part l at x → 2 < kind x
         above x p = omega (arith, kind-at l at x p, o .no-application, o .no-abstraction, o .no-local)
 
-        pub compared-other : Whole l at → m ≡ n → Compared l at e (Shifted d c) (Upto (at + 4))
-        unfolding Compared
+        pub compared-other : Whole l at → m ≡ n → PartsCompared l at e (Shifted d c) (Upto (at + 4))
+        unfolding PartsCompared
         compared-other s g = (
           ends-leaf l at (o .no-application) (o .no-abstraction) s,
           λ x y p t.
               let a : kind x ≡ kind y = sym (kind-at l at x p) ∙ k ∙ kind-at l e y t in
-              let b : number x ≡ number y = sym (number-at l at x p) ∙ sym i ∙ g ∙ j ∙ number-at l e y t in
+              let b : numberOf x ≡ numberOf y = sym (number-at l at x p) ∙ sym i ∙ g ∙ j ∙ number-at l e y t in
               same-first x y (above x p) a b ∙ sym (other-shift d c y (subst (λ (q : ℕ). 2 < q) a (above x p))),
         )
 
-        pub compared-other-no : ¬ (m ≡ n) → Compared l at e (Shifted d c) No
-        unfolding Compared
+        pub compared-other-no : ¬ (m ≡ n) → PartsCompared l at e (Shifted d c) No
+        unfolding PartsCompared
         compared-other-no g = λ x y p t f.
             let a : kind x ≡ kind y = sym (kind-at l at x p) ∙ k ∙ kind-at l e y t in
             let b : x ≡ y = f ∙ other-shift d c y (subst (λ (q : ℕ). 2 < q) a (above x p)) in
-            g (i ∙ number-at l at x p ∙ ap number b ∙ sym (number-at l e y t) ∙ sym j)
+            g (i ∙ number-at l at x p ∙ ap numberOf b ∙ sym (number-at l e y t) ∙ sym j)
 
 -- a rigid head, by the first record
 module _ (l : List ℕ) (at : ℕ) where

@@ -13,10 +13,10 @@ ghost use Prim.Native.Nat.{_+_, _≤_, _<_};
 ghost use lib.ListN.{length, getD};
 ghost use Rattle.terms.specs.Figures.{numbers};
 ghost use Rattle.terms.specs.Term.{Term, loc, shift, unshift};
-ghost use Rattle.terms.proofs.Locals.{rigid};
+ghost use Rattle.terms.specs.Heads.{rigid};
 ghost use Rattle.records.specs.Parts.{Part, Whole};
 ghost use Rattle.records.specs.Tests.{Says};
-ghost use Rattle.shifting.specs.Tests.{Compares, Shifted, Compared};
+ghost use Rattle.shifting.specs.Tests.{PartsComparable, Shifted, PartsCompared};
 ghost use Rattle.shifting.specs.Lowering.{Inside, Lowers, Lowered};
 ghost use Rattle.shifting.specs.Locals.{Marks, Marked};
 ghost use Rattle.shifting.specs.Substitution.{Substitutes, Substituted};
@@ -50,8 +50,8 @@ fn is_shifted_local(m: usize, n: usize, d: usize, c: usize) -> bool
 // Whether the part of s at byte `at` is the part at byte e shifted by d from local c on. As far as the two agree they have records of the
 // same kinds, so that one distance leads from each record to its fellow.
 pub fn is_shifted(s: &[u8], at: usize, e: usize, c: usize, d: usize) -> Walk
-    requires { ⌜ Compares (now s) at e c d ⌝ }
-    ensures { λ r. ⌜ Compared (now (s .entry)) at e (Shifted d c) r ⌝ }
+    requires { ⌜ PartsComparable (now s) at e c d ⌝ }
+    ensures { λ r. ⌜ PartsCompared (now (s .entry)) at e (Shifted d c) r ⌝ }
 {
     let k = s[at];
     if k != s[e] {
@@ -84,8 +84,8 @@ pub fn is_shifted(s: &[u8], at: usize, e: usize, c: usize, d: usize) -> Walk
 // Where the part of s at byte `at` ends, if it is a copy of the part at byte e: that part, shifted by the d binders above it. Nearly always
 // their first records are of different kinds, which is told here, without a call of the recursive walk.
 pub fn copy_end(s: &[u8], at: usize, e: usize, d: usize) -> Walk
-    requires { ⌜ Compares (now s) at e 0 d ⌝ }
-    ensures { λ r. ⌜ Compared (now (s .entry)) at e (Shifted d 0) r ⌝ }
+    requires { ⌜ PartsComparable (now s) at e 0 d ⌝ }
+    ensures { λ r. ⌜ PartsCompared (now (s .entry)) at e (Shifted d 0) r ⌝ }
 {
     if s[at] != s[e] {
         return Walk::No;

@@ -10,16 +10,17 @@ use lib.Seq.{length-sets}
 use Rattle.terms.specs.Term.{Term, lam}
 use Rattle.terms.specs.Table.{encode}
 use Rattle.terms.proofs.Table.{encode-length}
-use Rattle.matching.proofs.Skeletons.{Fits, fits-refl, closed-apply}
+use Rattle.matching.specs.Skeletons.{Fits}
+use Rattle.matching.proofs.Skeletons.{fits-refl, closed-apply}
 use Rattle.records.specs.Parts.{Part, Whole, Ends}
 use Rattle.records.proofs.Parts.{size-some, part-one, part-bytes, whole, at-start}
-use Rattle.sweeping.specs.Swept.{sweptBytes, Applied}
+use Rattle.sweeping.specs.Swept.{sweptBytes, SweptParts}
 use Rattle.copying.proofs.Stores.{stored}
 use Rattle.sweeping.proofs.Contraction.{table-length}
-use Rattle.skeletons.specs.Outlined.{Comparable, MayBe, Applicable, MayBuild}
-use Rattle.skeletons.specs.Contracted.{Application, Writes, Applies}
+use Rattle.skeletons.specs.Skeleton.{SkeletonComparable, MayBe, SkeletonApplicable, MayBuild}
+use Rattle.skeletons.specs.Contracted.{ApplicationSkeleton, Writes, WritesApplication}
 
-module _ (c s : List ℕ) (e t : ℕ) (x : Applicable c s e t) where
+module _ (c s : List ℕ) (e t : ℕ) (x : SkeletonApplicable c s e t) where
   pub argument-whole : Whole s e
   argument-whole = whole s e (x .argument) (x .part)
 
@@ -30,7 +31,7 @@ module _ (c s : List ℕ) (e t : ℕ) (x : Applicable c s e t) where
     argument-bytes : table ≡ encode (x .argument)
     argument-bytes = part-bytes s e (end - e) (x .argument) (x .part) (omega (arith, m .exact (x .argument) (x .part)))
 
-    pub applied : Applied c table
+    pub applied : SweptParts c table
     applied =
         let n = table-length c (x .skeleton) (x .bytes) in
         let k = table-length table (x .argument) argument-bytes in
@@ -48,8 +49,8 @@ module _ (c s : List ℕ) (e t : ℕ) (x : Applicable c s e t) where
           closed = closed-apply (x .depth) (x .skeleton) (x .argument) (x .closed) (x .argument-closed);
         }
 
-    module _ (out after : List ℕ) (n : ℕ) (w : Applies c table out n after) (h : length out ≡ sweptBytes) where
-      built : Writes (Application (x .skeleton) (x .argument)) out n after
+    module _ (out after : List ℕ) (n : ℕ) (w : WritesApplication c table out n after) (h : length out ≡ sweptBytes) where
+      built : Writes (ApplicationSkeleton (x .skeleton) (x .argument)) out n after
       built = w .written (x .skeleton) (x .argument) (x .bytes) argument-bytes
 
       built-bytes : take (n * 4 - 0) (drop 0 after) ≡ encode (built .skeleton)
@@ -63,7 +64,7 @@ module _ (c s : List ℕ) (e t : ℕ) (x : Applicable c s e t) where
       built-part : Part (take (n * 4 - 0) (drop 0 after)) 0 (built .skeleton)
       built-part = at-start (take (n * 4 - 0) (drop 0 after)) (built .skeleton) built-bytes
 
-      pub built-comparable : Comparable (take (n * 4 - 0) (drop 0 after)) s t
+      pub built-comparable : SkeletonComparable (take (n * 4 - 0) (drop 0 after)) s t
       built-comparable = record {
         skeleton = whole (take (n * 4 - 0) (drop 0 after)) 0 (built .skeleton) built-part;
         least = omega (arith, built-part .some, built-part .within);

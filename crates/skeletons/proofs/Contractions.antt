@@ -11,14 +11,15 @@ use Rattle.terms.specs.Figures.{sweptRecords}
 use Rattle.terms.specs.Term.{Term, app, lam, var, size}
 use Rattle.terms.specs.Sweep.{contract}
 use Rattle.terms.specs.Table.{encode}
-use Rattle.matching.proofs.Skeletons.{isUnsure, fits-apply, fits-abstract, closed-apply, closed-abstract}
+use Rattle.matching.specs.Skeletons.{isUnsure}
+use Rattle.matching.proofs.Skeletons.{fits-apply, fits-abstract, closed-apply, closed-abstract}
 use Rattle.records.specs.Parts.{Tree}
 use Rattle.records.specs.Tests.{Equals}
 use Rattle.records.proofs.Parts.{size-some, at-start}
 use Rattle.sweeping.specs.declared.Length.{Length}
 use Rattle.sweeping.specs.declared.Length.the-variants.{Records, TooLong}
-use Rattle.sweeping.specs.Swept as swept
-use Rattle.skeletons.specs.Contracted.{Application, Abstraction, Writes, Applies, Abstracts}
+use Rattle.sweeping.specs.Swept.{SweptBody, ContractsAbstraction, SweptParts, ContractsApplication, WrittenForm}
+use Rattle.skeletons.specs.Contracted.{ApplicationSkeleton, AbstractionSkeleton, Writes, WritesApplication, WritesAbstraction}
 use Rattle.skeletons.proofs.Tests.{no-variable}
 
 -- what a hole's record leaves
@@ -32,10 +33,10 @@ hole-writes : (P : Term → Type 0) (out mid after : List ℕ) (n : ℕ) → P (
 hole-writes P out mid after n p e h =
     record { skeleton = var 0; bytes = h .1 ∙ ap (λ (l : List ℕ). sets l 0 (encode (var 0))) e; sized = h .0; holds = p }
 
-any-application : (f a : Term) → Application f a (var 0)
+any-application : (f a : Term) → ApplicationSkeleton f a (var 0)
 any-application f a = record { closed = λ d c e. tt; fits = λ g b x y. tt }
 
-any-abstraction : (b : Term) → Abstraction b (var 0)
+any-abstraction : (b : Term) → AbstractionSkeleton b (var 0)
 any-abstraction b = record { closed = λ d c. tt; fits = λ u x. tt }
 
 -- the two answers of a contraction
@@ -44,28 +45,28 @@ record Answer (t : Term) (out : List ℕ) (n : ℕ) (after : List ℕ) : Type 0 
   few : n ≤ sweptRecords
   bytes : after ≡ sets out 0 (encode t)
 
-answer : (t : Term) (out : List ℕ) (r : Length) (n : ℕ) (after : List ℕ) → swept.Written t out r after → r ≡ Records n
+answer : (t : Term) (out : List ℕ) (r : Length) (n : ℕ) (after : List ℕ) → WrittenForm t out r after → r ≡ Records n
     → Answer t out n after
-unfolding swept.Written
+unfolding WrittenForm
 answer t out r n after w e =
-    let x : swept.Written t out (Records n) after = subst (λ (q : Length). swept.Written t out q after) e w in
+    let x : WrittenForm t out (Records n) after = subst (λ (q : Length). WrittenForm t out q after) e w in
     record { sized = x .0; few = x .1; bytes = x .2 }
 
-untouched : (t : Term) (out : List ℕ) (r : Length) (after : List ℕ) → swept.Written t out r after → r ≡ TooLong → after ≡ out
-unfolding swept.Written
-untouched t out r after w e = let x : swept.Written t out TooLong after = subst (λ (q : Length). swept.Written t out q after) e w in x .1
+untouched : (t : Term) (out : List ℕ) (r : Length) (after : List ℕ) → WrittenForm t out r after → r ≡ TooLong → after ≡ out
+unfolding WrittenForm
+untouched t out r after w e = let x : WrittenForm t out TooLong after = subst (λ (q : Length). WrittenForm t out q after) e w in x .1
 
 -- an application
-module _ (f a out : List ℕ) (r : Length) (mid : List ℕ) (w : swept.Applies f a out r mid) where
-  pub applies-hole : r ≡ TooLong → (n : ℕ) (after : List ℕ) → Hole mid n after → Applies f a out n after
+module _ (f a out : List ℕ) (r : Length) (mid : List ℕ) (w : ContractsApplication f a out r mid) where
+  pub applies-hole : r ≡ TooLong → (n : ℕ) (after : List ℕ) → Hole mid n after → WritesApplication f a out n after
   applies-hole q n after h = record {
-    written = λ x y e g. hole-writes (Application x y) out mid after n (any-application x y)
+    written = λ x y e g. hole-writes (ApplicationSkeleton x y) out mid after n (any-application x y)
         (untouched (contract (app x y)) out r mid (w x y e g) q) h;
     some = omega (arith, h .0);
     few = omega (arith, h .0);
   }
 
-  pub applies-contracted : swept.Applied f a → ¬ (getD f 0 0 ≡ 4) → (n : ℕ) → r ≡ Records n → Applies f a out n mid
+  pub applies-contracted : SweptParts f a → ¬ (getD f 0 0 ≡ 4) → (n : ℕ) → r ≡ Records n → WritesApplication f a out n mid
   applies-contracted p z n q = record {
     written = each;
     some = omega (arith, one .sized, size-some (contract (app (p .head) (p .argument))));
@@ -78,7 +79,7 @@ module _ (f a out : List ℕ) (r : Length) (mid : List ℕ) (w : swept.Applies f
       one : Answer (contract (app (p .head) (p .argument))) out n mid
       one = answered (p .head) (p .argument) (p .head-bytes) (p .argument-bytes)
 
-      each : (x y : Term) → f ≡ encode x → a ≡ encode y → Writes (Application x y) out n mid
+      each : (x y : Term) → f ≡ encode x → a ≡ encode y → Writes (ApplicationSkeleton x y) out n mid
       each x y e g =
           let m = answered x y e g in
           record {
@@ -92,26 +93,27 @@ module _ (f a out : List ℕ) (r : Length) (mid : List ℕ) (w : swept.Applies f
           }
 
 -- an abstraction
-pub abstracted-tree : (b : List ℕ) → swept.Abstracted b → Tree b
+pub abstracted-tree : (b : List ℕ) → SweptBody b → Tree b
 abstracted-tree b x = record { tree = x .body; bytes = x .bytes; least = x .least }
 
-pub abstracts-unsure : (b out : List ℕ) (n : ℕ) (after : List ℕ) → Hole out n after → Abstracts b out n after
+pub abstracts-unsure : (b out : List ℕ) (n : ℕ) (after : List ℕ) → Hole out n after → WritesAbstraction b out n after
 abstracts-unsure b out n after h = record {
-  written = λ x e. hole-writes (Abstraction x) out out after n (any-abstraction x) refl h;
+  written = λ x e. hole-writes (AbstractionSkeleton x) out out after n (any-abstraction x) refl h;
   some = omega (arith, h .0);
   few = omega (arith, h .0);
 }
 
-module _ (b out : List ℕ) (r : Length) (mid : List ℕ) (w : swept.Abstracts b out r mid) where
-  pub abstracts-hole : r ≡ TooLong → (n : ℕ) (after : List ℕ) → Hole mid n after → Abstracts b out n after
+module _ (b out : List ℕ) (r : Length) (mid : List ℕ) (w : ContractsAbstraction b out r mid) where
+  pub abstracts-hole : r ≡ TooLong → (n : ℕ) (after : List ℕ) → Hole mid n after → WritesAbstraction b out n after
   abstracts-hole q n after h = record {
-    written = λ x e. hole-writes (Abstraction x) out mid after n (any-abstraction x) (untouched (contract (lam x)) out r mid (w x e) q) h;
+    written =
+        λ x e. hole-writes (AbstractionSkeleton x) out mid after n (any-abstraction x) (untouched (contract (lam x)) out r mid (w x e) q) h;
     some = omega (arith, h .0);
     few = omega (arith, h .0);
   }
 
-  pub abstracts-contracted : swept.Abstracted b → (t : Bool) → Equals b isUnsure t → t ≡ false → (n : ℕ) → r ≡ Records n
-      → Abstracts b out n mid
+  pub abstracts-contracted : SweptBody b → (t : Bool) → Equals b isUnsure t → t ≡ false → (n : ℕ) → r ≡ Records n
+      → WritesAbstraction b out n mid
   abstracts-contracted p t test o n q = record {
     written = each;
     some = omega (arith, one .sized, size-some (contract (lam (p .body))));
@@ -124,7 +126,7 @@ module _ (b out : List ℕ) (r : Length) (mid : List ℕ) (w : swept.Abstracts b
       one : Answer (contract (lam (p .body))) out n mid
       one = answered (p .body) (p .bytes)
 
-      each : (x : Term) → b ≡ encode x → Writes (Abstraction x) out n mid
+      each : (x : Term) → b ≡ encode x → Writes (AbstractionSkeleton x) out n mid
       each x e =
           let m = answered x e in
           record {

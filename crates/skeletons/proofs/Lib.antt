@@ -1,5 +1,5 @@
 pub mod Contractions
 pub mod Tests
-pub mod Outlines
+pub mod Writing
 pub mod Comparison
 pub mod Applying

@@ -11,7 +11,8 @@ use lib.ListN.{getD}
 use borrow.Author.Tests.{eq-eqb, ne-eqb}
 use Rattle.terms.specs.Term.{Term, app, lam, loc, con, var, isInnermost}
 use Rattle.terms.proofs.Tests.{or-false}
-use Rattle.matching.proofs.Skeletons.{hasVariable, isVariable, isAny, isUnsure}
+use Rattle.matching.specs.Skeletons.{hasVariable, isAny, isUnsure}
+use Rattle.matching.proofs.Skeletons.{isVariable}
 use Rattle.records.specs.declared.Walk.{Walk}
 use Rattle.records.specs.declared.Walk.the-variants.{Upto, No}
 use Rattle.records.specs.Record.{numberAt}

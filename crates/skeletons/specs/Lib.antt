@@ -1,3 +1,3 @@
-pub mod Outlined
+pub mod Skeleton
 pub mod Contracted
 pub mod Compared

@@ -6,6 +6,11 @@
 // fit the skeleton is never met, and a skeleton without a hole is the swept part itself. The crate writes skeletons, a hole as a variable's
 // record, looks for holes in them, applies them, and compares them with terms. It promises that the swept part fits what it writes. It
 // rests on `sweeping` for single contractions, on `assignments` for values, and on `shifting` for the answer of a walk over two parts.
+//
+// A hole takes in whatever isn't certain, so that nothing has to be promised of how much a skeleton shows, only that every swept form fits
+// it. A hole for a part without loose locals takes closed terms alone, since values bring in no loose local: such a term is never the local
+// that an abstraction over it binds, so that the abstraction is sure not to contract. Holes of both kinds are variables' records, told
+// apart by their numbers.
 
 use assignments::Entry;
 use records::Ask;
@@ -25,13 +30,13 @@ ghost use lib.Seq.{sets};
 ghost use Rattle.terms.specs.Figures.{numbers, tableBytes};
 ghost use Rattle.terms.specs.Term.{var};
 ghost use Rattle.terms.specs.Table.{encode};
-ghost use Rattle.matching.proofs.Skeletons.{isUnsure};
+ghost use Rattle.matching.specs.Skeletons.{isUnsure};
 ghost use Rattle.records.specs.Parts.{Tree, Whole};
 ghost use Rattle.records.specs.Tests.{Tells, Equals, Walked};
-ghost use Rattle.sweeping.specs.Swept.{Applied, Abstracted};
-ghost use Rattle.skeletons.specs.Outlined.{Outlinable, Outlined, Comparable, MayBe, Applicable, MayBuild};
-ghost use Rattle.skeletons.specs.Contracted.{Applies, Abstracts, Exact, Known, Entered};
-ghost use Rattle.skeletons.specs.Compared.{Compares, Compared};
+ghost use Rattle.sweeping.specs.Swept.{SweptParts, SweptBody};
+ghost use Rattle.skeletons.specs.Skeleton.{SkeletonInput, WritesSkeleton, SkeletonComparable, MayBe, SkeletonApplicable, MayBuild};
+ghost use Rattle.skeletons.specs.Contracted.{WritesApplication, WritesAbstraction, Exact, Known, Entered};
+ghost use Rattle.skeletons.specs.Compared.{SkeletonParts, SkeletonCompared};
 
 // The number of a hole that any term may stand in.
 const ANY: usize = 0;
@@ -51,7 +56,8 @@ fn hole(number: usize, out: &mut [u8; SWEPT_BYTES]) -> usize
 // Writes the hole for the part s, of whose swept form no more is known than that values bring in no loose local.
 fn hole_for(s: &[u8], out: &mut [u8; SWEPT_BYTES]) -> usize
     requires { ⌜ Tree (now s) × (length (now s) ≤ tableBytes) ⌝ }
-    ensures { λ r. ⌜ ((values : List ℕ) (a : List Entry) → Outlined (now (s .entry)) values a (now (out .entry)) r (now (out .exit))) ⌝ }
+    ensures { λ r. ⌜ ((values : List ℕ) (a : List Entry) → WritesSkeleton (now (s .entry)) values a (now (out .entry)) r
+        (now (out .exit))) ⌝ }
 {
     if records::is_closed(s, 0) {
         return hole(CLOSED, out);
@@ -61,8 +67,8 @@ fn hole_for(s: &[u8], out: &mut [u8; SWEPT_BYTES]) -> usize
 
 // Writes the skeleton of the application of f to x, both skeletons, where f is no hole.
 fn apply(f: &[u8], x: &[u8], out: &mut [u8; SWEPT_BYTES]) -> usize
-    requires { ⌜ Applied (now f) (now x) × ¬ (getD (now f) 0 0 ≡ 4) ⌝ }
-    ensures { λ r. ⌜ Applies (now (f .entry)) (now (x .entry)) (now (out .entry)) r (now (out .exit)) ⌝ }
+    requires { ⌜ SweptParts (now f) (now x) × ¬ (getD (now f) 0 0 ≡ 4) ⌝ }
+    ensures { λ r. ⌜ WritesApplication (now (f .entry)) (now (x .entry)) (now (out .entry)) r (now (out .exit)) ⌝ }
 {
     let length = sweeping::contract_application(f, x, out);
     let Length::Records(n) = length else {
@@ -137,8 +143,8 @@ fn is_unsure(b: &[u8]) -> bool
 
 // Writes the skeleton of the abstraction over b, which is a skeleton.
 fn abstract_over(b: &[u8], out: &mut [u8; SWEPT_BYTES]) -> usize
-    requires { ⌜ Abstracted (now b) ⌝ }
-    ensures { λ r. ⌜ Abstracts (now (b .entry)) (now (out .entry)) r (now (out .exit)) ⌝ }
+    requires { ⌜ SweptBody (now b) ⌝ }
+    ensures { λ r. ⌜ WritesAbstraction (now (b .entry)) (now (out .entry)) r (now (out .exit)) ⌝ }
 {
     if is_unsure(b) {
         return hole(ANY, out);
@@ -155,13 +161,13 @@ fn abstract_over(b: &[u8], out: &mut [u8; SWEPT_BYTES]) -> usize
 fn skeleton_variable(
     i: usize,
     values: &[u8],
-    a: [Entry; VARIABLES],
+    entries: [Entry; VARIABLES],
     out: &mut [u8; SWEPT_BYTES],
 ) -> usize
-    requires { ⌜ Known (now values) a i ⌝ }
-    ensures { λ r. ⌜ Entered (now (values .entry)) a i (now (out .entry)) r (now (out .exit)) ⌝ }
+    requires { ⌜ Known (now values) entries i ⌝ }
+    ensures { λ r. ⌜ Entered (now (values .entry)) entries i (now (out .entry)) r (now (out .exit)) ⌝ }
 {
-    let e = a[i];
+    let e = entries[i];
     match e {
         Entry::Open => hole(CLOSED, out),
         Entry::Assigned(span) => {
@@ -175,19 +181,19 @@ fn skeleton_variable(
 fn skeleton_application(
     s: &[u8],
     values: &[u8],
-    a: [Entry; VARIABLES],
+    entries: [Entry; VARIABLES],
     out: &mut [u8; SWEPT_BYTES],
 ) -> usize
-    requires { ⌜ Outlinable (now s) (now values) a × (getD (now s) 0 0 ≡ 0) ⌝ }
-    ensures { λ r. ⌜ Outlined (now (s .entry)) (now (values .entry)) a (now (out .entry)) r (now (out .exit)) ⌝ }
+    requires { ⌜ SkeletonInput (now s) (now values) entries × (getD (now s) 0 0 ≡ 0) ⌝ }
+    ensures { λ r. ⌜ WritesSkeleton (now (s .entry)) (now (values .entry)) entries (now (out .entry)) r (now (out .exit)) ⌝ }
 {
     let mut head = [0u8; SWEPT_BYTES];
-    let n = skeleton(records::head_of(s), values, a, &mut head);
+    let n = skeleton(records::head_of(s), values, entries, &mut head);
     if head[0] == Kind::VARIABLE.code {
         return hole_for(s, out);
     }
     let mut argument = [0u8; SWEPT_BYTES];
-    let m = skeleton(records::argument_of(s), values, a, &mut argument);
+    let m = skeleton(records::argument_of(s), values, entries, &mut argument);
     let n = n * RECORD;
     let m = m * RECORD;
     apply(&head[0..n], &argument[0..m], out)
@@ -197,14 +203,14 @@ fn skeleton_application(
 fn skeleton_abstraction(
     s: &[u8],
     values: &[u8],
-    a: [Entry; VARIABLES],
+    entries: [Entry; VARIABLES],
     out: &mut [u8; SWEPT_BYTES],
 ) -> usize
-    requires { ⌜ Outlinable (now s) (now values) a × (getD (now s) 0 0 ≡ 1) ⌝ }
-    ensures { λ r. ⌜ Outlined (now (s .entry)) (now (values .entry)) a (now (out .entry)) r (now (out .exit)) ⌝ }
+    requires { ⌜ SkeletonInput (now s) (now values) entries × (getD (now s) 0 0 ≡ 1) ⌝ }
+    ensures { λ r. ⌜ WritesSkeleton (now (s .entry)) (now (values .entry)) entries (now (out .entry)) r (now (out .exit)) ⌝ }
 {
     let mut body = [0u8; SWEPT_BYTES];
-    let n = skeleton(records::body_of(s), values, a, &mut body);
+    let n = skeleton(records::body_of(s), values, entries, &mut body);
     let n = n * RECORD;
     abstract_over(&body[0..n], out)
 }
@@ -214,21 +220,21 @@ fn skeleton_abstraction(
 pub fn skeleton(
     s: &[u8],
     values: &[u8],
-    a: [Entry; VARIABLES],
+    entries: [Entry; VARIABLES],
     out: &mut [u8; SWEPT_BYTES],
 ) -> usize
-    requires { ⌜ Outlinable (now s) (now values) a ⌝ }
-    ensures { λ r. ⌜ Outlined (now (s .entry)) (now (values .entry)) a (now (out .entry)) r (now (out .exit)) ⌝ }
+    requires { ⌜ SkeletonInput (now s) (now values) entries ⌝ }
+    ensures { λ r. ⌜ WritesSkeleton (now (s .entry)) (now (values .entry)) entries (now (out .entry)) r (now (out .exit)) ⌝ }
 {
     let kind = s[0];
     if kind == Kind::APPLICATION.code {
-        return skeleton_application(s, values, a, out);
+        return skeleton_application(s, values, entries, out);
     }
     if kind == Kind::ABSTRACTION.code {
-        return skeleton_abstraction(s, values, a, out);
+        return skeleton_abstraction(s, values, entries, out);
     }
     if kind == Kind::VARIABLE.code {
-        return skeleton_variable(records::number_at(s, 0), values, a, out);
+        return skeleton_variable(records::number_at(s, 0), values, entries, out);
     }
     copying::copy_into(s, out, 0);
     1
@@ -236,8 +242,8 @@ pub fn skeleton(
 
 // Passes the term of s at byte t at the hole of c at byte b, if it may stand there.
 fn fits_hole(c: &[u8], b: usize, s: &[u8], t: usize) -> Pairing
-    requires { ⌜ Compares (now c) b (now s) t × (getD (now c) b 0 ≡ 4) ⌝ }
-    ensures { λ r. ⌜ Compared (now (c .entry)) b (now (s .entry)) t r ⌝ }
+    requires { ⌜ SkeletonParts (now c) b (now s) t × (getD (now c) b 0 ≡ 4) ⌝ }
+    ensures { λ r. ⌜ SkeletonCompared (now (c .entry)) b (now (s .entry)) t r ⌝ }
 {
     if records::number_at(c, b) == ANY {
         let end = records::end_at(s, t);
@@ -259,8 +265,8 @@ fn fits_hole(c: &[u8], b: usize, s: &[u8], t: usize) -> Pairing
 // Walks over the skeleton of c at byte b and the term of s at byte t together, as far as the term fits. At a hole it passes a whole part of
 // the term.
 fn fits(c: &[u8], b: usize, s: &[u8], t: usize) -> Pairing
-    requires { ⌜ Compares (now c) b (now s) t ⌝ }
-    ensures { λ r. ⌜ Compared (now (c .entry)) b (now (s .entry)) t r ⌝ }
+    requires { ⌜ SkeletonParts (now c) b (now s) t ⌝ }
+    ensures { λ r. ⌜ SkeletonCompared (now (c .entry)) b (now (s .entry)) t r ⌝ }
 {
     let kind = c[b];
     if kind == Kind::VARIABLE.code {
@@ -290,7 +296,7 @@ fn fits(c: &[u8], b: usize, s: &[u8], t: usize) -> Pairing
 
 // Whether the term of s at byte t may be the swept form of a part with the skeleton c.
 pub fn may_be(c: &[u8], s: &[u8], t: usize) -> bool
-    requires { ⌜ Comparable (now c) (now s) t ⌝ }
+    requires { ⌜ SkeletonComparable (now c) (now s) t ⌝ }
     ensures { λ r. ⌜ MayBe (now (c .entry)) (now (s .entry)) t r ⌝ }
 {
     let walk = fits(c, 0, s, t);
@@ -303,7 +309,7 @@ pub fn may_be(c: &[u8], s: &[u8], t: usize) -> bool
 // Whether a part with the skeleton c, which is no hole, may be an abstraction that comes to the term of s at byte t with the one at byte e
 // put in: the term fits the skeleton applied to that one.
 pub fn may_build(c: &[u8], s: &[u8], e: usize, t: usize) -> bool
-    requires { ⌜ Applicable (now c) (now s) e t × ¬ (getD (now c) 0 0 ≡ 4) ⌝ }
+    requires { ⌜ SkeletonApplicable (now c) (now s) e t × ¬ (getD (now c) 0 0 ≡ 4) ⌝ }
     ensures { λ r. ⌜ MayBuild (now (c .entry)) (now (s .entry)) e t r ⌝ }
 {
     let end = records::end_at(s, e);

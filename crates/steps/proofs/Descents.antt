@@ -1,5 +1,5 @@
 -- The step of an easy goal whose part is an abstraction or an application. The goal goes on with the part's own parts, whose targets are
--- the target's, or it is put off as it is; no assignment brings in a local that the part lacks. Assumes nothing.
+-- the target's, or it is deferred as it is; no assignment brings in a local that the part lacks. Assumes nothing.
 use mathlib.Core.Path.{_≡_, refl, sym, ap, ap₂, _∙_, subst, subst₂}
 use mathlib.Core.Bool.{Bool, true}
 use mathlib.Core.Logic.{inl, inr, _↔_}
@@ -13,14 +13,13 @@ use Rattle.terms.specs.Term.{Term, app, lam, loc, con, var, size, shift, Normal
 use Rattle.terms.specs.Table.{bytes, encode}
 use Rattle.terms.specs.Sweep.{sweep, fill}
 use Rattle.terms.specs.Refusal.{OccursIn}
+use Rattle.terms.specs.Heads.{rigid}
 use Rattle.terms.proofs.Table.{kind, encode-length}
 use Rattle.terms.proofs.Shift.{size-shift}
-use Rattle.terms.proofs.Locals.{rigid}
+use Rattle.matching.specs.Goals.{Sweeps, Goal, Goal.match, All, Listable}
 use Rattle.matching.proofs.Step.{bodyTarget, match-abstraction, bodyTarget-normal}
 use Rattle.matching.proofs.Targets.{closed-more, bodyTarget-closed, bodyTarget-ground, closed-shift}
 use Rattle.matching.proofs.Prune.{rigid-application, no-local}
-use Rattle.matching.proofs.Lister.{Sweeps}
-use Rattle.matching.proofs.Goals.{Goal, Goal.match, All, Listable}
 use Rattle.records.specs.Parts.{Part, Whole, Ends}
 use Rattle.records.proofs.Parts.{kind-at, application, abstraction, argument-part, whole-head}
 use Rattle.assignments.specs.declared.Entry.{Entry}
@@ -29,20 +28,20 @@ use Rattle.sweeping.proofs.Contraction.{closed-fits}
 use Rattle.sweeping.proofs.Writers.{source}
 use Rattle.copying.proofs.Stores.{written-then, stored}
 use Rattle.agenda.specs.declared.Agenda.{Agenda}
-use Rattle.agenda.specs.declared.Item.{Item}
+use Rattle.agenda.specs.declared.StoredGoal.{StoredGoal}
 use Rattle.agenda.specs.declared.Step.the-variants as step
-use Rattle.agenda.specs.Items.{itemBytes}
-use Rattle.agenda.specs.State.{targetBytes, Target, Easy, Hard, Bounds}
+use Rattle.agenda.specs.Stored.{storedBytes}
+use Rattle.agenda.specs.State.{targetBytes, Target, Easy, Deferred, Bounds}
 use Rattle.steps.specs.Steps.{Stepped}
 use Rattle.agenda.specs.Locals.{Locals, Lacks}
-use Rattle.steps.specs.Opening.{Opens, Applies, Applied}
+use Rattle.steps.specs.Opening.{Opens, Expandable, Expanded}
 use Rattle.agenda.proofs.Frame.{Kept, target-kept, chain-kept, holds-kept, part-stored, kept-sets, kept-then, length-stored}
 use Rattle.steps.proofs.Opening.{Opened, opened, pushed, Pushed, dead, replaced}
 
 -- what stands in a state that is known to be there
-module _ (P W : List ℕ) (s : Agenda) (a : List Entry) (r : Item) (x : Opens P W s a r) where
+module _ (P W : List ℕ) (s : Agenda) (a : List Entry) (r : StoredGoal) (x : Opens P W s a r) where
   pub known : Opened P W s r (x .ready .gs) (x .ready .hs)
-  known = opened P W s a r (x .some) (x .item) (x .ready .gs) (x .ready .hs) (x .ready .line) (x .ready .state)
+  known = opened P W s a r (x .some) (x .stored-goal) (x .ready .gs) (x .ready .hs) (x .ready .line) (x .ready .state)
 
   pub head-whole : getD P (r .part) 0 ≡ 0 → Whole P (r .part + 4)
   head-whole k = whole-head P (r .part) (x .part) k
@@ -50,7 +49,7 @@ module _ (P W : List ℕ) (s : Agenda) (a : List Entry) (r : Item) (x : Opens P 
   pub target-head-whole : getD W (r .target) 0 ≡ 0 → Whole W (r .target + 4)
   target-head-whole k = whole-head W (r .target) (x .target) k
 
-  pub applies : Applies W (r .target) (s .top)
+  pub applies : Expandable W (r .target) (s .top)
   applies =
       let o = known in
       let b = x .ready .bounds in
@@ -79,7 +78,7 @@ module _ (P W : List ℕ) (s : Agenda) (a : List Entry) (r : Item) (x : Opens P 
       }
 
 -- `@ t #0` is written: the shifted target first into an array of its own
-module _ (W : List ℕ) (at o : ℕ) (x : Applies W at o) where
+module _ (W : List ℕ) (at o : ℕ) (x : Expandable W at o) where
   pub apply-source : (room : ℕ) → room ≡ targetBytes → Source (shift 1) W at 0 room 0
   apply-source room e =
       let n = size-shift 1 0 (x .tree) in
@@ -105,7 +104,7 @@ module _ (W : List ℕ) (at o : ℕ) (x : Applies W at o) where
     pub applied :
         (U X R : List ℕ) (m : ℕ) → length Z ≡ targetBytes → U ≡ sets W o (bytes 0 0 []) → X ≡ sets U (o + 4) (take (n - 0) (drop 0 Y))
         → R ≡ sets X m (bytes 2 0 [])
-        → m ≡ o + 4 + n → Applied W at o R (m + 4)
+        → m ≡ o + 4 + n → Expanded W at o R (m + 4)
     applied U X R m z e f g h = record {
       exact = λ t y. omega (arith, w .exact t y);
       bytes = λ t y.
@@ -128,7 +127,7 @@ other-target (loc i) n = refl
 other-target (con i) n = refl
 other-target (var i) n = refl
 
-module _ (P W : List ℕ) (s : Agenda) (a : List Entry) (r : Item) (x : Opens P W s a r) (k : getD P (r .part) 0 ≡ 1) where
+module _ (P W : List ℕ) (s : Agenda) (a : List Entry) (r : StoredGoal) (x : Opens P W s a r) (k : getD P (r .part) 0 ≡ 1) where
   -- the body's goal, whose target u stands at byte `i` of Y
   body-goal :
       (Y : List ℕ) (at i : ℕ) (gs hs : List Goal) (o : Opened P W s r gs hs) (u : Term) → bodyTarget (o .t) ≡ u → Part Y i u
@@ -163,8 +162,8 @@ module _ (P W : List ℕ) (s : Agenda) (a : List Entry) (r : Item) (x : Opens P 
 
   pub body-pushed :
       (X : List ℕ) → getD W (r .target) 0 ≡ 1
-      → X ≡ sets W (s .top) (itemBytes (record { part = r .part + 4; kind = 0; target = r .target + 4; next = r .next; argument = 0 }))
-      → Stepped P W s a X (step.Left (record { top = s .top + 8; easy = s .top; hard = s .hard }))
+      → X ≡ sets W (s .top) (storedBytes (record { part = r .part + 4; kind = 0; target = r .target + 4; next = r .next; argument = 0 }))
+      → Stepped P W s a X (step.Left (record { top = s .top + 8; easy = s .top; deferred = s .deferred }))
   body-pushed X t e =
       let b = x .ready .bounds in
       replaced P W s a r x W X (s .top) (record { part = r .part + 4; kind = 0; target = r .target + 4; next = r .next; argument = 0 })
@@ -177,9 +176,9 @@ module _ (P W : List ℕ) (s : Agenda) (a : List Entry) (r : Item) (x : Opens P 
       body-goal W (s .top) (r .target + 4) gs hs o (z .b) (ap bodyTarget (z .is)) (z .body) (omega (arith, o .target .below)) (omega arith))
 
   pub applied-pushed :
-      (Y X : List ℕ) (end : ℕ) → ¬ (getD W (r .target) 0 ≡ 1) → Applied W (r .target) (s .top) Y end
-      → X ≡ sets Y end (itemBytes (record { part = r .part + 4; kind = 0; target = s .top; next = r .next; argument = 0 }))
-      → Stepped P W s a X (step.Left (record { top = end + 8; easy = end; hard = s .hard }))
+      (Y X : List ℕ) (end : ℕ) → ¬ (getD W (r .target) 0 ≡ 1) → Expanded W (r .target) (s .top) Y end
+      → X ≡ sets Y end (storedBytes (record { part = r .part + 4; kind = 0; target = s .top; next = r .next; argument = 0 }))
+      → Stepped P W s a X (step.Left (record { top = end + 8; easy = end; deferred = s .deferred }))
   applied-pushed Y X end t d e =
       let b = x .ready .bounds in
       let o = known P W s a r x in
@@ -201,7 +200,7 @@ module _ (P W : List ℕ) (s : Agenda) (a : List Entry) (r : Item) (x : Opens P 
       (omega (arith, n)) (omega (arith, size-shift 1 0 (o .t))))
 
 -- an application
-module _ (P W : List ℕ) (s : Agenda) (a : List Entry) (r : Item) (x : Opens P W s a r) (k : getD P (r .part) 0 ≡ 0) where
+module _ (P W : List ℕ) (s : Agenda) (a : List Entry) (r : StoredGoal) (x : Opens P W s a r) (k : getD P (r .part) 0 ≡ 0) where
   -- with a rigid head
   module _ (rigid-head : (t : Term) → Part P (r .part) t → rigid t ≡ true) where
     parts-of : (gs hs : List Goal) (o : Opened P W s r gs hs) (f b : Term) → o .p ≡ app f b → (φ : ℕ → Term)
@@ -218,21 +217,21 @@ module _ (P W : List ℕ) (s : Agenda) (a : List Entry) (r : Item) (x : Opens P 
         n (kind-at W (r .target) (o .t) (o .target .part) ∙ ap kind (parts-of gs hs o (u .f) (u .a) (u .is) φ .0 z)))
 
     module _ (h i : ℕ) (t : getD W (r .target) 0 ≡ 0) (d : Ends P (r .part + 4) h) (c : Ends W (r .target + 4) i) where
-      abbrev first : Item
+      abbrev first : StoredGoal
       first = record { part = h; kind = 0; target = i; next = r .next; argument = 0 }
 
-      abbrev second : Item
+      abbrev second : StoredGoal
       second = record { part = r .part + 4; kind = 0; target = r .target + 4; next = s .top; argument = 0 }
 
       pub parts-pushed :
-          (Y X : List ℕ) → Y ≡ sets W (s .top) (itemBytes (record { part = h; kind = 0; target = i; next = r .next; argument = 0 }))
+          (Y X : List ℕ) → Y ≡ sets W (s .top) (storedBytes (record { part = h; kind = 0; target = i; next = r .next; argument = 0 }))
           → X
-          ≡ sets Y (s .top + 8) (itemBytes (record { part = r .part + 4; kind = 0; target = r .target + 4; next = s .top; argument = 0 }))
-          → Stepped P W s a X (step.Left (record { top = s .top + 8 + 8; easy = s .top + 8; hard = s .hard }))
+          ≡ sets Y (s .top + 8) (storedBytes (record { part = r .part + 4; kind = 0; target = r .target + 4; next = s .top; argument = 0 }))
+          → Stepped P W s a X (step.Left (record { top = s .top + 8 + 8; easy = s .top + 8; deferred = s .deferred }))
       unfolding Stepped
       parts-pushed Y X e f = record {
         go = λ gs hs l y.
-            let o = opened P W s a r (x .some) (x .item) gs hs l y in
+            let o = opened P W s a r (x .some) (x .stored-goal) gs hs l y in
             let u = application P (r .part) (o .p) (o .part) k in
             let w = application W (r .target) (o .t) (o .target .part) t in
             let n = ap size (u .is) in
@@ -280,7 +279,7 @@ module _ (P W : List ℕ) (s : Agenda) (a : List Entry) (r : Item) (x : Opens P 
                     (match (u .a) (w .a) ∷ o .rest) tt (u .head)
                     (target-kept W Y (s .top) from (s .top + 8) (omega arith) (size (u .f)) (r .target + 4) (w .f) head)
                     ((suits .0 .0 .0, λ j q. suits .0 .1 j (inl q)), normal .1) chain;
-                hard = chain-kept W X (s .top) all (s .top + 8 + 8) (omega arith) P Hard (s .hard) hs (y .hard);
+                deferred = chain-kept W X (s .top) all (s .top + 8 + 8) (omega arith) P Deferred (s .deferred) hs (y .deferred);
                 entries = holds-kept W X (s .top) all (s .top + 8 + 8) (omega arith) a l (y .entries);
                 line = y .line;
                 assigns = y .assigns;
@@ -305,15 +304,15 @@ module _ (P W : List ℕ) (s : Agenda) (a : List Entry) (r : Item) (x : Opens P 
         higher = omega arith;
         falls = omega arith;
         bounds = record {
-          whole = length-stored (itemBytes second) Y X (s .top + 8) f ∙ written;
+          whole = length-stored (storedBytes second) Y X (s .top + 8) f ∙ written;
           short = x .ready .bounds .short;
           top = omega arith;
           start = omega arith;
           even = omega arith;
           easy-room = omega arith;
           easy-even = omega arith;
-          hard-room = omega (arith, x .ready .bounds .hard-room);
-          hard-even = x .ready .bounds .hard-even;
+          deferred-room = omega (arith, x .ready .bounds .deferred-room);
+          deferred-even = x .ready .bounds .deferred-even;
         };
       }
         where
@@ -321,7 +320,7 @@ module _ (P W : List ℕ) (s : Agenda) (a : List Entry) (r : Item) (x : Opens P 
           whole = x .ready .bounds .whole
 
           written : length Y ≡ tableBytes
-          written = length-stored (itemBytes first) W Y (s .top) e ∙ whole
+          written = length-stored (storedBytes first) W Y (s .top) e ∙ whole
 
           even : s .top % 4 ≡ 0
           even = x .ready .bounds .even
@@ -342,11 +341,11 @@ module _ (P W : List ℕ) (s : Agenda) (a : List Entry) (r : Item) (x : Opens P 
           next-even = x .next-even
 
           from : Kept W Y (s .top)
-          from = kept-sets (itemBytes first) W Y (s .top) (s .top) e (omega arith) (omega (arith, x .room, whole))
+          from = kept-sets (storedBytes first) W Y (s .top) (s .top) e (omega arith) (omega (arith, x .room, whole))
 
           all : Kept W X (s .top)
           all = kept-then W Y X (s .top) (s .top + 8) (omega arith) from
-              (kept-sets (itemBytes second) Y X (s .top + 8) (s .top + 8) f (omega arith) (omega (arith, x .room, written)))
+              (kept-sets (storedBytes second) Y X (s .top + 8) (s .top + 8) f (omega arith) (omega (arith, x .room, written)))
 
   -- the target has a local that it lacks
   pub flexible-missed : (b : Bool) → b ≡ true → Lacks P (r .part) W (r .target) b → Stepped P W s a W step.Failed
@@ -357,14 +356,15 @@ module _ (P W : List ℕ) (s : Agenda) (a : List Entry) (r : Item) (x : Opens P 
       let q = j .1 (o .p) (o .t) (o .part) (o .target .part) in
       no-local φ v (o .p) (o .t) (j .0) (q .0) (q .1) z)
 
-  -- it is put off
-  pub put-off :
-      (X : List ℕ) → X ≡ sets W (s .top) (itemBytes (record { part = r .part; kind = 0; target = r .target; next = s .hard; argument = 0 }))
-      → Stepped P W s a X (step.Left (record { top = s .top + 8; easy = r .next; hard = s .top }))
+  -- it is deferred
+  pub deferred-as-is :
+      (X : List ℕ) → X ≡ sets W (s .top) (storedBytes
+      (record { part = r .part; kind = 0; target = r .target; next = s .deferred; argument = 0 }))
+      → Stepped P W s a X (step.Left (record { top = s .top + 8; easy = r .next; deferred = s .top }))
   unfolding Stepped
-  put-off X e = record {
+  deferred-as-is X e = record {
     go = λ gs hs l y.
-        let o = opened P W s a r (x .some) (x .item) gs hs l y in
+        let o = opened P W s a r (x .some) (x .stored-goal) gs hs l y in
         let u = application P (r .part) (o .p) (o .part) k in
         record {
           gs = o .rest;
@@ -372,11 +372,12 @@ module _ (P W : List ℕ) (s : Agenda) (a : List Entry) (r : Item) (x : Opens P 
           line = l;
           state = record {
             easy = chain-kept W X (s .top) j (s .top + 8) (omega arith) P Easy (r .next) (o .rest) (o .chain);
-            hard =
-                pushed Hard P W X (s .top) q e (omega (arith, b .start)) (omega (arith, x .room, b .whole)) (b .even) refl
-                (omega (arith, b .hard-room)) (x .part-even) (x .target-even)
-                (b .hard-even) refl (o .p) (o .t) hs (subst (λ (p : Term). Hard (match p (o .t))) (sym (u .is)) tt) (o .part) (o .target)
-                (o .suits) (y .hard);
+            deferred =
+                pushed Deferred P W X (s .top) q e (omega (arith, b .start)) (omega (arith, x .room, b .whole)) (b .even) refl
+                (omega (arith, b .deferred-room)) (x .part-even) (x .target-even)
+                (b .deferred-even) refl (o .p) (o .t) hs (subst (λ (p : Term). Deferred (match p (o .t))) (sym (u .is)) tt) (o .part)
+                (o .target)
+                (o .suits) (y .deferred);
             entries = holds-kept W X (s .top) j (s .top + 8) (omega arith) a l (y .entries);
             line = y .line;
             assigns = y .assigns;
@@ -393,23 +394,23 @@ module _ (P W : List ℕ) (s : Agenda) (a : List Entry) (r : Item) (x : Opens P 
     higher = omega arith;
     falls = omega (arith, x .room, x .falls, b .easy-room);
     bounds = record {
-      whole = length-stored (itemBytes q) W X (s .top) e ∙ b .whole;
+      whole = length-stored (storedBytes q) W X (s .top) e ∙ b .whole;
       short = b .short;
       top = omega (arith, x .room);
       start = omega arith;
       even = omega (arith, b .even);
       easy-room = omega (arith, b .easy-room, x .falls);
       easy-even = x .next-even;
-      hard-room = omega arith;
-      hard-even = b .even;
+      deferred-room = omega arith;
+      deferred-even = b .even;
     };
   }
     where
       b : Bounds P W s
       b = x .ready .bounds
 
-      q : Item
-      q = record { part = r .part; kind = 0; target = r .target; next = s .hard; argument = 0 }
+      q : StoredGoal
+      q = record { part = r .part; kind = 0; target = r .target; next = s .deferred; argument = 0 }
 
       j : Kept W X (s .top)
-      j = kept-sets (itemBytes q) W X (s .top) (s .top) e (omega arith) (omega (arith, x .room, b .whole))
+      j = kept-sets (storedBytes q) W X (s .top) (s .top) e (omega arith) (omega (arith, x .room, b .whole))

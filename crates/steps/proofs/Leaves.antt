@@ -13,12 +13,12 @@ use Rattle.terms.specs.Term.{Term, app, lam, loc, con, var, size, Occurs, Close
 use Rattle.terms.specs.Table.{encode}
 use Rattle.terms.specs.Assignment.{entry}
 use Rattle.terms.specs.Refusal.{OccursIn}
-use Rattle.terms.proofs.Table.{kind, number, encode-one}
+use Rattle.terms.proofs.Table.{kind, numberOf, encode-one}
 use Rattle.terms.proofs.Tests.{by-eqb}
+use Rattle.matching.specs.Lists.{Values}
+use Rattle.matching.specs.Goals.{Sweeps, Goal, Goal.match, All, Listable}
 use Rattle.matching.proofs.Step.{match-variable}
-use Rattle.matching.proofs.Lines.{Values, extends-entry, extends-set, assigns-set}
-use Rattle.matching.proofs.Lister.{Sweeps}
-use Rattle.matching.proofs.Goals.{Goal, Goal.match, All, Listable}
+use Rattle.matching.proofs.Lines.{extends-entry, extends-set, assigns-set}
 use Rattle.records.specs.Record.{numberAt}
 use Rattle.records.specs.Parts.{Part, Ends}
 use Rattle.records.specs.Tests.{Says, Asks, Walked}
@@ -35,7 +35,7 @@ use Rattle.sweeping.proofs.Writers.{local-at}
 use Rattle.assignments.specs.Held.{Held}
 use Rattle.assignments.proofs.Held.{holds-open, holds-held, holds-set}
 use Rattle.agenda.specs.declared.Agenda.{Agenda}
-use Rattle.agenda.specs.declared.Item.{Item}
+use Rattle.agenda.specs.declared.StoredGoal.{StoredGoal}
 use Rattle.agenda.specs.declared.Step.the-variants as step
 use Rattle.steps.specs.Steps.{Stepped}
 use Rattle.steps.specs.Opening.{Opens, Plain, Names, SameRecord}
@@ -61,7 +61,7 @@ module _ (P W : List ℕ) (i j : ℕ) (h : Plain P i) (φ : ℕ → Term) where
   same-record : (p t : Term) → Part P i p → Part W j t → p ≡ t → SameRecord P i W j
   same-record p t x y e = record {
     kind = kind-at P i p x ∙ ap kind e ∙ sym (kind-at W j t y);
-    number = number-at P i p x ∙ ap number e ∙ sym (number-at W j t y);
+    number = number-at P i p x ∙ ap numberOf e ∙ sym (number-at W j t y);
   }
 
   sweeps-record : (p t : Term) → Part P i p → Part W j t → Sweeps p t φ → SameRecord P i W j
@@ -71,9 +71,9 @@ module _ (P W : List ℕ) (i j : ℕ) (h : Plain P i) (φ : ℕ → Term) where
   sweeps-record (con n) t x y e = same-record (con n) t x y e
   sweeps-record (var n) t x y e = absurd (h .no-variable (kind-at P i (var n) x))
 
-module _ (P W : List ℕ) (s : Agenda) (a : List Entry) (r : Item) (x : Opens P W s a r) (h : Plain P (r .part)) (b : Bool)
+module _ (P W : List ℕ) (s : Agenda) (a : List Entry) (r : StoredGoal) (x : Opens P W s a r) (h : Plain P (r .part)) (b : Bool)
     (k : Says b (SameRecord P (r .part) W (r .target))) where
-  pub record-met : b ≡ true → Stepped P W s a W (step.Left (record { top = s .top; easy = r .next; hard = s .hard }))
+  pub record-met : b ≡ true → Stepped P W s a W (step.Left (record { top = s .top; easy = r .next; deferred = s .deferred }))
   record-met e =
       dropped P W s a r x
       (λ gs hs l y o φ v g. record-sweeps P W (r .part) (r .target) h φ (o .p) (o .t) (o .part) (o .target .part) (says _ b true k e))
@@ -84,22 +84,22 @@ module _ (P W : List ℕ) (s : Agenda) (a : List Entry) (r : Item) (x : Opens P 
       (λ gs hs l y o φ v g z. says _ b false k e (sweeps-record P W (r .part) (r .target) h φ (o .p) (o .t) (o .part) (o .target .part) z))
 
 -- a variable's number
-pub variable-below : (P W : List ℕ) (s : Agenda) (a : List Entry) (r : Item) → Opens P W s a r → getD P (r .part) 0 ≡ 4
+pub variable-below : (P W : List ℕ) (s : Agenda) (a : List Entry) (r : StoredGoal) → Opens P W s a r → getD P (r .part) 0 ≡ 4
     → numberAt P (r .part) < variables
 variable-below P W s a r x k =
     let y = x .ready in
-    let o = opened P W s a r (x .some) (x .item) (y .gs) (y .hs) (y .line) (y .state) in
+    let o = opened P W s a r (x .some) (x .stored-goal) (y .gs) (y .hs) (y .line) (y .state) in
     let e = variable-at P (r .part) (numberAt P (r .part)) (o .p) (o .part) k refl in
     let h : Listable variables (OccursIn P) (match (var (numberAt P (r .part))) (o .t)) =
     subst (λ (p : Term). Listable variables (OccursIn P) (match p (o .t))) e (o .suits) in
     h .0 .0
 
-pub names-of : (P W : List ℕ) (s : Agenda) (a : List Entry) (r : Item) (i : ℕ) → Opens P W s a r → getD P (r .part) 0 ≡ 4
+pub names-of : (P W : List ℕ) (s : Agenda) (a : List Entry) (r : StoredGoal) (i : ℕ) → Opens P W s a r → getD P (r .part) 0 ≡ 4
     → i ≡ numberAt P (r .part) → Names P W s a r i
 names-of P W s a r i x k e = record { opens = x; kind = k; number = e; below = omega (arith, variable-below P W s a r x k) }
 
 -- what both entries give
-module _ (P W : List ℕ) (s : Agenda) (a : List Entry) (r : Item) (i : ℕ) (x : Names P W s a r i) where
+module _ (P W : List ℕ) (s : Agenda) (a : List Entry) (r : StoredGoal) (i : ℕ) (x : Names P W s a r i) where
   names : (gs hs : List Goal) → (o : Opened P W s r gs hs) → o .p ≡ var i
   names gs hs o = variable-at P (r .part) i (o .p) (o .part) (x .kind) (x .number)
 
@@ -122,14 +122,14 @@ module _ (P W : List ℕ) (s : Agenda) (a : List Entry) (r : Item) (i : ℕ) (x 
       → Stepped P W s a W (step.Assign (record {
         variable = i;
         span = record { first = r .target / 4; count = (end - r .target) / 4 };
-        agenda = record { top = s .top; easy = r .next; hard = s .hard };
+        agenda = record { top = s .top; easy = r .next; deferred = s .deferred };
       }))
   unfolding Stepped Walked
   open-met w end e k q = (
     x .below,
     record {
       go = λ gs hs l y.
-          let o = opened P W s a r (x .opens .some) (x .opens .item) gs hs l y in
+          let o = opened P W s a r (x .opens .some) (x .opens .stored-goal) gs hs l y in
           let m : Walked W (r .target) (Asks Below 0) (Upto end) = subst (Walked W (r .target) (Asks Below 0)) e k in
           let n = m .0 .exact (o .t) (o .target .part) in
           let value : Value (o .t) = (m .1 (o .t) (o .target .part), o .target .normal, o .target .ground) in
@@ -144,7 +144,7 @@ module _ (P W : List ℕ) (s : Agenda) (a : List Entry) (r : Item) (i : ℕ) (x 
             line = set l i (some (o .t));
             state = record {
               easy = o .chain;
-              hard = y .hard;
+              deferred = y .deferred;
               entries =
                   holds-set W (s .top) a l i (Assigned (record { first = r .target / 4; count = (end - r .target) / 4 })) (some (o .t))
                   (record {
@@ -180,8 +180,8 @@ module _ (P W : List ℕ) (s : Agenda) (a : List Entry) (r : Item) (i : ℕ) (x 
         even = b .even;
         easy-room = omega (arith, b .easy-room, x .opens .falls);
         easy-even = x .opens .next-even;
-        hard-room = b .hard-room;
-        hard-even = b .hard-even;
+        deferred-room = b .deferred-room;
+        deferred-even = b .deferred-even;
       };
     },
   )
@@ -203,7 +203,7 @@ module _ (P W : List ℕ) (s : Agenda) (a : List Entry) (r : Item) (i : ℕ) (x 
         part-bytes W (r .target) (end - r .target) t y (omega (arith, m .exact t y)),
       )
 
-      pub held-met : b ≡ true → Stepped P W s a W (step.Left (record { top = s .top; easy = r .next; hard = s .hard }))
+      pub held-met : b ≡ true → Stepped P W s a W (step.Left (record { top = s .top; easy = r .next; deferred = s .deferred }))
       unfolding Same
       held-met e =
           let f : Same (take (4 * n .count) (drop (4 * n .first) W)) (take (end - r .target) (drop (r .target) W)) true =

@@ -1,7 +1,7 @@
 -- The first easy goal of a state, and the states that a step leaves. The goal is what the chain of the easy goals begins with; a goal that
 -- is written above `top` begins a chain that holds what the one before held. Assumes nothing.
---   Opened P W s r gs hs      the goals gs begin with the item r: its terms, the goals behind it and the room for them
---   Pushed P Y at r p t       the goal to match p with t is as good as that of the item r, which is smaller and stands in Y below `at`
+--   Opened P W s r gs hs   the goals gs begin with the stored goal r: its terms, the goals behind it and the room for them
+--   Pushed P Y at r p t    the goal to match p with t is as good as that of the stored goal r, which is smaller and stands in Y below `at`
 use mathlib.Core.Path.{_≡_, refl, sym, _∙_, subst}
 use mathlib.Core.Logic.{_↔_}
 use mathlib.Core.List.{List, [], _∷_}
@@ -13,23 +13,22 @@ use Rattle.terms.specs.Figures.{variables, tableBytes}
 use Rattle.terms.specs.Term.{Term, size}
 use Rattle.terms.specs.Listing.{Line}
 use Rattle.terms.specs.Refusal.{OccursIn}
-use Rattle.matching.proofs.Lines.{Values, Extends}
-use Rattle.matching.proofs.Lister.{Sweeps}
-use Rattle.matching.proofs.Goals.{Goal, Goal.match, Goal.build, All, Listable}
+use Rattle.matching.specs.Lists.{Values, Extends}
+use Rattle.matching.specs.Goals.{Sweeps, Goal, Goal.match, Goal.build, All, Listable}
 use Rattle.records.specs.Parts.{Part}
 use Rattle.records.proofs.Parts.{whole}
 use Rattle.assignments.specs.declared.Entry.{Entry}
 use Rattle.agenda.specs.declared.Agenda.{Agenda}
-use Rattle.agenda.specs.declared.Item.{Item}
+use Rattle.agenda.specs.declared.StoredGoal.{StoredGoal}
 use Rattle.agenda.specs.declared.Step.the-variants as step
-use Rattle.agenda.specs.Items.{itemBytes, ItemAt, Fits}
+use Rattle.agenda.specs.Stored.{storedBytes, StoredAt, StoredFits}
 use Rattle.agenda.specs.State.{Target, Chain, Easy, State, Bounds, Ready, weights}
 use Rattle.agenda.specs.Moves.{Failed}
 use Rattle.steps.specs.Steps.{Stepped}
 use Rattle.steps.specs.Opening.{Opens}
-use Rattle.agenda.proofs.Frame.{Kept, target-kept, chain-kept, holds-kept, kept-sets, kept-then, length-stored, item-stored, chain-match}
+use Rattle.agenda.proofs.Frame.{Kept, target-kept, chain-kept, holds-kept, kept-sets, kept-then, length-stored, goal-stored, chain-match}
 
-pub record Opened (P W : List ℕ) (s : Agenda) (r : Item) (gs hs : List Goal) : Type 0 where
+pub record Opened (P W : List ℕ) (s : Agenda) (r : StoredGoal) (gs hs : List Goal) : Type 0 where
   pub p : Term
   pub t : Term
   pub rest : List Goal
@@ -42,9 +41,9 @@ pub record Opened (P W : List ℕ) (s : Agenda) (r : Item) (gs hs : List Goal) :
   pub room : s .top + 8 + 2000 * size p + weights 8 rest + weights 0 hs ≤ tableBytes
 
 pub opened :
-    (P W : List ℕ) (s : Agenda) (a : List Entry) (r : Item) → 0 < s .easy → ItemAt W (s .easy) r
+    (P W : List ℕ) (s : Agenda) (a : List Entry) (r : StoredGoal) → 0 < s .easy → StoredAt W (s .easy) r
     → (gs hs : List Goal) (l : Line) → State 0 P W s a gs hs l → Opened P W s r gs hs
-opened P W s a r some item gs hs l x = go gs (x .easy) (x .room)
+opened P W s a r some stored-goal gs hs l x = go gs (x .easy) (x .room)
   where
     go : (gs : List Goal) → Chain Easy P W (s .top) (s .easy) gs → s .top + weights 8 gs + weights 0 hs ≤ tableBytes + 0
         → Opened P W s r gs hs
@@ -54,30 +53,30 @@ opened P W s a r some item gs hs l x = go gs (x .easy) (x .room)
       t = t;
       rest = rest;
       is = refl;
-      part = subst (λ (i : ℕ). Part P i p) (sym (item .part)) (c .0 .goal .part);
-      target = subst (λ (i : ℕ). Target W (s .top) (size p) i t) (sym (item .target)) (c .0 .goal .target);
+      part = subst (λ (i : ℕ). Part P i p) (sym (stored-goal .part)) (c .0 .goal .part);
+      target = subst (λ (i : ℕ). Target W (s .top) (size p) i t) (sym (stored-goal .target)) (c .0 .goal .target);
       suits = c .0 .goal .suits;
-      chain = subst (λ (i : ℕ). Chain Easy P W (s .top) i rest) (sym (item .next)) (c .1);
-      falls = omega (arith, item .next, c .0 .falls);
+      chain = subst (λ (i : ℕ). Chain Easy P W (s .top) i rest) (sym (stored-goal .next)) (c .1);
+      falls = omega (arith, stored-goal .next, c .0 .falls);
       room = omega (arith, w);
     }
     go (build f t e ∷ rest) c w = absurd (c .0 .kind)
 
 -- what the functions of a step need
-pub opens : (P W : List ℕ) (s : Agenda) (a : List Entry) (r : Item) → Ready 0 P W s a → 0 < s .easy → ItemAt W (s .easy) r
-    → Fits r → Opens P W s a r
-opens P W s a r x some item fits =
-    let o = opened P W s a r some item (x .gs) (x .hs) (x .line) (x .state) in
+pub opens : (P W : List ℕ) (s : Agenda) (a : List Entry) (r : StoredGoal) → Ready 0 P W s a → 0 < s .easy → StoredAt W (s .easy) r
+    → StoredFits r → Opens P W s a r
+opens P W s a r x some stored-goal fits =
+    let o = opened P W s a r some stored-goal (x .gs) (x .hs) (x .line) (x .state) in
     record {
       ready = x;
       some = some;
-      item = item;
+      stored-goal = stored-goal;
       fits = fits;
       part = whole P (r .part) (o .p) (o .part);
       target = whole W (r .target) (o .t) (o .target .part);
-      part-even = omega (arith, item .part);
-      target-even = omega (arith, item .target);
-      next-even = omega (arith, item .next);
+      part-even = omega (arith, stored-goal .part);
+      target-even = omega (arith, stored-goal .target);
+      next-even = omega (arith, stored-goal .next);
       falls = o .falls;
       below = omega (arith, o .target .below, o .target .part .some);
       room = omega (arith, o .room, o .part .some);
@@ -85,18 +84,18 @@ opens P W s a r x some item fits =
 
 -- a goal more at the head of a chain
 pub pushed :
-    (K : Goal → Type 0) (P Y X : List ℕ) (at : ℕ) (q : Item) → X ≡ sets Y at (itemBytes q) → 0 < at → at + 8 ≤ length Y → at % 4 ≡ 0
+    (K : Goal → Type 0) (P Y X : List ℕ) (at : ℕ) (q : StoredGoal) → X ≡ sets Y at (storedBytes q) → 0 < at → at + 8 ≤ length Y → at % 4 ≡ 0
     → q .kind ≡ 0 → q .next < at → q .part % 4 ≡ 0 → q .target % 4 ≡ 0 → q .next % 4 ≡ 0 → q .argument % 4 ≡ 0
     → (p t : Term) (gs : List Goal) → K (match p t) → Part P (q .part) p → Target Y at (size p) (q .target) t
     → Listable variables (OccursIn P) (match p t)
     → Chain K P Y at (q .next) gs → Chain K P X (at + 8) at (match p t ∷ gs)
 pushed K P Y X at q e low room even kind falls a b c d p t gs fit part target suits chain =
-    let k = kept-sets (itemBytes q) Y X at at e (omega arith) (omega arith) in
-    chain-match K P X (at + 8) at q (item-stored Y X at q e room a b c d) low (omega arith) even falls p t gs kind fit part
+    let k = kept-sets (storedBytes q) Y X at at e (omega arith) (omega arith) in
+    chain-match K P X (at + 8) at q (goal-stored Y X at q e room a b c d) low (omega arith) even falls p t gs kind fit part
     (target-kept Y X at k (at + 8) (omega arith) (size p) (q .target) t target) suits
     (chain-kept Y X at k (at + 8) (omega arith) P K (q .next) gs chain)
 
-pub record Pushed (P Y : List ℕ) (at : ℕ) (r : Item) (p t : Term) : Type 0 where
+pub record Pushed (P Y : List ℕ) (at : ℕ) (r : StoredGoal) (p t : Term) : Type 0 where
   pub q : Term
   pub u : Term
   pub part : Part P (r .part) q
@@ -106,12 +105,12 @@ pub record Pushed (P Y : List ℕ) (at : ℕ) (r : Item) (p t : Term) : Type 0 w
   pub same : (φ : ℕ → Term) → Values φ → Sweeps p t φ ↔ Sweeps q u φ
 
 -- the steps of the first easy goal, r
-module _ (P W : List ℕ) (s : Agenda) (a : List Entry) (r : Item) (x : Opens P W s a r) where
+module _ (P W : List ℕ) (s : Agenda) (a : List Entry) (r : StoredGoal) (x : Opens P W s a r) where
   bounds : Bounds P W s
   bounds = x .ready .bounds
 
   open-at : (gs hs : List Goal) (l : Line) → State 0 P W s a gs hs l → Opened P W s r gs hs
-  open-at = opened P W s a r (x .some) (x .item)
+  open-at = opened P W s a r (x .some) (x .stored-goal)
 
   -- no assignment satisfies it
   pub dead :
@@ -130,7 +129,7 @@ module _ (P W : List ℕ) (s : Agenda) (a : List Entry) (r : Item) (x : Opens P 
   pub dropped :
       ((gs hs : List Goal) (l : Line) → State 0 P W s a gs hs l → (o : Opened P W s r gs hs) (φ : ℕ → Term) → Values φ → Extends φ l
       → Sweeps (o .p) (o .t) φ)
-      → Stepped P W s a W (step.Left (record { top = s .top; easy = r .next; hard = s .hard }))
+      → Stepped P W s a W (step.Left (record { top = s .top; easy = r .next; deferred = s .deferred }))
   unfolding Stepped
   dropped n = record {
     go = λ gs hs l y.
@@ -141,7 +140,7 @@ module _ (P W : List ℕ) (s : Agenda) (a : List Entry) (r : Item) (x : Opens P 
           line = l;
           state = record {
             easy = o .chain;
-            hard = y .hard;
+            deferred = y .deferred;
             entries = y .entries;
             line = y .line;
             assigns = y .assigns;
@@ -163,25 +162,25 @@ module _ (P W : List ℕ) (s : Agenda) (a : List Entry) (r : Item) (x : Opens P 
       even = bounds .even;
       easy-room = omega (arith, bounds .easy-room, x .falls);
       easy-even = x .next-even;
-      hard-room = bounds .hard-room;
-      hard-even = bounds .hard-even;
+      deferred-room = bounds .deferred-room;
+      deferred-even = bounds .deferred-even;
     };
   }
 
   -- a smaller goal stands for it, written at byte `at` behind what was written for its target
   pub replaced :
-      (Y X : List ℕ) (at : ℕ) (q : Item) → Kept W Y (s .top) → length Y ≡ tableBytes → X ≡ sets Y at (itemBytes q) → s .top ≤ at
+      (Y X : List ℕ) (at : ℕ) (q : StoredGoal) → Kept W Y (s .top) → length Y ≡ tableBytes → X ≡ sets Y at (storedBytes q) → s .top ≤ at
       → at ≤ s .top + 1000 → at % 4 ≡ 0
       → q .kind ≡ 0 → q .next ≡ r .next → q .part % 4 ≡ 0 → q .target % 4 ≡ 0 → q .argument % 4 ≡ 0
       → ((gs hs : List Goal) (l : Line) → State 0 P W s a gs hs l → (o : Opened P W s r gs hs) → Pushed P Y at q (o .p) (o .t))
-      → Stepped P W s a X (step.Left (record { top = at + 8; easy = at; hard = s .hard }))
+      → Stepped P W s a X (step.Left (record { top = at + 8; easy = at; deferred = s .deferred }))
   unfolding Stepped
   replaced Y X at q k n e up near even kind next qa qb qd f =
       let falls = x .falls in
       let room = x .room in
       let next-even = x .next-even in
       let b = bounds in
-      let h = kept-sets (itemBytes q) Y X at at e (omega arith) (omega arith) in
+      let h = kept-sets (storedBytes q) Y X at at e (omega arith) (omega arith) in
       let j = kept-then W Y X (s .top) at up k h in
       record {
         go = λ gs hs l y.
@@ -197,7 +196,7 @@ module _ (P W : List ℕ) (s : Agenda) (a : List Entry) (r : Item) (x : Opens P 
                     (o .rest) tt (u .part) (u .target) (u .suits)
                     (chain-kept W Y (s .top) k at up P Easy (q .next) (o .rest)
                     (subst (λ (i : ℕ). Chain Easy P W (s .top) i (o .rest)) (sym next) (o .chain)));
-                hard = chain-kept W X (s .top) j (at + 8) (omega arith) P _ (s .hard) hs (y .hard);
+                deferred = chain-kept W X (s .top) j (at + 8) (omega arith) P _ (s .deferred) hs (y .deferred);
                 entries = holds-kept W X (s .top) j (at + 8) (omega arith) a l (y .entries);
                 line = y .line;
                 assigns = y .assigns;
@@ -214,14 +213,14 @@ module _ (P W : List ℕ) (s : Agenda) (a : List Entry) (r : Item) (x : Opens P 
         higher = omega arith;
         falls = omega arith;
         bounds = record {
-          whole = length-stored (itemBytes q) Y X at e ∙ n;
+          whole = length-stored (storedBytes q) Y X at e ∙ n;
           short = b .short;
           top = omega arith;
           start = omega arith;
           even = omega arith;
           easy-room = omega arith;
           easy-even = even;
-          hard-room = omega (arith, b .hard-room);
-          hard-even = b .hard-even;
+          deferred-room = omega (arith, b .deferred-room);
+          deferred-even = b .deferred-even;
         };
       }

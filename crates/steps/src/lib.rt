@@ -1,15 +1,15 @@
 // One step of an easy goal.
 //
 // An easy goal has one way to go on: a local or a constant is compared with its target, a variable takes it or is compared with its value,
-// an abstraction and a rigid application hand their parts on, and a flexible application is put off. The crate promises that the agenda it
+// an abstraction and a rigid application hand their parts on, and a flexible application is deferred. The crate promises that the agenda it
 // leaves has exactly the assignments of the one before, or that there are none.
 // It rests on `agenda` for goals, and on `matching` for one step of matching.
 
 use agenda::Agenda;
 use agenda::Binding;
-use agenda::ITEM;
-use agenda::Item;
+use agenda::GOAL;
 use agenda::Step;
+use agenda::StoredGoal;
 use agenda::TARGET_BYTES;
 use assignments::Entry;
 use assignments::Span;
@@ -23,45 +23,58 @@ ghost use mathlib.Core.Bool.{true};
 ghost use Prim.Native.Nat.{_+_, _≤_, _<_};
 ghost use lib.ListN.{length, getD};
 ghost use Rattle.terms.specs.Term.{Term};
-ghost use Rattle.terms.proofs.Locals.{rigid};
+ghost use Rattle.terms.specs.Heads.{rigid};
 ghost use Rattle.records.specs.Parts.{Part};
 ghost use Rattle.records.specs.Tests.{Says};
 ghost use Rattle.agenda.specs.State.{Ready};
 ghost use Rattle.steps.specs.Steps.{Stepped};
-ghost use Rattle.steps.specs.Opening.{Opens, Plain, Names, SameRecord, Applies, Applied};
+ghost use Rattle.steps.specs.Opening.{Opens, Plain, Names, SameRecord, Expandable, Expanded};
 
 // Whether the record of p at byte i and that of work at byte j have one kind and one number.
-fn is_same_record(p: &[u8], i: usize, work: &[u8], j: usize) -> bool
-    requires { ⌜ (i + 4 ≤ length (now p)) × (j + 4 ≤ length (now work)) ⌝ }
-    ensures { λ r. ⌜ Says r (SameRecord (now (p .entry)) i (now (work .entry)) j) ⌝ }
+fn is_same_record(pattern: &[u8], i: usize, work: &[u8], j: usize) -> bool
+    requires { ⌜ (i + 4 ≤ length (now pattern)) × (j + 4 ≤ length (now work)) ⌝ }
+    ensures { λ r. ⌜ Says r (SameRecord (now (pattern .entry)) i (now (work .entry)) j) ⌝ }
 {
-    if p[i] != work[j] {
+    if pattern[i] != work[j] {
         return false;
     }
-    records::number_at(p, i) == records::number_at(work, j)
+    records::number_at(pattern, i) == records::number_at(work, j)
 }
 
 // A local or a constant sweeps to itself, whatever is assigned.
-fn step_record(p: &[u8], work: &[u8], s: Agenda, a: [Entry; VARIABLES], item: Item) -> Step
-    requires { ⌜ Opens (now p) (now work) s a item × Plain (now p) (item .part) ⌝ }
-    ensures { λ r. ⌜ Stepped (now (p .entry)) (now (work .entry)) s a (now (work .entry)) r ⌝ }
+fn step_record(
+    pattern: &[u8],
+    work: &[u8],
+    agenda: Agenda,
+    entries: [Entry; VARIABLES],
+    goal: StoredGoal,
+) -> Step
+    requires { ⌜ Opens (now pattern) (now work) agenda entries goal × Plain (now pattern) (goal .part) ⌝ }
+    ensures { λ r. ⌜ Stepped (now (pattern .entry)) (now (work .entry)) agenda entries (now (work .entry)) r ⌝ }
 {
-    if is_same_record(p, item.part, work, item.target) {
+    if is_same_record(pattern, goal.part, work, goal.target) {
         return Step::Left(Agenda {
-            top: s.top,
-            easy: item.next,
-            hard: s.hard,
+            top: agenda.top,
+            easy: goal.next,
+            deferred: agenda.deferred,
         });
     }
     Step::Failed
 }
 
 // Variable i is open: it takes the target, if that is closed.
-fn step_open(p: &[u8], work: &[u8], s: Agenda, a: [Entry; VARIABLES], item: Item, i: usize) -> Step
-    requires { ⌜ Names (now p) (now work) s a item i × (getD a i Entry.Open ≡ Entry.Open) ⌝ }
-    ensures { λ r. ⌜ Stepped (now (p .entry)) (now (work .entry)) s a (now (work .entry)) r ⌝ }
+fn step_open(
+    pattern: &[u8],
+    work: &[u8],
+    agenda: Agenda,
+    entries: [Entry; VARIABLES],
+    goal: StoredGoal,
+    i: usize,
+) -> Step
+    requires { ⌜ Names (now pattern) (now work) agenda entries goal i × (getD entries i Entry.Open ≡ Entry.Open) ⌝ }
+    ensures { λ r. ⌜ Stepped (now (pattern .entry)) (now (work .entry)) agenda entries (now (work .entry)) r ⌝ }
 {
-    let target = item.target;
+    let target = goal.target;
     let closed = records::ask_at(work, target, Ask::Below, 0);
     let Walk::Upto(end) = closed else {
         return Step::Failed;
@@ -70,60 +83,66 @@ fn step_open(p: &[u8], work: &[u8], s: Agenda, a: [Entry; VARIABLES], item: Item
         first: target / RECORD,
         count: (end - target) / RECORD,
     };
-    let agenda = Agenda {
-        top: s.top,
-        easy: item.next,
-        hard: s.hard,
+    let left = Agenda {
+        top: agenda.top,
+        easy: goal.next,
+        deferred: agenda.deferred,
     };
     Step::Assign(Binding {
         variable: i,
         span: span,
-        agenda: agenda,
+        agenda: left,
     })
 }
 
 // Variable i has a value already: the target has to be that.
 fn step_assigned(
-    p: &[u8],
+    pattern: &[u8],
     work: &[u8],
-    s: Agenda,
-    a: [Entry; VARIABLES],
-    item: Item,
+    agenda: Agenda,
+    entries: [Entry; VARIABLES],
+    goal: StoredGoal,
     i: usize,
     span: Span,
 ) -> Step
-    requires { ⌜ Names (now p) (now work) s a item i × (getD a i Entry.Open ≡ Entry.Assigned span) ⌝ }
-    ensures { λ r. ⌜ Stepped (now (p .entry)) (now (work .entry)) s a (now (work .entry)) r ⌝ }
+    requires { ⌜ Names (now pattern) (now work) agenda entries goal i × (getD entries i Entry.Open ≡ Entry.Assigned span) ⌝ }
+    ensures { λ r. ⌜ Stepped (now (pattern .entry)) (now (work .entry)) agenda entries (now (work .entry)) r ⌝ }
 {
-    let target = item.target;
+    let target = goal.target;
     let end = records::end_at(work, target);
     if copying::same_bytes(assignments::value_of(work, span), &work[target..end]) {
         return Step::Left(Agenda {
-            top: s.top,
-            easy: item.next,
-            hard: s.hard,
+            top: agenda.top,
+            easy: goal.next,
+            deferred: agenda.deferred,
         });
     }
     Step::Failed
 }
 
 // A variable by its entry.
-fn step_variable(p: &[u8], work: &[u8], s: Agenda, a: [Entry; VARIABLES], item: Item) -> Step
-    requires { ⌜ Opens (now p) (now work) s a item × (getD (now p) (item .part) 0 ≡ 4) ⌝ }
-    ensures { λ r. ⌜ Stepped (now (p .entry)) (now (work .entry)) s a (now (work .entry)) r ⌝ }
+fn step_variable(
+    pattern: &[u8],
+    work: &[u8],
+    agenda: Agenda,
+    entries: [Entry; VARIABLES],
+    goal: StoredGoal,
+) -> Step
+    requires { ⌜ Opens (now pattern) (now work) agenda entries goal × (getD (now pattern) (goal .part) 0 ≡ 4) ⌝ }
+    ensures { λ r. ⌜ Stepped (now (pattern .entry)) (now (work .entry)) agenda entries (now (work .entry)) r ⌝ }
 {
-    let i = records::number_at(p, item.part);
-    let e = a[i];
+    let i = records::number_at(pattern, goal.part);
+    let e = entries[i];
     match e {
-        Entry::Open => step_open(p, work, s, a, item, i),
-        Entry::Assigned(span) => step_assigned(p, work, s, a, item, i, span),
+        Entry::Open => step_open(pattern, work, agenda, entries, goal, i),
+        Entry::Assigned(span) => step_assigned(pattern, work, agenda, entries, goal, i, span),
     }
 }
 
 // Writes `@ t #0` from byte o on, for the target t at byte `at`, shifted by the binder that it comes below. Gives where that ends.
 fn apply_into(work: &mut [u8], at: usize, o: usize) -> usize
-    requires { ⌜ Applies (now work) at o ⌝ }
-    ensures { λ r. ⌜ Applied (now (work .entry)) at o (now (work .exit)) r ⌝ }
+    requires { ⌜ Expandable (now work) at o ⌝ }
+    ensures { λ r. ⌜ Expanded (now (work .entry)) at o (now (work .exit)) r ⌝ }
 {
     let mut shifted = [0u8; TARGET_BYTES];
     let copy = sweeping::shift_into(work, at, 1, 0, &mut shifted, 0);
@@ -136,122 +155,140 @@ fn apply_into(work: &mut [u8], at: usize, o: usize) -> usize
 }
 
 // An abstraction: its body has to come to the body of the target, or to `@ t #0` where the target t is none.
-fn step_abstraction(p: &[u8], work: &mut [u8], s: Agenda, a: [Entry; VARIABLES], item: Item) -> Step
-    requires { ⌜ Opens (now p) (now work) s a item × (getD (now p) (item .part) 0 ≡ 1) ⌝ }
-    ensures { λ r. ⌜ Stepped (now (p .entry)) (now (work .entry)) s a (now (work .exit)) r ⌝ }
+fn step_abstraction(
+    pattern: &[u8],
+    work: &mut [u8],
+    agenda: Agenda,
+    entries: [Entry; VARIABLES],
+    goal: StoredGoal,
+) -> Step
+    requires { ⌜ Opens (now pattern) (now work) agenda entries goal × (getD (now pattern) (goal .part) 0 ≡ 1) ⌝ }
+    ensures { λ r. ⌜ Stepped (now (pattern .entry)) (now (work .entry)) agenda entries (now (work .exit)) r ⌝ }
 {
-    let top = s.top;
-    let target = item.target;
-    let body = item.part + RECORD;
+    let top = agenda.top;
+    let target = goal.target;
+    let body = goal.part + RECORD;
     if work[target] == Kind::ABSTRACTION.code {
-        let goal = Item {
+        let below = StoredGoal {
             part: body,
-            kind: Item::MATCH,
+            kind: StoredGoal::MATCH,
             target: target + RECORD,
-            next: item.next,
+            next: goal.next,
             argument: 0,
         };
-        agenda::put_item(work, top, goal);
+        agenda::put_goal(work, top, below);
         return Step::Left(Agenda {
-            top: top + ITEM,
+            top: top + GOAL,
             easy: top,
-            hard: s.hard,
+            deferred: agenda.deferred,
         });
     }
     let end = apply_into(work, target, top);
-    let goal = Item {
+    let below = StoredGoal {
         part: body,
-        kind: Item::MATCH,
+        kind: StoredGoal::MATCH,
         target: top,
-        next: item.next,
+        next: goal.next,
         argument: 0,
     };
-    agenda::put_item(work, end, goal);
+    agenda::put_goal(work, end, below);
     Step::Left(Agenda {
-        top: end + ITEM,
+        top: end + GOAL,
         easy: end,
-        hard: s.hard,
+        deferred: agenda.deferred,
     })
 }
 
 // An application with a rigid head comes to an application, part by part.
-fn step_rigid(p: &[u8], work: &mut [u8], s: Agenda, a: [Entry; VARIABLES], item: Item) -> Step
-    requires { ⌜ Opens (now p) (now work) s a item × (getD (now p) (item .part) 0 ≡ 0)
-        × ((t : Term) → Part (now p) (item .part) t → rigid t ≡ true) ⌝ }
-    ensures { λ r. ⌜ Stepped (now (p .entry)) (now (work .entry)) s a (now (work .exit)) r ⌝ }
+fn step_rigid(
+    pattern: &[u8],
+    work: &mut [u8],
+    agenda: Agenda,
+    entries: [Entry; VARIABLES],
+    goal: StoredGoal,
+) -> Step
+    requires { ⌜ Opens (now pattern) (now work) agenda entries goal × (getD (now pattern) (goal .part) 0 ≡ 0)
+        × ((t : Term) → Part (now pattern) (goal .part) t → rigid t ≡ true) ⌝ }
+    ensures { λ r. ⌜ Stepped (now (pattern .entry)) (now (work .entry)) agenda entries (now (work .exit)) r ⌝ }
 {
-    let target = item.target;
+    let target = goal.target;
     if work[target] != Kind::APPLICATION.code {
         return Step::Failed;
     }
-    let first = s.top;
-    let argument = Item {
-        part: records::end_at(p, item.part + RECORD),
-        kind: Item::MATCH,
+    let first = agenda.top;
+    let argument = StoredGoal {
+        part: records::end_at(pattern, goal.part + RECORD),
+        kind: StoredGoal::MATCH,
         target: records::end_at(work, target + RECORD),
-        next: item.next,
+        next: goal.next,
         argument: 0,
     };
-    agenda::put_item(work, first, argument);
-    let second = first + ITEM;
-    let head = Item {
-        part: item.part + RECORD,
-        kind: Item::MATCH,
+    agenda::put_goal(work, first, argument);
+    let second = first + GOAL;
+    let head = StoredGoal {
+        part: goal.part + RECORD,
+        kind: StoredGoal::MATCH,
         target: target + RECORD,
         next: first,
         argument: 0,
     };
-    agenda::put_item(work, second, head);
+    agenda::put_goal(work, second, head);
     Step::Left(Agenda {
-        top: second + ITEM,
+        top: second + GOAL,
         easy: second,
-        hard: s.hard,
+        deferred: agenda.deferred,
     })
 }
 
-// An application with any other head is put off, unless no assignment can bring in a local of the target.
-fn step_flexible(p: &[u8], work: &mut [u8], s: Agenda, a: [Entry; VARIABLES], item: Item) -> Step
-    requires { ⌜ Opens (now p) (now work) s a item × (getD (now p) (item .part) 0 ≡ 0) ⌝ }
-    ensures { λ r. ⌜ Stepped (now (p .entry)) (now (work .entry)) s a (now (work .exit)) r ⌝ }
+// An application with any other head is deferred, unless no assignment can bring in a local of the target.
+fn step_flexible(
+    pattern: &[u8],
+    work: &mut [u8],
+    agenda: Agenda,
+    entries: [Entry; VARIABLES],
+    goal: StoredGoal,
+) -> Step
+    requires { ⌜ Opens (now pattern) (now work) agenda entries goal × (getD (now pattern) (goal .part) 0 ≡ 0) ⌝ }
+    ensures { λ r. ⌜ Stepped (now (pattern .entry)) (now (work .entry)) agenda entries (now (work .exit)) r ⌝ }
 {
-    if agenda::locals::lacks_local(p, item.part, work, item.target) {
+    if agenda::locals::lacks_local(pattern, goal.part, work, goal.target) {
         return Step::Failed;
     }
-    let top = s.top;
-    let goal = Item {
-        part: item.part,
-        kind: Item::MATCH,
-        target: item.target,
-        next: s.hard,
+    let top = agenda.top;
+    let deferred = StoredGoal {
+        part: goal.part,
+        kind: StoredGoal::MATCH,
+        target: goal.target,
+        next: agenda.deferred,
         argument: 0,
     };
-    agenda::put_item(work, top, goal);
+    agenda::put_goal(work, top, deferred);
     Step::Left(Agenda {
-        top: top + ITEM,
-        easy: item.next,
-        hard: top,
+        top: top + GOAL,
+        easy: goal.next,
+        deferred: top,
     })
 }
 
 // Takes the first easy goal.
-pub fn step(p: &[u8], work: &mut [u8], s: Agenda, a: [Entry; VARIABLES]) -> Step
-    requires { ⌜ Ready 0 (now p) (now work) s a × (0 < s .easy) ⌝ }
-    ensures { λ r. ⌜ Stepped (now (p .entry)) (now (work .entry)) s a (now (work .exit)) r ⌝ }
+pub fn step(pattern: &[u8], work: &mut [u8], agenda: Agenda, entries: [Entry; VARIABLES]) -> Step
+    requires { ⌜ Ready 0 (now pattern) (now work) agenda entries × (0 < agenda .easy) ⌝ }
+    ensures { λ r. ⌜ Stepped (now (pattern .entry)) (now (work .entry)) agenda entries (now (work .exit)) r ⌝ }
 {
-    let item = agenda::item_at(work, s.easy);
-    let part = item.part;
-    let kind = p[part];
+    let goal = agenda::goal_at(work, agenda.easy);
+    let part = goal.part;
+    let kind = pattern[part];
     if kind == Kind::ABSTRACTION.code {
-        return step_abstraction(p, work, s, a, item);
+        return step_abstraction(pattern, work, agenda, entries, goal);
     }
     if kind == Kind::VARIABLE.code {
-        return step_variable(p, work, s, a, item);
+        return step_variable(pattern, work, agenda, entries, goal);
     }
     if kind != Kind::APPLICATION.code {
-        return step_record(p, work, s, a, item);
+        return step_record(pattern, work, agenda, entries, goal);
     }
-    if shifting::is_rigid(p, part) {
-        return step_rigid(p, work, s, a, item);
+    if shifting::is_rigid(pattern, part) {
+        return step_rigid(pattern, work, agenda, entries, goal);
     }
-    step_flexible(p, work, s, a, item)
+    step_flexible(pattern, work, agenda, entries, goal)
 }

@@ -23,24 +23,24 @@ use Rattle.records.specs.Record.{numberAt}
 use Rattle.records.specs.Parts.{Part, Whole}
 use Rattle.records.proofs.Parts.{size-some, whole, kind-at, at-start, application, abstraction, argument-part}
 use Rattle.sweeping.specs.declared.Length.the-variants.{Records, TooLong}
-use Rattle.sweeping.specs.Writers.{replace, count, Fits, Wrote, Substitution, Used}
-use Rattle.sweeping.specs.Swept.{sweptBytes, Written, Applied, Applies, Abstracted, Abstracts}
+use Rattle.sweeping.specs.Writers.{substituteFor, count, NumbersFit, Wrote, Substitution, UsesCounted}
+use Rattle.sweeping.specs.Swept.{sweptBytes, WrittenForm, SweptParts, ContractsApplication, SweptBody, ContractsAbstraction}
 use Rattle.copying.proofs.Stores.{written-then}
 use Rattle.sweeping.proofs.Writers.{source, local-at}
 use Rattle.sweeping.proofs.Counts.{count-none, count-some, size-replaced}
 
 -- the two answers
-pub written : (t : Term) (out after : List ℕ) (n : ℕ) → 4 * n ≡ 4 * size t → n ≤ sweptRecords → after ≡ sets out 0 (encode t)
-    → Written t out (Records n) after
-unfolding Written
-written t out after n e h b = (omega arith, h, b)
+pub form-written : (t : Term) (out after : List ℕ) (n : ℕ) → 4 * n ≡ 4 * size t → n ≤ sweptRecords → after ≡ sets out 0 (encode t)
+    → WrittenForm t out (Records n) after
+unfolding WrittenForm
+form-written t out after n e h b = (omega arith, h, b)
 
-pub too-long : (t : Term) (out : List ℕ) → sweptRecords < size t → Written t out TooLong out
-unfolding Written
-too-long t out h = (h, refl)
+pub form-too-long : (t : Term) (out : List ℕ) → sweptRecords < size t → WrittenForm t out TooLong out
+unfolding WrittenForm
+form-too-long t out h = (h, refl)
 
 -- few binders, so that the locals' numbers fit
-pub closed-fits : (d : ℕ) (t : Term) → Closed d t → d + size t ≤ constants → Fits t
+pub closed-fits : (d : ℕ) (t : Term) → Closed d t → d + size t ≤ constants → NumbersFit t
 closed-fits d (app f a) c h = (closed-fits d f (c .0) (omega arith), closed-fits d a (c .1) (omega arith))
 closed-fits d (lam b) c h = closed-fits (suc d) b c (omega arith)
 closed-fits d (loc n) c h = omega (arith, c)
@@ -66,15 +66,15 @@ not-abstraction l (con m) e n = tt
 not-abstraction l (var m) e n = tt
 
 module _ (f a out : List ℕ) (n : ¬ (getD f 0 0 ≡ 1)) where
-  pub applied-too-long : sweptBytes < 4 + length f + length a → Applies f a out TooLong out
+  pub applied-too-long : sweptBytes < 4 + length f + length a → ContractsApplication f a out TooLong out
   applied-too-long h x y e g =
-      rw (contract-app x y (not-abstraction f x e n)) (too-long (app x y) out (omega (arith, table-length f x e, table-length a y g)))
+      rw (contract-app x y (not-abstraction f x e n)) (form-too-long (app x y) out (omega (arith, table-length f x e, table-length a y g)))
 
   pub applied-written : (p q r : List ℕ) → 4 + length f + length a ≤ sweptBytes → p ≡ sets out 0 (bytes 0 0 []) → q ≡ sets p 4 f
-      → r ≡ sets q (4 + length f) a → Applies f a out (Records ((4 + length f + length a) / 4)) r
+      → r ≡ sets q (4 + length f) a → ContractsApplication f a out (Records ((4 + length f + length a) / 4)) r
   applied-written p q r h u v w x y e g =
       rw (contract-app x y (not-abstraction f x e n))
-      (written (app x y) out r ((4 + length f + length a) / 4) (omega (arith, table-length f x e, table-length a y g)) (omega arith)
+      (form-written (app x y) out r ((4 + length f + length a) / 4) (omega (arith, table-length f x e, table-length a y g)) (omega arith)
       (application-bytes f a out p q r u v w x y e g))
 
 -- an application whose head is an abstraction
@@ -85,7 +85,7 @@ uses-bytes f a next n h i j k = let p : n ≤ sweptRecords = omega arith in let 
 pub redex-whole : (f : List ℕ) (x : Term) → f ≡ encode x → getD f 0 0 ≡ 1 → Whole f 4
 redex-whole f x e z = let v = abstraction f 0 x (at-start f x e) z in whole f 4 (v .b) (v .body)
 
-module _ (f a : List ℕ) (z : getD f 0 0 ≡ 1) (next n : ℕ) (u : Used f 4 0 next n) where
+module _ (f a : List ℕ) (z : getD f 0 0 ≡ 1) (next n : ℕ) (u : UsesCounted f 4 0 next n) where
   pub redex-size : (x y : Term) → f ≡ encode x → a ≡ encode y → length f - 4 + n * (length a - 4) ≡ 4 * size (contract (app x y))
   redex-size x y e g = go (size y) refl
     where
@@ -101,10 +101,10 @@ module _ (f a : List ℕ) (z : getD f 0 0 ≡ 1) (next n : ℕ) (u : Used f 4 0 
           let j : n * (length a - 4) ≡ 4 * (n * m) = ap (λ (i : ℕ). n * i) l ∙ mul-left-comm n 4 m in
           omega (arith, table-length f x e, ap size (v .is))
 
-  pub redex-too-long : (out : List ℕ) → sweptBytes < length f - 4 + n * (length a - 4) → Applies f a out TooLong out
-  redex-too-long out h x y e g = too-long (contract (app x y)) out (omega (arith, redex-size x y e g))
+  pub redex-too-long : (out : List ℕ) → sweptBytes < length f - 4 + n * (length a - 4) → ContractsApplication f a out TooLong out
+  redex-too-long out h x y e g = form-too-long (contract (app x y)) out (omega (arith, redex-size x y e g))
 
-  pub redex-substitution : (out : List ℕ) → Applied f a → length f - 4 + n * (length a - 4) ≤ length out
+  pub redex-substitution : (out : List ℕ) → SweptParts f a → length f - 4 + n * (length a - 4) ≤ length out
       → length f - 4 + n * (length a - 4) ≤ sweptBytes → Substitution f 4 0 a out 0
   redex-substitution out x h m =
       let e = x .head-bytes in
@@ -118,23 +118,23 @@ module _ (f a : List ℕ) (z : getD f 0 0 ≡ 1) (next n : ℕ) (u : Used f 4 0 
         argument = x .argument;
         table = g;
         few = omega (arith, table-length a (x .argument) g, x .argument-most);
-        source = source (replace (x .argument)) f 4 0 (length out) 0 (v .b) (v .body)
-            (subst Fits q (closed-fits (x .depth) (contract (app (x .head) (x .argument))) (x .closed) (omega (arith, x .shallow))))
+        source = source (substituteFor (x .argument)) f 4 0 (length out) 0 (v .b) (v .body)
+            (subst NumbersFit q (closed-fits (x .depth) (contract (app (x .head) (x .argument))) (x .closed) (omega (arith, x .shallow))))
             (omega (arith, table-length f (x .head) e, ap size (v .is), x .head-most)) (omega (arith, ap size q));
       }
 
-  pub redex-bytes : (out after : List ℕ) (to end : ℕ) → ((t : Term) → a ≡ encode t → Wrote (replace t) f 4 0 out 0 after to end)
+  pub redex-bytes : (out after : List ℕ) (to end : ℕ) → ((t : Term) → a ≡ encode t → Wrote (substituteFor t) f 4 0 out 0 after to end)
       → (x y : Term) → f ≡ encode x → a ≡ encode y → after ≡ sets out 0 (encode (contract (app x y)))
   redex-bytes out after to end w x y e g =
       let v = abstraction f 0 x (at-start f x e) z in
       w y g .bytes (v .b) (v .body) ∙ ap (λ (t : Term). sets out 0 (encode (contract (app t y)))) (sym (v .is))
 
   pub redex-written : (out after : List ℕ) (to end : ℕ) → length f - 4 + n * (length a - 4) ≤ sweptBytes
-      → ((t : Term) → a ≡ encode t → Wrote (replace t) f 4 0 out 0 after to end)
-      → Applies f a out (Records ((length f - 4 + n * (length a - 4)) / 4)) after
+      → ((t : Term) → a ≡ encode t → Wrote (substituteFor t) f 4 0 out 0 after to end)
+      → ContractsApplication f a out (Records ((length f - 4 + n * (length a - 4)) / 4)) after
   redex-written out after to end m w x y e g =
       let s = redex-size x y e g in
-      written (contract (app x y)) out after ((length f - 4 + n * (length a - 4)) / 4) (omega arith) (omega arith)
+      form-written (contract (app x y)) out after ((length f - 4 + n * (length a - 4)) / 4) (omega arith) (omega arith)
       (redex-bytes out after to end w x y e g)
 
 -- the test for an abstraction's contraction, step by step
@@ -167,10 +167,10 @@ no-innermost l at (con m) x n = refl
 no-innermost l at (var m) x n = refl
 
 module _ (b : List ℕ) (z : getD b 0 0 ≡ 0) where
-  pub body-whole : (x : Abstracted b) → Whole b 4
+  pub body-whole : (x : SweptBody b) → Whole b 4
   body-whole x = let v = application b 0 (x .body) (at-start b (x .body) (x .bytes)) z in whole b 4 (v .f) (v .head)
 
-  pub argument-whole : (next n : ℕ) → Used b 4 0 next n → (x : Abstracted b) → Whole b next
+  pub argument-whole : (next n : ℕ) → UsesCounted b 4 0 next n → (x : SweptBody b) → Whole b next
   argument-whole next n u x =
       let v = application b 0 (x .body) (at-start b (x .body) (x .bytes)) z in
       whole b next (v .a) (argument-part b 0 next (x .body) (u .ends) v)
@@ -180,7 +180,7 @@ module _ (b : List ℕ) (z : getD b 0 0 ≡ 0) where
       let v = application b 0 t (at-start b t e) z in
       rw (v .is, is-abstraction b 4 (v .f) (v .head) k) (and-false (isEta (app (v .f) (v .a))))
 
-  module _ (next n : ℕ) (u : Used b 4 0 next n) where
+  module _ (next n : ℕ) (u : UsesCounted b 4 0 next n) where
     pub argument-no-local : ¬ (getD b next 0 ≡ 2) → (t : Term) → b ≡ encode t → false ≡ isProper t
     argument-no-local k t e =
         let v = application b 0 t (at-start b t e) z in
@@ -239,7 +239,7 @@ module _ (b : List ℕ) (r : Bool) (test : (t : Term) → b ≡ encode t → r �
         (ap (λ (l : List ℕ). getD l 0 0) (e ∙ ap encode (x .is))) in
         subst (Part b 4) (ap headOf (sym (v .is))) (v .head)
 
-    pub eta-substitution : (out : List ℕ) → Abstracted b → length out ≡ sweptBytes → Substitution b 4 0 b out 0
+    pub eta-substitution : (out : List ℕ) → SweptBody b → length out ≡ sweptBytes → Substitution b 4 0 b out 0
     eta-substitution out x h =
         let y = at-term (x .body) (x .bytes) in
         let q = y .moved (x .body) in
@@ -248,18 +248,19 @@ module _ (b : List ℕ) (r : Bool) (test : (t : Term) → b ≡ encode t → r �
           argument = x .body;
           table = x .bytes;
           few = omega (arith, x .most);
-          source = source (replace (x .body)) b 4 0 (length out) 0 (y .m) (part (x .body) (x .bytes))
-              (subst Fits q
+          source = source (substituteFor (x .body)) b 4 0 (length out) 0 (y .m) (part (x .body) (x .bytes))
+              (subst NumbersFit q
               (closed-fits (x .depth) (contract (lam (x .body))) (x .closed) (omega (arith, x .most, x .shallow, y .smaller))))
               (omega (arith, x .most, ap size (y .is))) (omega (arith, x .most, y .smaller, ap size q));
         }
 
     pub eta-written : (out after : List ℕ) (to end : ℕ) → length b ≤ sweptBytes
-        → ((t : Term) → b ≡ encode t → Wrote (replace t) b 4 0 out 0 after to end) → Abstracts b out (Records (end / 4)) after
+        → ((t : Term) → b ≡ encode t → Wrote (substituteFor t) b 4 0 out 0 after to end)
+        → ContractsAbstraction b out (Records (end / 4)) after
     eta-written out after to end h w t e =
         let y = at-term t e in
         let q = y .moved t in
-        written (contract (lam t)) out after (end / 4) (omega (arith, w t e .exact (y .m) (part t e), ap size q))
+        form-written (contract (lam t)) out after (end / 4) (omega (arith, w t e .exact (y .m) (part t e), ap size q))
         (omega (arith, w t e .exact (y .m) (part t e), ap size q, y .smaller, table-length b t e))
         (w t e .bytes (y .m) (part t e) ∙ ap (λ (x : Term). sets out 0 (encode x)) (sym q))
 
@@ -267,12 +268,12 @@ module _ (b : List ℕ) (r : Bool) (test : (t : Term) → b ≡ encode t → r �
     kept : (t : Term) → b ≡ encode t → contract (lam t) ≡ lam t
     kept t e = rw (sym (test t e) ∙ no)
 
-    pub abstracted-too-long : (out : List ℕ) → sweptBytes < 4 + length b → Abstracts b out TooLong out
-    abstracted-too-long out h t e = rw (kept t e) (too-long (lam t) out (omega (arith, table-length b t e)))
+    pub abstracted-too-long : (out : List ℕ) → sweptBytes < 4 + length b → ContractsAbstraction b out TooLong out
+    abstracted-too-long out h t e = rw (kept t e) (form-too-long (lam t) out (omega (arith, table-length b t e)))
 
     pub abstracted-written : (out p q : List ℕ) → 4 + length b ≤ sweptBytes → p ≡ sets out 0 (bytes 1 0 []) → q ≡ sets p 4 b
-        → Abstracts b out (Records ((4 + length b) / 4)) q
+        → ContractsAbstraction b out (Records ((4 + length b) / 4)) q
     abstracted-written out p q h u v t e =
         rw (kept t e)
-        (written (lam t) out q ((4 + length b) / 4) (omega (arith, table-length b t e)) (omega arith)
+        (form-written (lam t) out q ((4 + length b) / 4) (omega (arith, table-length b t e)) (omega arith)
         (written-then (bytes 1 0 []) b out p q 0 4 u v refl ∙ ap (λ (l : List ℕ). sets out 0 (bytes 1 0 l)) e))

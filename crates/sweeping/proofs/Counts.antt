@@ -17,12 +17,13 @@ use Rattle.terms.proofs.Substitute.{by-substitute}
 use Rattle.records.specs.Record.{numberAt}
 use Rattle.records.specs.Parts.{Whole}
 use Rattle.records.proofs.Parts.{application, abstraction, argument-part, ends-app, ends-lam, ends-leaf}
-use Rattle.sweeping.specs.Writers.{count, Used}
+use Rattle.sweeping.specs.Writers.{count, UsesCounted}
 use Rattle.sweeping.proofs.Writers.{local-at, Other, by-other}
 
 -- the count, part by part
 module _ (l : List ℕ) (at k : ℕ) where
-  pub used-application : (h next n m : ℕ) → getD l at 0 ≡ 0 → Used l (at + 4) k h n → Used l h k next m → Used l at k next (n + m)
+  pub used-application : (h next n m : ℕ) → getD l at 0 ≡ 0 → UsesCounted l (at + 4) k h n → UsesCounted l h k next m
+      → UsesCounted l at k next (n + m)
   used-application h next n m z x y = record {
     ends = ends-app l at h next z (x .ends) (y .ends);
     few = omega (arith, x .few, y .few);
@@ -31,7 +32,7 @@ module _ (l : List ℕ) (at k : ℕ) where
         rw (v .is) (ap₂ _+_ (x .exact (v .f) (v .head)) (y .exact (v .a) (argument-part l at h t (x .ends) v)));
   }
 
-  pub used-abstraction : (next n : ℕ) → getD l at 0 ≡ 1 → Used l (at + 4) (k + 1) next n → Used l at k next n
+  pub used-abstraction : (next n : ℕ) → getD l at 0 ≡ 1 → UsesCounted l (at + 4) (k + 1) next n → UsesCounted l at k next n
   used-abstraction next n z x = record {
     ends = ends-lam l at next z (x .ends);
     few = omega (arith, x .few);
@@ -41,20 +42,20 @@ module _ (l : List ℕ) (at k : ℕ) where
   }
 
   module _ (n : ℕ) (x : Whole l at) (z : getD l at 0 ≡ 2) (e : n ≡ numberAt l at) where
-    local-used : (m : ℕ) → m ≤ 1 → m ≡ count k (loc n) → Used l at k (at + 4) m
+    local-used : (m : ℕ) → m ≤ 1 → m ≡ count k (loc n) → UsesCounted l at k (at + 4) m
     local-used m h c = record {
       ends = ends-leaf l at (λ q. omega arith) (λ q. omega arith) x;
       few = omega arith;
       exact = λ t w. c ∙ ap (count k) (sym (local-at l at n t w z e));
     }
 
-    pub used-once : n ≡ k → Used l at k (at + 4) 1
+    pub used-once : n ≡ k → UsesCounted l at k (at + 4) 1
     used-once h = local-used 1 (omega arith) (rw (eq-eqb n k h))
 
-    pub used-never : ¬ (n ≡ k) → Used l at k (at + 4) 0
+    pub used-never : ¬ (n ≡ k) → UsesCounted l at k (at + 4) 0
     used-never h = local-used 0 (omega arith) (rw (ne-eqb n k h))
 
-  pub used-other : Whole l at → Other l at → Used l at k (at + 4) 0
+  pub used-other : Whole l at → Other l at → UsesCounted l at k (at + 4) 0
   used-other x z = record {
     ends = ends-leaf l at (z .no-application) (z .no-abstraction) x;
     few = omega arith;

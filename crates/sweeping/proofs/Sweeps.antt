@@ -25,10 +25,11 @@ use Rattle.assignments.specs.Entries.{Given, Gives}
 use Rattle.assignments.specs.declared.Entry.{Entry}
 use Rattle.sweeping.specs.declared.Length.{Length}
 use Rattle.sweeping.specs.declared.Length.the-variants.{Records, TooLong}
-use Rattle.sweeping.specs.Swept.{sweptBytes, Written, Swept, Applied, Applies, Abstracted, Abstracts, Assigned, Ready, Fillable}
-use Rattle.sweeping.specs.Swept.{Sweeps}
+use Rattle.sweeping.specs.Swept.{sweptBytes, WrittenForm, FormSwept, SweptParts, ContractsApplication, SweptBody}
+use Rattle.sweeping.specs.Swept.{ContractsAbstraction, HasValue, Sweepable, Fillable}
+use Rattle.sweeping.specs.Swept.{WritesSwept}
 use Rattle.copying.proofs.Stores.{stored}
-use Rattle.sweeping.proofs.Contraction.{written, table-length}
+use Rattle.sweeping.proofs.Contraction.{form-written, table-length}
 use Rattle.sweeping.proofs.Values.{largest-normal}
 
 -- a swept form has no loose local that the part doesn't have; what stands for a variable that doesn't occur is of no matter
@@ -78,8 +79,8 @@ gives-parts l s a z t φ q g =
     (λ i o. h i (inl o), λ i o. h i (inr o))
 
 -- the parts of what is ready
-module _ (l m s : List ℕ) (a : List Entry) (x : Ready l s a) where
-  ready : (t : Term) (d : ℕ) → m ≡ encode t → d + size t + sweptRecords ≤ constants → Closed d t → Gives s a (x .φ) t → Ready m s a
+module _ (l m s : List ℕ) (a : List Entry) (x : Sweepable l s a) where
+  ready : (t : Term) (d : ℕ) → m ≡ encode t → d + size t + sweptRecords ≤ constants → Closed d t → Gives s a (x .φ) t → Sweepable m s a
   ready t d e h c g = record {
     tree = t;
     bytes = e;
@@ -91,31 +92,31 @@ module _ (l m s : List ℕ) (a : List Entry) (x : Ready l s a) where
     gives = g;
   }
 
-  pub ready-head : getD l 0 0 ≡ 0 → ((f g : Term) → l ≡ encode (app f g) → m ≡ encode f) → Ready m s a
+  pub ready-head : getD l 0 0 ≡ 0 → ((f g : Term) → l ≡ encode (app f g) → m ≡ encode f) → Sweepable m s a
   ready-head z h =
       let v = application-of l (x .tree) (x .bytes) z in
       let c : Closed (x .depth) (app (v .f) (v .a)) = subst (Closed (x .depth)) (v .is) (x .closed) in
       let g = gives-parts l s a z (x .tree) (x .φ) (x .bytes) (x .gives) in
       ready (v .f) (x .depth) (h (v .f) (v .a) (v .bytes)) (omega (arith, ap size (v .is), x .shallow)) (c .0) (g .0)
 
-  pub ready-argument : getD l 0 0 ≡ 0 → ((f g : Term) → l ≡ encode (app f g) → m ≡ encode g) → Ready m s a
+  pub ready-argument : getD l 0 0 ≡ 0 → ((f g : Term) → l ≡ encode (app f g) → m ≡ encode g) → Sweepable m s a
   ready-argument z h =
       let v = application-of l (x .tree) (x .bytes) z in
       let c : Closed (x .depth) (app (v .f) (v .a)) = subst (Closed (x .depth)) (v .is) (x .closed) in
       let g = gives-parts l s a z (x .tree) (x .φ) (x .bytes) (x .gives) in
       ready (v .a) (x .depth) (h (v .f) (v .a) (v .bytes)) (omega (arith, ap size (v .is), x .shallow)) (c .1) (g .1)
 
-  pub ready-body : getD l 0 0 ≡ 1 → ((b : Term) → l ≡ encode (lam b) → m ≡ encode b) → Ready m s a
+  pub ready-body : getD l 0 0 ≡ 1 → ((b : Term) → l ≡ encode (lam b) → m ≡ encode b) → Sweepable m s a
   ready-body z h =
       let v = abstraction-of l (x .tree) (x .bytes) z in
       let c : Closed (x .depth) (lam (v .b)) = subst (Closed (x .depth)) (v .is) (x .closed) in
       let g : Gives s a (x .φ) (lam (v .b)) = subst (Gives s a (x .φ)) (v .is) (x .gives) in
       ready (v .b) (suc (x .depth)) (h (v .b) (v .bytes)) (omega (arith, ap size (v .is), x .shallow)) c g
 
-pub ready-tree : (l s : List ℕ) (a : List Entry) → Ready l s a → Tree l
+pub ready-tree : (l s : List ℕ) (a : List Entry) → Sweepable l s a → Tree l
 ready-tree l s a x = record { tree = x .tree; bytes = x .bytes; least = x .least }
 
-pub ready-fillable : (l s : List ℕ) (a : List Entry) → Fillable l s a → Ready l s a
+pub ready-fillable : (l s : List ℕ) (a : List Entry) → Fillable l s a → Sweepable l s a
 ready-fillable l s a x = record {
   tree = x .tree;
   bytes = x .table .0;
@@ -128,7 +129,7 @@ ready-fillable l s a x = record {
 }
 
 -- a swept form of n records that stands in p from byte 0 on
-pub record Result (t : Term) (p : List ℕ) (n : ℕ) : Type 0 where
+pub record SweptTable (t : Term) (p : List ℕ) (n : ℕ) : Type 0 where
   pub all : largest t ≤ sweptRecords
   pub some : 1 ≤ n
   pub few : n ≤ sweptRecords
@@ -136,10 +137,11 @@ pub record Result (t : Term) (p : List ℕ) (n : ℕ) : Type 0 where
   pub fills : length (take (n * 4 - 0) (drop 0 p)) ≡ 4 * n
   pub within : n * 4 ≤ length p
 
-pub result : (t : Term) (out p : List ℕ) (r : Length) (n : ℕ) → Swept t out r p → r ≡ Records n → length out ≡ sweptBytes → Result t p n
-unfolding Swept Written
-result t out p r n x e h =
-    let y : Swept t out (Records n) p = subst (λ (q : Length). Swept t out q p) e x in
+pub swept-table : (t : Term) (out p : List ℕ) (r : Length) (n : ℕ) → FormSwept t out r p → r ≡ Records n → length out ≡ sweptBytes
+    → SweptTable t p n
+unfolding FormSwept WrittenForm
+swept-table t out p r n x e h =
+    let y : FormSwept t out (Records n) p = subst (λ (q : Length). FormSwept t out q p) e x in
     let b = stored out p (encode (sweep t)) (n * 4) (y .1 .2) (omega (arith, y .1 .0, encode-length (sweep t))) (omega (arith, y .1 .1)) in
     record {
       all = y .0;
@@ -150,47 +152,47 @@ result t out p r n x e h =
       within = omega (arith, y .1 .1, ap length (y .1 .2), length-sets out 0 (encode (sweep t)));
     }
 
-pub swept-long : (t : Term) (out p : List ℕ) (r : Length) → Swept t out r p → r ≡ TooLong → sweptRecords < largest t
-unfolding Swept
-swept-long t out p r x e = let y : Swept t out TooLong p = subst (λ (q : Length). Swept t out q p) e x in y .0
+pub swept-long : (t : Term) (out p : List ℕ) (r : Length) → FormSwept t out r p → r ≡ TooLong → sweptRecords < largest t
+unfolding FormSwept
+swept-long t out p r x e = let y : FormSwept t out TooLong p = subst (λ (q : Length). FormSwept t out q p) e x in y .0
 
-long : (t : Term) (out : List ℕ) → sweptRecords < largest t → Swept t out TooLong out
-unfolding Swept
+long : (t : Term) (out : List ℕ) → sweptRecords < largest t → FormSwept t out TooLong out
+unfolding FormSwept
 long t out h = (h, refl)
 
 -- a term that sweeps to u, from what was written for u
 whole-swept : (t u : Term) (out : List ℕ) (r : Length) (after : List ℕ) → sweep t ≡ u → (size u ≤ sweptRecords → largest t ≤ sweptRecords)
-    → size u ≤ largest t → Written u out r after → Swept t out r after
-unfolding Swept Written
+    → size u ≤ largest t → WrittenForm u out r after → FormSwept t out r after
+unfolding FormSwept WrittenForm
 whole-swept t u out (Records n) after e f g w = (f (omega (arith, w .0, w .1)), rw e w)
 whole-swept t u out TooLong after e f g w = (omega (arith, w .0), w .1)
 
 -- what the sweeps of the parts are, for every term that the part can be
 module _ (s : List ℕ) (a : List Entry) (out : List ℕ) where
-  pub results : (m p : List ℕ) (r : Length) (n : ℕ) → Sweeps m s a out r p → r ≡ Records n → length out ≡ sweptBytes
-      → (t : Term) (φ : ℕ → Term) → m ≡ encode t → Gives s a φ t → Result (fill φ t) p n
-  results m p r n w e h t φ q g = result (fill φ t) out p r n (w t φ q g) e h
+  pub results : (m p : List ℕ) (r : Length) (n : ℕ) → WritesSwept m s a out r p → r ≡ Records n → length out ≡ sweptBytes
+      → (t : Term) (φ : ℕ → Term) → m ≡ encode t → Gives s a φ t → SweptTable (fill φ t) p n
+  results m p r n w e h t φ q g = swept-table (fill φ t) out p r n (w t φ q g) e h
 
-  pub result-few : (m p : List ℕ) (r : Length) (n : ℕ) → Sweeps m s a out r p → r ≡ Records n → length out ≡ sweptBytes
-      → Ready m s a → n ≤ sweptRecords
+  pub result-few : (m p : List ℕ) (r : Length) (n : ℕ) → WritesSwept m s a out r p → r ≡ Records n → length out ≡ sweptBytes
+      → Sweepable m s a → n ≤ sweptRecords
   result-few m p r n w e h x = results m p r n w e h (x .tree) (x .φ) (x .bytes) (x .gives) .few
 
-  pub result-within : (m p : List ℕ) (r : Length) (n : ℕ) → Sweeps m s a out r p → r ≡ Records n → length out ≡ sweptBytes
-      → Ready m s a → n * 4 ≤ length p
+  pub result-within : (m p : List ℕ) (r : Length) (n : ℕ) → WritesSwept m s a out r p → r ≡ Records n → length out ≡ sweptBytes
+      → Sweepable m s a → n * 4 ≤ length p
   result-within m p r n w e h x = results m p r n w e h (x .tree) (x .φ) (x .bytes) (x .gives) .within
 
 -- an application
 module _ (l s : List ℕ) (a : List Entry) (z : getD l 0 0 ≡ 0) (m : List ℕ) (head : (f g : Term) → l ≡ encode (app f g) → m ≡ encode f)
-    (u p : List ℕ) (r : Length) (w : Sweeps m s a u r p) where
-  pub head-long : (out : List ℕ) → r ≡ TooLong → Sweeps l s a out TooLong out
+    (u p : List ℕ) (r : Length) (w : WritesSwept m s a u r p) where
+  pub head-long : (out : List ℕ) → r ≡ TooLong → WritesSwept l s a out TooLong out
   head-long out e t φ q g =
       let v = application-of l t q z in
       let h = swept-long (fill φ (v .f)) u p r (w (v .f) φ (head (v .f) (v .a) (v .bytes)) (gives-parts l s a z t φ q g .0)) e in
       rw (v .is) (long (fill φ (app (v .f) (v .a))) out (omega arith))
 
   module _ (j : List ℕ) (argument : (f g : Term) → l ≡ encode (app f g) → j ≡ encode g) (c : List ℕ) (b : List ℕ) (o : Length)
-      (y : Sweeps j s a c o b) where
-    pub argument-long : (out : List ℕ) → o ≡ TooLong → Sweeps l s a out TooLong out
+      (y : WritesSwept j s a c o b) where
+    pub argument-long : (out : List ℕ) → o ≡ TooLong → WritesSwept l s a out TooLong out
     argument-long out e t φ q g =
         let v = application-of l t q z in
         let h = swept-long (fill φ (v .a)) c b o (y (v .a) φ (argument (v .f) (v .a) (v .bytes)) (gives-parts l s a z t φ q g .1)) e in
@@ -198,7 +200,7 @@ module _ (l s : List ℕ) (a : List Entry) (z : getD l 0 0 ≡ 0) (m : List ℕ)
 
     module _ (n k : ℕ) (e : r ≡ Records n) (d : o ≡ Records k) (h : length u ≡ sweptBytes) (i : length c ≡ sweptBytes) where
       both : (t : Term) (φ : ℕ → Term) (q : l ≡ encode t) → Gives s a φ t
-          → Result (fill φ (application-of l t q z .f)) p n × Result (fill φ (application-of l t q z .a)) b k
+          → SweptTable (fill φ (application-of l t q z .f)) p n × SweptTable (fill φ (application-of l t q z .a)) b k
       both t φ q g =
           let v = application-of l t q z in
           let f = gives-parts l s a z t φ q g in (
@@ -206,7 +208,7 @@ module _ (l s : List ℕ) (a : List Entry) (z : getD l 0 0 ≡ 0) (m : List ℕ)
             results s a c j b o k y d i (v .a) φ (argument (v .f) (v .a) (v .bytes)) (f .1),
           )
 
-      pub parts-applied : Ready l s a → Applied (take (n * 4 - 0) (drop 0 p)) (take (k * 4 - 0) (drop 0 b))
+      pub parts-applied : Sweepable l s a → SweptParts (take (n * 4 - 0) (drop 0 p)) (take (k * 4 - 0) (drop 0 b))
       parts-applied x =
           let v = application-of l (x .tree) (x .bytes) z in
           let f = both (x .tree) (x .φ) (x .bytes) (x .gives) .0 in
@@ -227,7 +229,7 @@ module _ (l s : List ℕ) (a : List Entry) (z : getD l 0 0 ≡ 0) (m : List ℕ)
           }
 
       pub sweeps-application : (out : List ℕ) (q : Length) (after : List ℕ)
-          → Applies (take (n * 4 - 0) (drop 0 p)) (take (k * 4 - 0) (drop 0 b)) out q after → Sweeps l s a out q after
+          → ContractsApplication (take (n * 4 - 0) (drop 0 p)) (take (k * 4 - 0) (drop 0 b)) out q after → WritesSwept l s a out q after
       sweeps-application out q after x t φ g y =
           let v = application-of l t g z in
           let f = both t φ g y .0 in
@@ -238,20 +240,20 @@ module _ (l s : List ℕ) (a : List Entry) (z : getD l 0 0 ≡ 0) (m : List ℕ)
 
 -- an abstraction
 module _ (l s : List ℕ) (a : List Entry) (z : getD l 0 0 ≡ 1) (m : List ℕ) (body : (b : Term) → l ≡ encode (lam b) → m ≡ encode b)
-    (u p : List ℕ) (r : Length) (w : Sweeps m s a u r p) where
-  pub body-long : (out : List ℕ) → r ≡ TooLong → Sweeps l s a out TooLong out
+    (u p : List ℕ) (r : Length) (w : WritesSwept m s a u r p) where
+  pub body-long : (out : List ℕ) → r ≡ TooLong → WritesSwept l s a out TooLong out
   body-long out e t φ q g =
       let v = abstraction-of l t q z in
       let h = swept-long (fill φ (v .b)) u p r (w (v .b) φ (body (v .b) (v .bytes)) (subst (Gives s a φ) (v .is) g)) e in
       rw (v .is) (long (fill φ (lam (v .b))) out (omega arith))
 
   module _ (n : ℕ) (e : r ≡ Records n) (h : length u ≡ sweptBytes) where
-    one : (t : Term) (φ : ℕ → Term) (q : l ≡ encode t) → Gives s a φ t → Result (fill φ (abstraction-of l t q z .b)) p n
+    one : (t : Term) (φ : ℕ → Term) (q : l ≡ encode t) → Gives s a φ t → SweptTable (fill φ (abstraction-of l t q z .b)) p n
     one t φ q g =
         let v = abstraction-of l t q z in
         results s a u m p r n w e h (v .b) φ (body (v .b) (v .bytes)) (subst (Gives s a φ) (v .is) g)
 
-    pub part-abstracted : Ready l s a → Abstracted (take (n * 4 - 0) (drop 0 p))
+    pub part-abstracted : Sweepable l s a → SweptBody (take (n * 4 - 0) (drop 0 p))
     part-abstracted x =
         let v = abstraction-of l (x .tree) (x .bytes) z in
         let f = one (x .tree) (x .φ) (x .bytes) (x .gives) in
@@ -266,8 +268,8 @@ module _ (l s : List ℕ) (a : List Entry) (z : getD l 0 0 ≡ 1) (m : List ℕ)
               (closed-swept s a (x .φ) (x .depth) (x .tree) (x .gives) (x .closed));
         }
 
-    pub sweeps-abstraction : (out : List ℕ) (q : Length) (after : List ℕ) → Abstracts (take (n * 4 - 0) (drop 0 p)) out q after
-        → Sweeps l s a out q after
+    pub sweeps-abstraction : (out : List ℕ) (q : Length) (after : List ℕ) → ContractsAbstraction (take (n * 4 - 0) (drop 0 p)) out q after
+        → WritesSwept l s a out q after
     sweeps-abstraction out q after x t φ g y =
         let v = abstraction-of l t g z in
         let f = one t φ g y in
@@ -275,7 +277,7 @@ module _ (l s : List ℕ) (a : List Entry) (z : getD l 0 0 ≡ 1) (m : List ℕ)
         (λ h. omega (arith, f .all)) (omega arith) (x (sweep (fill φ (v .b))) (f .bytes)))
 
 -- a normal term, which sweeps to itself
-swept-normal : (t : Term) (out : List ℕ) (r : Length) (after : List ℕ) → Normal t → Written t out r after → Swept t out r after
+swept-normal : (t : Term) (out : List ℕ) (r : Length) (after : List ℕ) → Normal t → WrittenForm t out r after → FormSwept t out r after
 swept-normal t out r after n w =
     whole-swept t t out r after (sweep-normal t n) (λ h. omega (arith, largest-normal t n)) (omega (arith, largest-normal t n)) w
 
@@ -290,27 +292,27 @@ module _ (l s : List ℕ) (a : List Entry) where
   given : (i : ℕ) (t : Term) (φ : ℕ → Term) → t ≡ var i → Gives s a φ t → Given s a i (φ i)
   given i t φ e g = let h : Gives s a φ (var i) = subst (Gives s a φ) e g in h i refl
 
-  pub ready-value : (i : ℕ) → Ready l s a → getD l 0 0 ≡ 4 → i ≡ numberAt l 0 → Assigned s a i
+  pub ready-value : (i : ℕ) → Sweepable l s a → getD l 0 0 ≡ 4 → i ≡ numberAt l 0 → HasValue s a i
   ready-value i x k q = record { value = x .φ i; given = given i (x .tree) (x .φ) (variable-at i (x .tree) (x .bytes) k q) (x .gives) }
 
   pub sweeps-variable : (i : ℕ) (out : List ℕ) (r : Length) (after : List ℕ) → getD l 0 0 ≡ 4 → i ≡ numberAt l 0
-      → ((v : Term) → Given s a i v → Written v out r after) → Sweeps l s a out r after
+      → ((v : Term) → Given s a i v → WrittenForm v out r after) → WritesSwept l s a out r after
   sweeps-variable i out r after k q w t φ e g =
       let v = variable-at i t e k q in
       let h = given i t φ v g in
       rw v (swept-normal (φ i) out r after (h .value .1) (w (φ i) h))
 
   module _ (n : ¬ (getD l 0 0 ≡ 0)) (m : ¬ (getD l 0 0 ≡ 1)) where
-    pub leaf-length : Ready l s a → length l ≡ 4
+    pub leaf-length : Sweepable l s a → length l ≡ 4
     leaf-length x = omega (arith, table-length l (x .tree) (x .bytes), leaf-size l 0 (x .tree) (at-start l (x .tree) (x .bytes)) n m)
 
-    pub sweeps-leaf : (out after : List ℕ) → ¬ (getD l 0 0 ≡ 4) → after ≡ sets out 0 l → Sweeps l s a out (Records 1) after
+    pub sweeps-leaf : (out after : List ℕ) → ¬ (getD l 0 0 ≡ 4) → after ≡ sets out 0 l → WritesSwept l s a out (Records 1) after
     sweeps-leaf out after k w = go
       where
-        own : (t : Term) → l ≡ encode t → size t ≡ 1 → Written t out (Records 1) after
-        own t e h = written t out after 1 (omega arith) (omega arith) (w ∙ ap (sets out 0) e)
+        own : (t : Term) → l ≡ encode t → size t ≡ 1 → WrittenForm t out (Records 1) after
+        own t e h = form-written t out after 1 (omega arith) (omega arith) (w ∙ ap (sets out 0) e)
 
-        go : Sweeps l s a out (Records 1) after
+        go : WritesSwept l s a out (Records 1) after
         go (app f b) φ e g = absurd (n (kind-at l 0 (app f b) (at-start l (app f b) e)))
         go (lam b) φ e g = absurd (m (kind-at l 0 (lam b) (at-start l (lam b) e)))
         go (loc i) φ e g = swept-normal (loc i) out (Records 1) after tt (own (loc i) e refl)

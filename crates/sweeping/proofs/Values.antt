@@ -17,20 +17,20 @@ use Rattle.assignments.specs.declared.Span.{Span}
 use Rattle.assignments.specs.declared.Entry.{Entry}
 use Rattle.assignments.specs.declared.Entry.the-variants.{Open, Assigned}
 use Rattle.sweeping.specs.declared.Length.the-variants.{Records}
-use Rattle.sweeping.specs.Swept.{Written}
-use Rattle.sweeping.proofs.Contraction.{written, table-length}
+use Rattle.sweeping.specs.Swept.{WrittenForm}
+use Rattle.sweeping.proofs.Contraction.{form-written, table-length}
 
 -- what the value table holds for the span of an entry
-pub record Held (s : List ℕ) (x : Span) (v : Term) : Type 0 where
+pub record ValueBytes (s : List ℕ) (x : Span) (v : Term) : Type 0 where
   pub most : x .count ≤ sweptRecords
   pub within : 4 * (x .first + x .count) ≤ length s
   pub exact : x .count ≡ size v
   pub bytes : take (4 * x .count) (drop (4 * x .first) s) ≡ encode v
 
-pub held : (s : List ℕ) (a : List Entry) (i : ℕ) (v : Term) → Given s a i v → (x : Span) → getD a i Open ≡ Assigned x → Held s x v
+pub held : (s : List ℕ) (a : List Entry) (i : ℕ) (v : Term) → Given s a i v → (x : Span) → getD a i Open ≡ Assigned x → ValueBytes s x v
 held s a i v g x e =
     let q : g .span ≡ x = cc (g .is) in
-    subst (λ (y : Span). Held s y v) q (record {
+    subst (λ (y : Span). ValueBytes s y v) q (record {
       most = omega (arith, g .most);
       within = g .within;
       exact = omega (
@@ -53,10 +53,11 @@ given-below s a i v g = go (decLt i (length a))
     go (yes h) = h
     go (no h) = open-not s a i v g (List·getD-eq-default a Open (omega arith))
 
-pub value-written : (s : List ℕ) (x : Span) (v : Term) (out b after : List ℕ) → Held s x v → b ≡ take (4 * x .count) (drop (4 * x .first) s)
-    → after ≡ sets out 0 b → Written v out (Records (x .count)) after
+pub value-written : (s : List ℕ) (x : Span) (v : Term) (out b after : List ℕ) → ValueBytes s x v
+    → b ≡ take (4 * x .count) (drop (4 * x .first) s)
+    → after ≡ sets out 0 b → WrittenForm v out (Records (x .count)) after
 value-written s x v out b after h e q =
-    written v out after (x .count) (omega (arith, h .exact)) (h .most) (q ∙ ap (sets out 0) (e ∙ h .bytes))
+    form-written v out after (x .count) (omega (arith, h .exact)) (h .most) (q ∙ ap (sets out 0) (e ∙ h .bytes))
 
 -- the parts of a normal term sweep to themselves, and it is the largest
 pub largest-normal : (t : Term) → Normal t → largest t ≡ size t

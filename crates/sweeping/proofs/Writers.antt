@@ -12,12 +12,12 @@ use Rattle.terms.specs.Figures.{constants}
 use Rattle.terms.specs.Term.{Term, app, lam, loc, con, var, size, shift}
 use Rattle.terms.specs.Table.{bytes, encode}
 use Rattle.terms.proofs.Substitute.{substitute-here, substitute-low, substitute-high}
-use Rattle.terms.proofs.Table.{kind, number, encode-length}
+use Rattle.terms.proofs.Table.{kind, numberOf, encode-length}
 use Rattle.records.specs.Record.{numberAt}
 use Rattle.records.specs.Parts.{Part, Whole}
 use Rattle.records.proofs.Parts.{size-some, whole, kind-at, number-at, at-start, application, abstraction, argument-part, ends-app}
 use Rattle.records.proofs.Parts.{ends-lam, ends-leaf}
-use Rattle.sweeping.specs.Writers.{replace, Fits, Source, Wrote, Substitution}
+use Rattle.sweeping.specs.Writers.{substituteFor, NumbersFit, Source, Wrote, Substitution}
 use Rattle.copying.proofs.Stores.{written-then}
 
 -- a change that follows the binders
@@ -30,10 +30,10 @@ pub record Change (g : ℕ → Term → Term) : Type 0 where
 pub shifts : (d : ℕ) → Change (shift d)
 shifts d = record { application = λ k f a. refl; abstraction = λ k b. refl; constant = λ k n. refl; variable = λ k n. refl }
 
-pub replaces : (e : Term) → Change (replace e)
+pub replaces : (e : Term) → Change (substituteFor e)
 replaces e = record { application = λ k f a. refl; abstraction = λ k b. refl; constant = λ k n. refl; variable = λ k n. refl }
 
-pub source : (g : ℕ → Term → Term) (l : List ℕ) (at k room o : ℕ) (t : Term) → Part l at t → Fits (g k t) → k + size t ≤ constants
+pub source : (g : ℕ → Term → Term) (l : List ℕ) (at k room o : ℕ) (t : Term) → Part l at t → NumbersFit (g k t) → k + size t ≤ constants
     → o + 4 * size (g k t) ≤ room → Source g l at k room o
 source g l at k room o t x f s e = record {
   tree = t;
@@ -80,7 +80,7 @@ module _ (g : ℕ → Term → Term) (change : Change g) (l : List ℕ) (at k : 
     source-head z =
         let v = application l at (x .tree) (x .part) z in
         let e : g k (x .tree) ≡ app (g k (v .f)) (g k (v .a)) = ap (g k) (v .is) ∙ change .application k (v .f) (v .a) in
-        let f : Fits (app (g k (v .f)) (g k (v .a))) = subst Fits e (x .fits) in
+        let f : NumbersFit (app (g k (v .f)) (g k (v .a))) = subst NumbersFit e (x .fits) in
         source g l (at + 4) k room (o + 4) (v .f) (v .head) (f .0) (omega (arith, ap size (v .is), x .shallow))
         (omega (arith, ap size e, x .enough))
 
@@ -88,7 +88,7 @@ module _ (g : ℕ → Term → Term) (change : Change g) (l : List ℕ) (at k : 
     source-argument out p h m z w =
         let v = application l at (x .tree) (x .part) z in
         let e : g k (x .tree) ≡ app (g k (v .f)) (g k (v .a)) = ap (g k) (v .is) ∙ change .application k (v .f) (v .a) in
-        let f : Fits (app (g k (v .f)) (g k (v .a))) = subst Fits e (x .fits) in
+        let f : NumbersFit (app (g k (v .f)) (g k (v .a))) = subst NumbersFit e (x .fits) in
         source g l h k room m (v .a) (argument-part l at h (x .tree) (w .ends) v) (f .1) (omega (arith, ap size (v .is), x .shallow))
         (omega (arith, ap size e, x .enough, w .exact (v .f) (v .head)))
 
@@ -97,11 +97,12 @@ module _ (g : ℕ → Term → Term) (change : Change g) (l : List ℕ) (at k : 
         let v = abstraction l at (x .tree) (x .part) z in
         let e : g k (x .tree) ≡ lam (g (k + 1) (v .b)) =
         ap (g k) (v .is) ∙ change .abstraction k (v .b) ∙ ap (λ (j : ℕ). lam (g j (v .b))) (sym (add-one k)) in
-        source g l (at + 4) (k + 1) room (o + 4) (v .b) (v .body) (subst Fits e (x .fits)) (omega (arith, ap size (v .is), x .shallow))
+        source g l (at + 4) (k + 1) room (o + 4) (v .b) (v .body) (subst NumbersFit e (x .fits))
+        (omega (arith, ap size (v .is), x .shallow))
         (omega (arith, ap size e, x .enough))
 
-    pub source-local : (n : ℕ) → getD l at 0 ≡ 2 → n ≡ numberAt l at → Fits (g k (loc n))
-    source-local n z e = subst (λ (t : Term). Fits (g k t)) (local-at l at n (x .tree) (x .part) z e) (x .fits)
+    pub source-local : (n : ℕ) → getD l at 0 ≡ 2 → n ≡ numberAt l at → NumbersFit (g k (loc n))
+    source-local n z e = subst (λ (t : Term). NumbersFit (g k t)) (local-at l at n (x .tree) (x .part) z e) (x .fits)
 
     pub source-enough : (n : ℕ) → getD l at 0 ≡ 2 → n ≡ numberAt l at → o + 4 * size (g k (loc n)) ≤ room
     source-enough n z e = subst (λ (t : Term). o + 4 * size (g k t) ≤ room) (local-at l at n (x .tree) (x .part) z e) (x .enough)
@@ -162,7 +163,7 @@ module _ (g : ℕ → Term → Term) (change : Change g) (l : List ℕ) (at k : 
       bytes = λ t w. is t w .1;
     }
       where
-        own : (t : Term) → Part l at t → encode t ≡ bytes (kind t) (number t) [] → p ≡ sets out o (encode t)
+        own : (t : Term) → Part l at t → encode t ≡ bytes (kind t) (numberOf t) [] → p ≡ sets out o (encode t)
         own t w f = b ∙ ap₂ (λ (i j : ℕ). sets out o (bytes i j [])) (kind-at l at t w) (e ∙ number-at l at t w) ∙ ap (sets out o) (sym f)
 
         is : (t : Term) → Part l at t → (o + 4 ≡ o + 4 * size (g k t)) × (p ≡ sets out o (encode (g k t)))
@@ -171,63 +172,64 @@ module _ (g : ℕ → Term → Term) (change : Change g) (l : List ℕ) (at k : 
             (λ m w. rw (change .variable k m) (omega arith, own (var m) w refl))
 
 -- a local that is shifted
-pub shift-fits : (n d c : ℕ) → Fits (shift d c (loc n)) → c ≤ n → n + d < constants
+pub shift-fits : (n d c : ℕ) → NumbersFit (shift d c (loc n)) → c ≤ n → n + d < constants
 shift-fits n d c f h = rw (le-ltb n c h) at f
 
-pub shift-low : (n d c : ℕ) → Fits (shift d c (loc n)) → n < c → (loc n ≡ shift d c (loc n)) × (n < constants)
-shift-low n d c f h = let e : shift d c (loc n) ≡ loc n = rw (lt-ltb n c h) in (sym e, subst Fits e f)
+pub shift-low : (n d c : ℕ) → NumbersFit (shift d c (loc n)) → n < c → (loc n ≡ shift d c (loc n)) × (n < constants)
+shift-low n d c f h = let e : shift d c (loc n) ≡ loc n = rw (lt-ltb n c h) in (sym e, subst NumbersFit e f)
 
-pub shift-high : (n d c : ℕ) → Fits (shift d c (loc n)) → c ≤ n → (loc (n + d) ≡ shift d c (loc n)) × (n + d < constants)
-shift-high n d c f h = let e : shift d c (loc n) ≡ loc (n + d) = rw (le-ltb n c h) in (sym e, subst Fits e f)
+pub shift-high : (n d c : ℕ) → NumbersFit (shift d c (loc n)) → c ≤ n → (loc (n + d) ≡ shift d c (loc n)) × (n + d < constants)
+shift-high n d c f h = let e : shift d c (loc n) ≡ loc (n + d) = rw (le-ltb n c h) in (sym e, subst NumbersFit e f)
 
 -- a substitution's parts
 module _ (b : List ℕ) (at k : ℕ) (e out : List ℕ) (o : ℕ) (x : Substitution b at k e out o) where
   module _ (p : List ℕ) (n : length p ≡ length out) where
-    from : (j i m : ℕ) → Source (replace (x .argument)) b j i (length out) m → Substitution b j i e p m
+    from : (j i m : ℕ) → Source (substituteFor (x .argument)) b j i (length out) m → Substitution b j i e p m
     from j i m s = record {
       argument = x .argument;
       table = x .table;
       few = x .few;
-      source = source-in (replace (x .argument)) b j i (length out) (length p) m n s;
+      source = source-in (substituteFor (x .argument)) b j i (length out) (length p) m n s;
     }
 
     pub substitution-head : getD b at 0 ≡ 0 → Substitution b (at + 4) k e p (o + 4)
     substitution-head z =
-        from (at + 4) k (o + 4) (source-head (replace (x .argument)) (replaces (x .argument)) b at k (length out) o (x .source) z)
+        from (at + 4) k (o + 4) (source-head (substituteFor (x .argument)) (replaces (x .argument)) b at k (length out) o (x .source) z)
 
     pub substitution-body : getD b at 0 ≡ 1 → Substitution b (at + 4) (k + 1) e p (o + 4)
     substitution-body z =
-        from (at + 4) (k + 1) (o + 4) (source-body (replace (x .argument)) (replaces (x .argument)) b at k (length out) o (x .source) z)
+        from (at + 4) (k + 1) (o + 4)
+        (source-body (substituteFor (x .argument)) (replaces (x .argument)) b at k (length out) o (x .source) z)
 
     pub substitution-argument : (q r : List ℕ) (h m : ℕ) → getD b at 0 ≡ 0
-        → ((t : Term) → e ≡ encode t → Wrote (replace t) b (at + 4) k q (o + 4) r h m) → Substitution b h k e p m
+        → ((t : Term) → e ≡ encode t → Wrote (substituteFor t) b (at + 4) k q (o + 4) r h m) → Substitution b h k e p m
     substitution-argument q r h m z w =
-        from h k m (source-argument (replace (x .argument)) (replaces (x .argument)) b at k (length out) o (x .source) q r h m z
+        from h k m (source-argument (substituteFor (x .argument)) (replaces (x .argument)) b at k (length out) o (x .source) q r h m z
         (w (x .argument) (x .table)))
 
   -- the term to be put for local k, shifted by the k binders crossed
   pub substitution-copy : (n : ℕ) → getD b at 0 ≡ 2 → n ≡ numberAt b at → n ≡ k → Source (shift k) e 0 0 (length out) o
   substitution-copy n z i h =
-      let g = replace (x .argument) in
+      let g = substituteFor (x .argument) in
       let q : g k (loc n) ≡ shift k 0 (x .argument) = substitute-here k (x .argument) n h in
       source (shift k) e 0 0 (length out) o (x .argument) (at-start e (x .argument) (x .table))
-      (subst Fits q (source-local g (replaces (x .argument)) b at k (length out) o (x .source) n z i))
+      (subst NumbersFit q (source-local g (replaces (x .argument)) b at k (length out) o (x .source) n z i))
       (omega (arith, x .few))
       (subst (λ (t : Term). o + 4 * size t ≤ length out) q
       (source-enough g (replaces (x .argument)) b at k (length out) o (x .source) n z i))
 
   pub substitution-whole : Whole b at
-  substitution-whole = source-whole (replace (x .argument)) (replaces (x .argument)) b at k (length out) o (x .source)
+  substitution-whole = source-whole (substituteFor (x .argument)) (replaces (x .argument)) b at k (length out) o (x .source)
 
   pub wrote-copy : (p : List ℕ) (n next end : ℕ) → getD b at 0 ≡ 2 → n ≡ numberAt b at → n ≡ k → Wrote (shift k) e 0 0 out o p next end
-      → (t : Term) → e ≡ encode t → Wrote (replace t) b at k out o p (at + 4) end
+      → (t : Term) → e ≡ encode t → Wrote (substituteFor t) b at k out o p (at + 4) end
   wrote-copy p n next end z i h w t f =
       let s = at-start e t f in
-      wrote-local (replace t) (replaces t) b at k out o p n end (shift k 0 t) substitution-whole z i (sym (substitute-here k t n h))
+      wrote-local (substituteFor t) (replaces t) b at k out o p n end (shift k 0 t) substitution-whole z i (sym (substitute-here k t n h))
       (w .bytes t s) (w .exact t s)
 
-pub lowered-low : (n k : ℕ) → n < k → (e : Term) → loc n ≡ replace e k (loc n)
+pub lowered-low : (n k : ℕ) → n < k → (e : Term) → loc n ≡ substituteFor e k (loc n)
 lowered-low n k h e = sym (substitute-low n k e h)
 
-pub lowered-high : (n k : ℕ) → ¬ (n ≡ k) → k ≤ n → (e : Term) → loc (n - 1) ≡ replace e k (loc n)
+pub lowered-high : (n k : ℕ) → ¬ (n ≡ k) → k ≤ n → (e : Term) → loc (n - 1) ≡ substituteFor e k (loc n)
 lowered-high n k m h e = sym (substitute-high n k e (omega arith))

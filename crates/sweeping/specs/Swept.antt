@@ -1,17 +1,18 @@
 -- What the sweep of a filled pattern needs, and what it leaves. Its limit is exact: too long is said if some part's swept form is above
 -- 256 records, and at no other time.
---   sweptBytes                the bytes of a swept form of 256 records
---   sweepRecords              the most records of a table that is swept
---   Written t out r after     the table of t was written into out from byte 0 on; or t is too long, and out is as it was
---   Swept t out r after       the same of t's swept form, and the limit holds of all parts of t; or it doesn't, and out is as it was
---   Applied f a               swept forms of a head and an argument, as tables
---   Applies f a out r after   what contracting their application leaves
---   Abstracted b              the swept form of a body, as a table
---   Abstracts b out r after   what contracting the abstraction over it leaves
---   Assigned s a i            the entries a, with the value table s, give variable i a value
---   Ready l s a               a part of a pattern, as a table, with values for its variables
---   Fillable l s a            a pattern, as a table, with values for its variables
---   Sweeps l s a out r after  what sweeping either leaves
+--   sweptBytes                             the bytes of a swept form of 256 records
+--   sweepRecords                           the most records of a table that is swept
+--   WrittenForm t out r after              the table of t was written into out from byte 0 on; or t is too long, and out is as it was
+--   FormSwept t out r after                the same of t's swept form, and the limit holds of all parts of t; or it doesn't, and out is as
+--                                          it was
+--   SweptParts f a                         swept forms of a head and an argument, as tables
+--   ContractsApplication f a out r after   what contracting their application leaves
+--   SweptBody b                            the swept form of a body, as a table
+--   ContractsAbstraction b out r after     what contracting the abstraction over it leaves
+--   HasValue s a i                         the entries a, with the value table s, give variable i a value
+--   Sweepable l s a                        a part of a pattern, as a table, with values for its variables
+--   Fillable l s a                         a pattern, as a table, with values for its variables
+--   WritesSwept l s a out r after          what sweeping either leaves
 use mathlib.Core.Path.{_≡_}
 use mathlib.Core.List.{List}
 use Prim.Native.Nat.{ℕ, _+_, _*_, _≤_, _<_}
@@ -33,16 +34,16 @@ sweptBytes = 4 * sweptRecords
 abbrev pub sweepRecords : ℕ
 sweepRecords = 384
 
-unfoldable pub Written : Term → List ℕ → Length → List ℕ → Type 0
-Written t out (Records n) after = (n ≡ size t) × (n ≤ sweptRecords) × (after ≡ sets out 0 (encode t))
-Written t out TooLong after = (sweptRecords < size t) × (after ≡ out)
+unfoldable pub WrittenForm : Term → List ℕ → Length → List ℕ → Type 0
+WrittenForm t out (Records n) after = (n ≡ size t) × (n ≤ sweptRecords) × (after ≡ sets out 0 (encode t))
+WrittenForm t out TooLong after = (sweptRecords < size t) × (after ≡ out)
 
 -- cause 12: "The swept form of some part of the filled pattern is above 256 records"
-unfoldable pub Swept : Term → List ℕ → Length → List ℕ → Type 0
-Swept t out (Records n) after = (largest t ≤ sweptRecords) × Written (sweep t) out (Records n) after
-Swept t out TooLong after = (sweptRecords < largest t) × (after ≡ out)
+unfoldable pub FormSwept : Term → List ℕ → Length → List ℕ → Type 0
+FormSwept t out (Records n) after = (largest t ≤ sweptRecords) × WrittenForm (sweep t) out (Records n) after
+FormSwept t out TooLong after = (sweptRecords < largest t) × (after ≡ out)
 
-pub record Applied (f a : List ℕ) : Type 0 where
+pub record SweptParts (f a : List ℕ) : Type 0 where
   pub head : Term
   pub argument : Term
   pub head-bytes : f ≡ encode head
@@ -55,10 +56,10 @@ pub record Applied (f a : List ℕ) : Type 0 where
   pub shallow : depth + sweptRecords ≤ numbers
   pub closed : Closed depth (contract (app head argument))
 
-abbrev pub Applies : List ℕ → List ℕ → List ℕ → Length → List ℕ → Type 0
-Applies f a out r after = (x y : Term) → f ≡ encode x → a ≡ encode y → Written (contract (app x y)) out r after
+abbrev pub ContractsApplication : List ℕ → List ℕ → List ℕ → Length → List ℕ → Type 0
+ContractsApplication f a out r after = (x y : Term) → f ≡ encode x → a ≡ encode y → WrittenForm (contract (app x y)) out r after
 
-pub record Abstracted (b : List ℕ) : Type 0 where
+pub record SweptBody (b : List ℕ) : Type 0 where
   pub body : Term
   pub bytes : b ≡ encode body
   pub least : 4 ≤ length b
@@ -67,14 +68,14 @@ pub record Abstracted (b : List ℕ) : Type 0 where
   pub shallow : depth + sweptRecords ≤ numbers
   pub closed : Closed depth (contract (lam body))
 
-abbrev pub Abstracts : List ℕ → List ℕ → Length → List ℕ → Type 0
-Abstracts b out r after = (t : Term) → b ≡ encode t → Written (contract (lam t)) out r after
+abbrev pub ContractsAbstraction : List ℕ → List ℕ → Length → List ℕ → Type 0
+ContractsAbstraction b out r after = (t : Term) → b ≡ encode t → WrittenForm (contract (lam t)) out r after
 
-pub record Assigned (s : List ℕ) (a : List Entry) (i : ℕ) : Type 0 where
+pub record HasValue (s : List ℕ) (a : List Entry) (i : ℕ) : Type 0 where
   pub value : Term
   pub given : Given s a i value
 
-pub record Ready (l s : List ℕ) (a : List Entry) : Type 0 where
+pub record Sweepable (l s : List ℕ) (a : List Entry) : Type 0 where
   pub tree : Term
   pub bytes : l ≡ encode tree
   pub least : 4 ≤ length l
@@ -91,5 +92,5 @@ pub record Fillable (l s : List ℕ) (a : List Entry) : Type 0 where
   pub φ : ℕ → Term
   pub gives : Gives s a φ tree
 
-abbrev pub Sweeps : List ℕ → List ℕ → List Entry → List ℕ → Length → List ℕ → Type 0
-Sweeps l s a out r after = (t : Term) (φ : ℕ → Term) → l ≡ encode t → Gives s a φ t → Swept (fill φ t) out r after
+abbrev pub WritesSwept : List ℕ → List ℕ → List Entry → List ℕ → Length → List ℕ → Type 0
+WritesSwept l s a out r after = (t : Term) (φ : ℕ → Term) → l ≡ encode t → Gives s a φ t → FormSwept (fill φ t) out r after

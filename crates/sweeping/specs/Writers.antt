@@ -1,14 +1,14 @@
 -- What the functions that write a changed term need, and what they leave. A change g follows the binders: g k t is t changed below k of
--- them. The changes are `shift d` and `replace e`.
---   replace e k t                         e put for local k of t
+-- them. The changes are `shift d` and `substituteFor e`.
+--   substituteFor e k t                   e put for local k of t
 --   count k t                             how often t uses local k
---   Fits t                                each local of t has a number that a record holds
---   Source g l at k room o                a term t stands in l from byte `at` on, and g k t can be written from byte o on,
---                                         before byte `room`
+--   NumbersFit t                          each local of t has a number that a record holds
+--   Source g l at k room o                a term t stands in l from byte `at` on, and g k t can be written from byte o on, before byte
+--                                         `room`
 --   Single l at                           the part of l at byte `at` is one record: it is neither application nor abstraction
 --   Wrote g l at k out o after next end   g k t was written into out from byte o on, for the term t that stands in l from byte `at` on
---   Substitution b at k e out o           what writing `replace e` needs, e given by its table
---   Used l at k next n                    the term that stands in l from byte `at` on uses local k n times
+--   Substitution b at k e out o           what writing `substituteFor e` needs, e given by its table
+--   UsesCounted l at k next n             the term that stands in l from byte `at` on uses local k n times
 use mathlib.Core.Path.{_≡_}
 use mathlib.Core.Bool.{cond}
 use mathlib.Core.List.{List}
@@ -21,8 +21,8 @@ use Rattle.terms.specs.Term.{Term, app, lam, loc, con, var, size, substitute}
 use Rattle.terms.specs.Table.{encode}
 use Rattle.records.specs.Parts.{Part, Ends}
 
-abbrev pub replace : Term → ℕ → Term → Term
-replace e k t = substitute k e t
+abbrev pub substituteFor : Term → ℕ → Term → Term
+substituteFor e k t = substitute k e t
 
 abbrev pub count : ℕ → Term → ℕ
 count k (app f a) = count k f + count k a
@@ -32,17 +32,17 @@ count k (con n) = 0
 count k (var n) = 0
 
 -- the numbers of numbers and variables fit where they are copied from a record
-abbrev pub Fits : Term → Type 0
-Fits (app f a) = Fits f × Fits a
-Fits (lam b) = Fits b
-Fits (loc n) = n < numbers
-Fits (con n) = Unit {0}
-Fits (var n) = Unit {0}
+abbrev pub NumbersFit : Term → Type 0
+NumbersFit (app f a) = NumbersFit f × NumbersFit a
+NumbersFit (lam b) = NumbersFit b
+NumbersFit (loc n) = n < numbers
+NumbersFit (con n) = Unit {0}
+NumbersFit (var n) = Unit {0}
 
 pub record Source (g : ℕ → Term → Term) (l : List ℕ) (at k room o : ℕ) : Type 0 where
   pub tree : Term
   pub part : Part l at tree
-  pub fits : Fits (g k tree)
+  pub fits : NumbersFit (g k tree)
   pub shallow : k + size tree ≤ numbers
   pub enough : o + 4 * size (g k tree) ≤ room
   pub least : at + 4 ≤ length l
@@ -61,9 +61,9 @@ pub record Substitution (b : List ℕ) (at k : ℕ) (e out : List ℕ) (o : ℕ)
   pub argument : Term
   pub table : e ≡ encode argument
   pub few : size argument ≤ numbers
-  pub source : Source (replace argument) b at k (length out) o
+  pub source : Source (substituteFor argument) b at k (length out) o
 
-pub record Used (l : List ℕ) (at k next n : ℕ) : Type 0 where
+pub record UsesCounted (l : List ℕ) (at k next n : ℕ) : Type 0 where
   pub ends : Ends l at next
   pub few : at + 4 * n ≤ next
   pub exact : (t : Term) → Part l at t → n ≡ count k t

@@ -19,8 +19,9 @@ ghost use Rattle.terms.specs.Table.{encode};
 ghost use Rattle.terms.specs.Sweep.{headOf};
 ghost use Rattle.records.specs.Parts.{Whole};
 ghost use Rattle.assignments.specs.Entries.{Given};
-ghost use Rattle.sweeping.specs.Writers.{replace, Fits, Source, Single, Wrote, Substitution, Used};
-ghost use Rattle.sweeping.specs.Swept.{Written, Applied, Applies, Abstracted, Abstracts, Assigned, Ready, Fillable, Sweeps};
+ghost use Rattle.sweeping.specs.Writers.{substituteFor, NumbersFit, Source, Single, Wrote, Substitution, UsesCounted};
+ghost use Rattle.sweeping.specs.Swept.{WrittenForm, SweptParts, ContractsApplication, SweptBody, ContractsAbstraction, HasValue};
+ghost use Rattle.sweeping.specs.Swept.{Sweepable, Fillable, WritesSwept};
 
 // The bytes of a swept form of 256 records, the longest that is written.
 pub const SWEPT_BYTES: usize = 1024;
@@ -45,7 +46,7 @@ pub struct Uses {
 
 // The number of local n, shifted by d from local c on.
 fn shifted(n: usize, d: usize, c: usize) -> usize
-    requires { ⌜ Fits (shift d c (loc n)) ⌝ }
+    requires { ⌜ NumbersFit (shift d c (loc n)) ⌝ }
     ensures { λ r. ⌜ (loc r ≡ shift d c (loc n)) × (r < numbers) ⌝ }
 {
     if n < c {
@@ -96,7 +97,7 @@ pub fn shift_into(s: &[u8], at: usize, d: usize, c: usize, out: &mut [u8], o: us
 // The number of local n, which is not k, where a term was put for local k.
 fn lowered(n: usize, k: usize) -> usize
     requires { ⌜ (n ≡ k → ⊥) × (n < numbers) ⌝ }
-    ensures { λ r. ⌜ ((e : Term) → loc r ≡ replace e k (loc n)) × (r < numbers) ⌝ }
+    ensures { λ r. ⌜ ((e : Term) → loc r ≡ substituteFor e k (loc n)) × (r < numbers) ⌝ }
 {
     if n < k {
         return n;
@@ -109,7 +110,7 @@ fn lowered(n: usize, k: usize) -> usize
 pub fn substitute_into(b: &[u8], at: usize, k: usize, e: &[u8], out: &mut [u8], o: usize) -> Place
     requires { ⌜ Substitution (now b) at k (now e) (now out) o ⌝ }
     ensures { λ r. ⌜ ((x : Term) → now (e .entry) ≡ encode x
-        → Wrote (replace x) (now (b .entry)) at k (now (out .entry)) o (now (out .exit)) (r .next) (r .end)) ⌝ }
+        → Wrote (substituteFor x) (now (b .entry)) at k (now (out .entry)) o (now (out .exit)) (r .next) (r .end)) ⌝ }
 {
     let kind = b[at];
     if kind == Kind::APPLICATION.code {
@@ -146,7 +147,7 @@ pub fn substitute_into(b: &[u8], at: usize, k: usize, e: &[u8], out: &mut [u8], 
 // How often the part of b at byte `at` uses local k.
 pub fn count_uses(b: &[u8], at: usize, k: usize) -> Uses
     requires { ⌜ Whole (now b) at × (k + length (now b) ≤ at + numbers) ⌝ }
-    ensures { λ r. ⌜ Used (now (b .entry)) at k (r .next) (r .count) ⌝ }
+    ensures { λ r. ⌜ UsesCounted (now (b .entry)) at k (r .next) (r .count) ⌝ }
 {
     let kind = b[at];
     if kind == Kind::APPLICATION.code {
@@ -180,8 +181,8 @@ pub fn count_uses(b: &[u8], at: usize, k: usize) -> Uses
 
 // Contracts the application of f to a, both swept, where f is an abstraction.
 fn contract_redex(f: &[u8], a: &[u8], out: &mut [u8; SWEPT_BYTES]) -> Length
-    requires { ⌜ Applied (now f) (now a) × (getD (now f) 0 0 ≡ 1) ⌝ }
-    ensures { λ r. ⌜ Applies (now (f .entry)) (now (a .entry)) (now (out .entry)) r (now (out .exit)) ⌝ }
+    requires { ⌜ SweptParts (now f) (now a) × (getD (now f) 0 0 ≡ 1) ⌝ }
+    ensures { λ r. ⌜ ContractsApplication (now (f .entry)) (now (a .entry)) (now (out .entry)) r (now (out .exit)) ⌝ }
 {
     let uses = count_uses(f, RECORD, 0);
     // each use is one record of the body, and all of the argument's records take its place
@@ -195,8 +196,8 @@ fn contract_redex(f: &[u8], a: &[u8], out: &mut [u8; SWEPT_BYTES]) -> Length
 
 // Contracts the application of f to a, both swept.
 pub fn contract_application(f: &[u8], a: &[u8], out: &mut [u8; SWEPT_BYTES]) -> Length
-    requires { ⌜ Applied (now f) (now a) ⌝ }
-    ensures { λ r. ⌜ Applies (now (f .entry)) (now (a .entry)) (now (out .entry)) r (now (out .exit)) ⌝ }
+    requires { ⌜ SweptParts (now f) (now a) ⌝ }
+    ensures { λ r. ⌜ ContractsApplication (now (f .entry)) (now (a .entry)) (now (out .entry)) r (now (out .exit)) ⌝ }
 {
     if f[0] == Kind::ABSTRACTION.code {
         return contract_redex(f, a, out);
@@ -213,7 +214,7 @@ pub fn contract_application(f: &[u8], a: &[u8], out: &mut [u8; SWEPT_BYTES]) -> 
 
 // Whether the abstraction over b contracts: b is `M #0`, and M doesn't use that local and isn't itself an abstraction.
 fn contracts(b: &[u8]) -> bool
-    requires { ⌜ Abstracted (now b) ⌝ }
+    requires { ⌜ SweptBody (now b) ⌝ }
     ensures { λ r. ⌜ ((t : Term) → now (b .entry) ≡ encode t → r ≡ (isEta t && not (isAbstraction (headOf t)))) ⌝ }
 {
     if b[0] != Kind::APPLICATION.code {
@@ -235,8 +236,8 @@ fn contracts(b: &[u8]) -> bool
 
 // Contracts the abstraction over b, which is swept.
 pub fn contract_abstraction(b: &[u8], out: &mut [u8; SWEPT_BYTES]) -> Length
-    requires { ⌜ Abstracted (now b) ⌝ }
-    ensures { λ r. ⌜ Abstracts (now (b .entry)) (now (out .entry)) r (now (out .exit)) ⌝ }
+    requires { ⌜ SweptBody (now b) ⌝ }
+    ensures { λ r. ⌜ ContractsAbstraction (now (b .entry)) (now (out .entry)) r (now (out .exit)) ⌝ }
 {
     if contracts(b) {
         // M doesn't use the local, so nothing is put for it, whatever is given here: M moves out
@@ -256,15 +257,15 @@ pub fn contract_abstraction(b: &[u8], out: &mut [u8; SWEPT_BYTES]) -> Length
 fn write_value(
     i: usize,
     values: &[u8],
-    a: [Entry; VARIABLES],
+    entries: [Entry; VARIABLES],
     out: &mut [u8; SWEPT_BYTES],
 ) -> Length
-    requires { ⌜ Assigned (now values) a i ⌝ }
-    ensures { λ r. ⌜ ((v : Term) → Given (now (values .entry)) a i v → Written v (now (out .entry)) r (now (out .exit))) ⌝ }
+    requires { ⌜ HasValue (now values) entries i ⌝ }
+    ensures { λ r. ⌜ ((v : Term) → Given (now (values .entry)) entries i v → WrittenForm v (now (out .entry)) r (now (out .exit))) ⌝ }
 {
-    let e = a[i];
+    let e = entries[i];
     match e {
-        // never so: a variable that occurs is assigned
+        // never so: entries variable that occurs is assigned
         Entry::Open => Length::TooLong,
         Entry::Assigned(span) => {
             copying::copy_into(assignments::value_of(values, span), out, 0);
@@ -277,19 +278,19 @@ fn write_value(
 fn sweep_application(
     s: &[u8],
     values: &[u8],
-    a: [Entry; VARIABLES],
+    entries: [Entry; VARIABLES],
     out: &mut [u8; SWEPT_BYTES],
 ) -> Length
-    requires { ⌜ Ready (now s) (now values) a × (getD (now s) 0 0 ≡ 0) ⌝ }
-    ensures { λ r. ⌜ Sweeps (now (s .entry)) (now (values .entry)) a (now (out .entry)) r (now (out .exit)) ⌝ }
+    requires { ⌜ Sweepable (now s) (now values) entries × (getD (now s) 0 0 ≡ 0) ⌝ }
+    ensures { λ r. ⌜ WritesSwept (now (s .entry)) (now (values .entry)) entries (now (out .entry)) r (now (out .exit)) ⌝ }
 {
     let mut head = [0u8; SWEPT_BYTES];
-    let first = sweep_part(records::head_of(s), values, a, &mut head);
+    let first = sweep_part(records::head_of(s), values, entries, &mut head);
     let Length::Records(n) = first else {
         return Length::TooLong;
     };
     let mut argument = [0u8; SWEPT_BYTES];
-    let second = sweep_part(records::argument_of(s), values, a, &mut argument);
+    let second = sweep_part(records::argument_of(s), values, entries, &mut argument);
     let Length::Records(m) = second else {
         return Length::TooLong;
     };
@@ -302,14 +303,14 @@ fn sweep_application(
 fn sweep_abstraction(
     s: &[u8],
     values: &[u8],
-    a: [Entry; VARIABLES],
+    entries: [Entry; VARIABLES],
     out: &mut [u8; SWEPT_BYTES],
 ) -> Length
-    requires { ⌜ Ready (now s) (now values) a × (getD (now s) 0 0 ≡ 1) ⌝ }
-    ensures { λ r. ⌜ Sweeps (now (s .entry)) (now (values .entry)) a (now (out .entry)) r (now (out .exit)) ⌝ }
+    requires { ⌜ Sweepable (now s) (now values) entries × (getD (now s) 0 0 ≡ 1) ⌝ }
+    ensures { λ r. ⌜ WritesSwept (now (s .entry)) (now (values .entry)) entries (now (out .entry)) r (now (out .exit)) ⌝ }
 {
     let mut body = [0u8; SWEPT_BYTES];
-    let swept = sweep_part(records::body_of(s), values, a, &mut body);
+    let swept = sweep_part(records::body_of(s), values, entries, &mut body);
     let Length::Records(n) = swept else {
         return Length::TooLong;
     };
@@ -318,28 +319,38 @@ fn sweep_abstraction(
 }
 
 // Sweeps a part of the pattern by its kind. Constants and locals sweep to themselves.
-fn sweep_part(s: &[u8], values: &[u8], a: [Entry; VARIABLES], out: &mut [u8; SWEPT_BYTES]) -> Length
-    requires { ⌜ Ready (now s) (now values) a ⌝ }
-    ensures { λ r. ⌜ Sweeps (now (s .entry)) (now (values .entry)) a (now (out .entry)) r (now (out .exit)) ⌝ }
+fn sweep_part(
+    s: &[u8],
+    values: &[u8],
+    entries: [Entry; VARIABLES],
+    out: &mut [u8; SWEPT_BYTES],
+) -> Length
+    requires { ⌜ Sweepable (now s) (now values) entries ⌝ }
+    ensures { λ r. ⌜ WritesSwept (now (s .entry)) (now (values .entry)) entries (now (out .entry)) r (now (out .exit)) ⌝ }
 {
     let kind = s[0];
     if kind == Kind::APPLICATION.code {
-        return sweep_application(s, values, a, out);
+        return sweep_application(s, values, entries, out);
     }
     if kind == Kind::ABSTRACTION.code {
-        return sweep_abstraction(s, values, a, out);
+        return sweep_abstraction(s, values, entries, out);
     }
     if kind == Kind::VARIABLE.code {
-        return write_value(records::number_at(s, 0), values, a, out);
+        return write_value(records::number_at(s, 0), values, entries, out);
     }
     copying::copy_into(s, out, 0);
     Length::Records(1)
 }
 
 // Writes the swept form of the pattern s, filled with the values that a has in the value table, into out from byte 0 on.
-pub fn sweep(s: &[u8], values: &[u8], a: [Entry; VARIABLES], out: &mut [u8; SWEPT_BYTES]) -> Length
-    requires { ⌜ Fillable (now s) (now values) a ⌝ }
-    ensures { λ r. ⌜ Sweeps (now (s .entry)) (now (values .entry)) a (now (out .entry)) r (now (out .exit)) ⌝ }
+pub fn sweep(
+    s: &[u8],
+    values: &[u8],
+    entries: [Entry; VARIABLES],
+    out: &mut [u8; SWEPT_BYTES],
+) -> Length
+    requires { ⌜ Fillable (now s) (now values) entries ⌝ }
+    ensures { λ r. ⌜ WritesSwept (now (s .entry)) (now (values .entry)) entries (now (out .entry)) r (now (out .exit)) ⌝ }
 {
-    sweep_part(s, values, a, out)
+    sweep_part(s, values, entries, out)
 }

@@ -1,13 +1,13 @@
 -- What the swept form of a filled pattern can be: no abstraction where the pattern's spine has a rigid head, and no loose local that the
 -- pattern doesn't use. By induction on the pattern, a value being closed. Assumes nothing.
---   rigid p    the first record of p that is no application is a local or a constant
 use mathlib.Core.Path.{_≡_, refl, sym, ap, _∙_, subst}
-use mathlib.Core.Bool.{Bool, true, false}
+use mathlib.Core.Bool.{true, false}
 use Prim.Native.Nat.{ℕ, suc, _≤_, _<_}
 use native.Mathlib.Omega.{arith}
 use native.Mathlib.Decide.{decLt}
 use lib.Dec.{T}
 use borrow.Author.Tests.{ne-eqb, eqb-false}
+use Rattle.terms.specs.Heads.{rigid}
 use Rattle.terms.specs.Term.{Term, app, lam, loc, con, var, Closed, Value, uses, unshift, isAbstraction}
 use Rattle.terms.specs.Sweep.{sweep, contract, fill}
 use Rattle.terms.proofs.Tests.{or-false}
@@ -15,14 +15,6 @@ use Rattle.terms.proofs.Shift.{shift-unshift, uses-above}
 use Rattle.terms.proofs.Substitute.{unused-substitute}
 use Rattle.terms.proofs.Sweep.{sweep-normal}
 use Rattle.terms.proofs.Contracted.{Abstracted, Abstracted.out, Abstracted.kept, abstracted}
-
--- rigid heads
-abbrev pub rigid : Term → Bool
-rigid (app f a) = rigid f
-rigid (lam b) = false
-rigid (loc n) = true
-rigid (con n) = true
-rigid (var n) = false
 
 rigid-app : (f a : Term) → isAbstraction f ≡ false → isAbstraction (contract (app f a)) ≡ false
 rigid-app (app f b) a h = refl

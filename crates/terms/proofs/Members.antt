@@ -3,13 +3,9 @@ use mathlib.Core.Path.{_≡_, refl}
 use mathlib.Core.Logic.{_⊎_, inl, inr, ⊎-elim}
 use mathlib.Core.List.{List, [], _∷_, _++_}
 use Rattle.terms.specs.Listing.{In}
+use Rattle.terms.specs.Members.{Distinct}
 
 module _ {A : Type 0} where
-  -- no member stands twice
-  abbrev pub Distinct : List A → Type 0
-  Distinct [] = Unit {0}
-  Distinct (x ∷ l) = ¬ In x l × Distinct l
-
   pub in-left : (x : A) (l m : List A) → In x l → In x (l ++ m)
   in-left x (y ∷ l) m (inl p) = inl p
   in-left x (y ∷ l) m (inr p) = inr (in-left x l m p)

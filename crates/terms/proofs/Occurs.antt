@@ -37,12 +37,12 @@ module _ {A : Type 0} {P : Term → Type 0} (f : A → (v : Term) × P v) where
   chosen-each Q z g (no a) = z
 
 -- a value for each variable that occurs, and `k0` for the others
-pub record Chosen (P : ℕ → Term → Type 0) (p : Term) : Type 1 where
+pub record ChosenValues (P : ℕ → Term → Type 0) (p : Term) : Type 1 where
   pub φ : ℕ → Term
   pub holds : (i : ℕ) → Occurs i p → P i (φ i)
   pub each : (Q : Term → Type 0) → Q (con 0) → ((i : ℕ) (v : Term) → P i v → Q v) → (i : ℕ) → Q (φ i)
 
-pub chosen-values : (P : ℕ → Term → Type 0) (p : Term) → ((i : ℕ) → Occurs i p → (v : Term) × P i v) → Chosen P p
+pub chosen-values : (P : ℕ → Term → Type 0) (p : Term) → ((i : ℕ) → Occurs i p → (v : Term) × P i v) → ChosenValues P p
 chosen-values P p f = record {
   φ = λ i. chosen (f i) (occurs? i p);
   holds = λ i o. chosen-holds (f i) (occurs? i p) o;

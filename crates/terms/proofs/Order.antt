@@ -11,7 +11,7 @@ use lib.Dec.{lit<}
 use lib.ListN.{length, getD, drop}
 use Rattle.terms.specs.Term.{Term}
 use Rattle.terms.specs.Listing.{In, Line, Lexicographic, rank, Before, Less, Rising}
-use Rattle.terms.proofs.Members.{Distinct}
+use Rattle.terms.specs.Members.{Distinct}
 use Rattle.terms.proofs.Table.{records-inj}
 
 pub data Compared {A : Type 0} (R : A → A → Type 0) (x y : A) : Type 0 where

@@ -24,12 +24,12 @@ kind (con n) = 3
 kind (var n) = 4
 
 -- its number
-abbrev pub number : Term → ℕ
-number (app f a) = 0
-number (lam b) = 0
-number (loc n) = n
-number (con n) = n
-number (var n) = n
+abbrev pub numberOf : Term → ℕ
+numberOf (app f a) = 0
+numberOf (lam b) = 0
+numberOf (loc n) = n
+numberOf (con n) = n
+numberOf (var n) = n
 
 -- a way of writing records that loses nothing
 pub record Lossless (w : ℕ → ℕ → List ℕ → List ℕ) : Type 0 where
@@ -45,7 +45,7 @@ module _ (w : ℕ → ℕ → List ℕ → List ℕ) (lossless : Lossless w) whe
   behind (con n) = []
   behind (var n) = []
 
-  first : (t : Term) (r : List ℕ) → preorder w t ++ r ≡ w (kind t) (number t) (behind t ++ r)
+  first : (t : Term) (r : List ℕ) → preorder w t ++ r ≡ w (kind t) (numberOf t) (behind t ++ r)
   first (app f a) r = lossless .more 0 0 (behind (app f a)) r
   first (lam b) r = lossless .more 1 0 (behind (lam b)) r
   first (loc n) r = lossless .more 2 n [] r
@@ -53,8 +53,9 @@ module _ (w : ℕ → ℕ → List ℕ → List ℕ) (lossless : Lossless w) whe
   first (var n) r = lossless .more 4 n [] r
 
   next : (s t : Term) (r q : List ℕ) → preorder w s ++ r ≡ preorder w t ++ q
-      → (kind s ≡ kind t) × (number s ≡ number t) × (behind s ++ r ≡ behind t ++ q)
-  next s t r q p = lossless .inj (kind s) (kind t) (number s) (number t) (behind s ++ r) (behind t ++ q) (sym (first s r) ∙ p ∙ first t q)
+      → (kind s ≡ kind t) × (numberOf s ≡ numberOf t) × (behind s ++ r ≡ behind t ++ q)
+  next s t r q p = lossless .inj (kind s) (kind t) (numberOf s) (numberOf t) (behind s ++ r) (behind t ++ q) (sym (first s r) ∙ p
+      ∙ first t q)
 
   -- a term is known from its records, whatever follows them
   preorder-inj : (s t : Term) (r q : List ℕ) → preorder w s ++ r ≡ preorder w t ++ q → (s ≡ t) × (r ≡ q)

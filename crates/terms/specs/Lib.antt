@@ -6,3 +6,5 @@ pub mod Assignment
 pub mod Listing
 pub mod Layout
 pub mod Refusal
+pub mod Heads
+pub mod Members

@@ -9,8 +9,8 @@ use Rattle.alternatives.proofs.constant_head.Tie as tie
 returns : tie.Need-returns
 returns c = search (needs, constant-lacking)
 
-item-at-requires : tie.Need-item-at-requires
-item-at-requires c κs = search needs
+goal-at-requires : tie.Need-goal-at-requires
+goal-at-requires c κs = search needs
 
 slice-aggregate-shift-into : tie.Need-slice-aggregate-shift-into
 slice-aggregate-shift-into c = search needs
@@ -18,11 +18,11 @@ slice-aggregate-shift-into c = search needs
 shift-into-requires : tie.Need-shift-into-requires
 shift-into-requires c κs = search (needs, raises)
 
-add-match-item : tie.Need-add-match-item
-add-match-item c = search needs
+add-match-goal : tie.Need-add-match-goal
+add-match-goal c = search needs
 
-match-item-requires : tie.Need-match-item-requires
-match-item-requires c κs = search needs
+match-goal-requires : tie.Need-match-goal-requires
+match-goal-requires c κs = search needs
 
 sub-push-abstraction : tie.Need-sub-push-abstraction
 sub-push-abstraction c = search needs
@@ -33,23 +33,23 @@ part-push-abstraction-start c = search needs
 part-push-abstraction-end : tie.Need-part-push-abstraction-end
 part-push-abstraction-end c =
     let shift-into : tie.After-shift-into = search in
-    let item-at : tie.After-item-at = search in
+    let goal-at : tie.After-goal-at = search in
     let start : tie.Start = search in
     omega (
       arith,
-      raised-within _ _ _ _ (start .pre .0) _ (item-at .item-at .ensures .0) _ _ _ _ (omega arith)
+      raised-within _ _ _ _ (start .pre .0) _ (goal-at .goal-at .ensures .0) _ _ _ _ (omega arith)
           (shift-into .shift-into .ensures),
     )
 
 push-abstraction-requires : tie.Need-push-abstraction-requires
 push-abstraction-requires c κs =
-    let match-item : tie.After-match-item = search in
+    let match-goal : tie.After-match-goal = search in
     let shift-into : tie.After-shift-into = search in
-    let item-at : tie.After-item-at = search in
+    let goal-at : tie.After-goal-at = search in
     let start : tie.Start = search in
-    constant-pushes _ _ _ _ (start .pre .0) _ (item-at .item-at .ensures .0) _
-    (raised _ _ _ _ (start .pre .0) _ (item-at .item-at .ensures .0) _ _ _ _ (omega arith) (shift-into .shift-into .ensures)) _
-    (match-item .match-item .ensures)
+    constant-pushes _ _ _ _ (start .pre .0) _ (goal-at .goal-at .ensures .0) _
+    (raised _ _ _ _ (start .pre .0) _ (goal-at .goal-at .ensures .0) _ _ _ _ (omega arith) (shift-into .shift-into .ensures)) _
+    (match-goal .match-goal .ensures)
 
 same-length : tie.Need-same-length
 same-length c = search needs
@@ -57,24 +57,24 @@ same-length c = search needs
 returns-2 : tie.Need-returns-2
 returns-2 c =
     let push-abstraction : tie.After-push-abstraction = search in
-    let match-item : tie.After-match-item = search in
+    let match-goal : tie.After-match-goal = search in
     let shift-into : tie.After-shift-into = search in
-    let item-at : tie.After-item-at = search in
+    let goal-at : tie.After-goal-at = search in
     let start : tie.Start = search in
-    constant-pushed _ _ _ _ (start .pre .0) _ (item-at .item-at .ensures .0) _
-    (raised _ _ _ _ (start .pre .0) _ (item-at .item-at .ensures .0) _ _ _ _ (omega arith) (shift-into .shift-into .ensures)) _
-    (match-item .match-item .ensures) _ _ (push-abstraction .push-abstraction .ensures)
+    constant-pushed _ _ _ _ (start .pre .0) _ (goal-at .goal-at .ensures .0) _
+    (raised _ _ _ _ (start .pre .0) _ (goal-at .goal-at .ensures .0) _ _ _ _ (omega arith) (shift-into .shift-into .ensures)) _
+    (match-goal .match-goal .ensures) _ _ (push-abstraction .push-abstraction .ensures)
 
 pub constant-head-spec : {M : Type 1} → statement M
 constant-head-spec =
     tie.close
     (tie.spec
     returns
-    item-at-requires
+    goal-at-requires
     slice-aggregate-shift-into
     shift-into-requires
-    add-match-item
-    match-item-requires
+    add-match-goal
+    match-goal-requires
     sub-push-abstraction
     part-push-abstraction-start
     part-push-abstraction-end

@@ -6,25 +6,25 @@ use native.Mathlib.Omega.{arith}
 use Rattle.alternatives.proofs.Applications.{numbers, argument-whole, argument-ends, fits-match, fits-build}
 use Rattle.alternatives.proofs.Arguments.{placed-at, places, depth, few-records, part-whole, unlike, no-argument, ending, looks}
 use Rattle.alternatives.proofs.Arguments.{comparable, unfitting, again, lacking, found}
-use Rattle.builds.proofs.Outlining.{skeleton-comparable}
+use Rattle.builds.proofs.Refutations.{skeleton-comparable}
 use borrow.Author.Needs.{needs}
 use Rattle.alternatives.proofs.find_argument.Statement.{statement}
 use Rattle.alternatives.proofs.find_argument.Tie as tie
 
-item-at-requires : tie.Need-item-at-requires
-item-at-requires c κs = search needs
+goal-at-requires : tie.Need-goal-at-requires
+goal-at-requires c κs = search needs
 
 mul-heads-agree : tie.Need-mul-heads-agree
 mul-heads-agree c =
-    let item-at : tie.After-item-at = search in
+    let goal-at : tie.After-goal-at = search in
     let start : tie.Start = search in
-    omega (arith, part-whole _ _ _ _ (start .pre .0) _ (item-at .item-at .ensures .0) _ _ (start .pre .1) (start .pre .2) .least)
+    omega (arith, part-whole _ _ _ _ (start .pre .0) _ (goal-at .goal-at .ensures .0) _ _ (start .pre .1) (start .pre .2) .least)
 
 add-heads-agree : tie.Need-add-heads-agree
 add-heads-agree c =
-    let item-at : tie.After-item-at = search in
+    let goal-at : tie.After-goal-at = search in
     let start : tie.Start = search in
-    omega (arith, part-whole _ _ _ _ (start .pre .0) _ (item-at .item-at .ensures .0) _ _ (start .pre .1) (start .pre .2) .least)
+    omega (arith, part-whole _ _ _ _ (start .pre .0) _ (goal-at .goal-at .ensures .0) _ _ (start .pre .1) (start .pre .2) .least)
 
 heads-agree-requires : tie.Need-heads-agree-requires
 heads-agree-requires c κs = search (needs, argument-whole, argument-ends, part-whole)
@@ -43,10 +43,10 @@ wide-requires c κs = search needs
 
 place-argument-requires : tie.Need-place-argument-requires
 place-argument-requires c κs =
-    let item-at : tie.After-item-at = search in
+    let goal-at : tie.After-goal-at = search in
     let start : tie.Start = search in (
       search (needs, places),
-      λ t p k. c .before .wide .ensures .0 ∙ depth _ _ _ _ (start .pre .0) _ (item-at .item-at .ensures .0) _ _ (start .pre .1)
+      λ t p k. c .before .wide .ensures .0 ∙ depth _ _ _ _ (start .pre .0) _ (goal-at .goal-at .ensures .0) _ _ (start .pre .1)
           (start .pre .2) t p k,
     )
 
@@ -75,9 +75,9 @@ may-be-requires : tie.Need-may-be-requires
 may-be-requires c κs =
     let placed : tie.After-placed = search in
     let place-argument : tie.After-place-argument = search in
-    let item-at : tie.After-item-at = search in
+    let goal-at : tie.After-goal-at = search in
     let start : tie.Start = search in
-    let l = looks _ _ _ _ (start .pre .0) _ (item-at .item-at .ensures .0) _ _ _
+    let l = looks _ _ _ _ (start .pre .0) _ (goal-at .goal-at .ensures .0) _ _ _
     (placed-at _ _ _ _ _ _ _ (place-argument .place-argument .ensures) (placed .placed .given .1)) in
     search (needs, skeleton-comparable)
 
@@ -88,9 +88,9 @@ returns-3 : tie.Need-returns-3
 returns-3 c =
     let placed : tie.After-placed = search in
     let place-argument : tie.After-place-argument = search in
-    let item-at : tie.After-item-at = search in
+    let goal-at : tie.After-goal-at = search in
     let start : tie.Start = search in
-    unfitting _ _ _ _ (start .pre .0) _ (item-at .item-at .ensures .0) _ _ _
+    unfitting _ _ _ _ (start .pre .0) _ (goal-at .goal-at .ensures .0) _ _ _
     (placed-at _ _ _ _ _ _ _ (place-argument .place-argument .ensures) (placed .placed .given .1)) _ (start .pre .1) _
     (c .before .may-be .ensures) (not-true _ (c .if3 .taken))
 
@@ -98,10 +98,10 @@ occurs-before-requires : tie.Need-occurs-before-requires
 occurs-before-requires c κs =
     let placed : tie.After-placed = search in
     let place-argument : tie.After-place-argument = search in
-    let item-at : tie.After-item-at = search in
+    let goal-at : tie.After-goal-at = search in
     let start : tie.Start = search in
-    let q = places _ _ _ _ (start .pre .0) _ (item-at .item-at .ensures .0) _ _ (start .pre .1) (start .pre .2) in (
-      looks _ _ _ _ (start .pre .0) _ (item-at .item-at .ensures .0) _ _ _
+    let q = places _ _ _ _ (start .pre .0) _ (goal-at .goal-at .ensures .0) _ _ (start .pre .1) (start .pre .2) in (
+      looks _ _ _ _ (start .pre .0) _ (goal-at .goal-at .ensures .0) _ _ _
           (placed-at _ _ _ _ _ _ _ (place-argument .place-argument .ensures) (placed .placed .given .1)),
       omega (arith, q .few, q .within),
     )
@@ -113,9 +113,9 @@ returns-4 : tie.Need-returns-4
 returns-4 c =
     let placed : tie.After-placed = search in
     let place-argument : tie.After-place-argument = search in
-    let item-at : tie.After-item-at = search in
+    let goal-at : tie.After-goal-at = search in
     let start : tie.Start = search in
-    again _ _ _ _ (start .pre .0) _ (item-at .item-at .ensures .0) _ _ _
+    again _ _ _ _ (start .pre .0) _ (goal-at .goal-at .ensures .0) _ _ _
     (placed-at _ _ _ _ _ _ _ (place-argument .place-argument .ensures) (placed .placed .given .1)) _ (c .before .occurs-before .ensures)
     (c .if4 .taken)
 
@@ -126,9 +126,9 @@ misses-local-requires : tie.Need-misses-local-requires
 misses-local-requires c κs =
     let placed : tie.After-placed = search in
     let place-argument : tie.After-place-argument = search in
-    let item-at : tie.After-item-at = search in
+    let goal-at : tie.After-goal-at = search in
     let start : tie.Start = search in
-    comparable _ _ _ _ (start .pre .0) _ (item-at .item-at .ensures .0) _ _ _
+    comparable _ _ _ _ (start .pre .0) _ (goal-at .goal-at .ensures .0) _ _ _
     (placed-at _ _ _ _ _ _ _ (place-argument .place-argument .ensures) (placed .placed .given .1))
 
 same-length-5 : tie.Need-same-length-5
@@ -138,58 +138,58 @@ returns-5 : tie.Need-returns-5
 returns-5 c =
     let placed : tie.After-placed = search in
     let place-argument : tie.After-place-argument = search in
-    let item-at : tie.After-item-at = search in
+    let goal-at : tie.After-goal-at = search in
     let start : tie.Start = search in
-    lacking _ _ _ _ (start .pre .0) _ (item-at .item-at .ensures .0) _ _ _
+    lacking _ _ _ _ (start .pre .0) _ (goal-at .goal-at .ensures .0) _ _ _
     (placed-at _ _ _ _ _ _ _ (place-argument .place-argument .ensures) (placed .placed .given .1)) _ (c .before .misses-local .ensures)
     (c .if6 .taken)
 
-build-item-requires : tie.Need-build-item-requires
-build-item-requires c κs = search needs
+build-goal-requires : tie.Need-build-goal-requires
+build-goal-requires c κs = search needs
 
-put-item-requires : tie.Need-put-item-requires
-put-item-requires c κs =
+put-goal-requires : tie.Need-put-goal-requires
+put-goal-requires c κs =
     let placed : tie.After-placed = search in
     let place-argument : tie.After-place-argument = search in
-    let item-at : tie.After-item-at = search in
+    let goal-at : tie.After-goal-at = search in
     let start : tie.Start = search in
-    let n = numbers _ _ _ _ (start .pre .0) _ (item-at .item-at .ensures .0) in
-    let e = ending _ _ _ _ (start .pre .0) _ (item-at .item-at .ensures .0) _ _ _
+    let n = numbers _ _ _ _ (start .pre .0) _ (goal-at .goal-at .ensures .0) in
+    let e = ending _ _ _ _ (start .pre .0) _ (goal-at .goal-at .ensures .0) _ _ _
     (placed-at _ _ _ _ _ _ _ (place-argument .place-argument .ensures) (placed .placed .given .1)) in (
       omega (arith, n .room, e .most, e .whole),
-      fits-build _ _ _ _ _ (c .build-item .ensures) (omega (arith, n .part-low, start .pre .0 .ready .bounds .short))
+      fits-build _ _ _ _ _ (c .build-goal .ensures) (omega (arith, n .part-low, start .pre .0 .ready .bounds .short))
           (omega (arith, n .target-low, start .pre .0 .ready .bounds .top))
-          (omega (arith, n .next, start .pre .0 .ready .bounds .hard-room, start .pre .0 .ready .bounds .top))
+          (omega (arith, n .next, start .pre .0 .ready .bounds .deferred-room, start .pre .0 .ready .bounds .top))
           (omega (arith, start .pre .0 .ready .bounds .top)),
     )
 
-add-put-item : tie.Need-add-put-item
-add-put-item c =
+add-put-goal : tie.Need-add-put-goal
+add-put-goal c =
     let placed : tie.After-placed = search in
     let place-argument : tie.After-place-argument = search in
-    let item-at : tie.After-item-at = search in
+    let goal-at : tie.After-goal-at = search in
     let start : tie.Start = search in
-    let e = ending _ _ _ _ (start .pre .0) _ (item-at .item-at .ensures .0) _ _ _
+    let e = ending _ _ _ _ (start .pre .0) _ (goal-at .goal-at .ensures .0) _ _ _
     (placed-at _ _ _ _ _ _ _ (place-argument .place-argument .ensures) (placed .placed .given .1)) in
     search needs
 
-match-item-requires : tie.Need-match-item-requires
-match-item-requires c κs = search needs
+match-goal-requires : tie.Need-match-goal-requires
+match-goal-requires c κs = search needs
 
-put-item-requires-2 : tie.Need-put-item-requires-2
-put-item-requires-2 c κs =
+put-goal-requires-2 : tie.Need-put-goal-requires-2
+put-goal-requires-2 c κs =
     let placed : tie.After-placed = search in
     let place-argument : tie.After-place-argument = search in
-    let item-at : tie.After-item-at = search in
+    let goal-at : tie.After-goal-at = search in
     let start : tie.Start = search in
-    let n = numbers _ _ _ _ (start .pre .0) _ (item-at .item-at .ensures .0) in
-    let e = ending _ _ _ _ (start .pre .0) _ (item-at .item-at .ensures .0) _ _ _
+    let n = numbers _ _ _ _ (start .pre .0) _ (goal-at .goal-at .ensures .0) in
+    let e = ending _ _ _ _ (start .pre .0) _ (goal-at .goal-at .ensures .0) _ _ _
     (placed-at _ _ _ _ _ _ _ (place-argument .place-argument .ensures) (placed .placed .given .1)) in (
       omega (arith, n .room, e .most, e .whole),
-      fits-match _ _ _ _ (c .match-item .ensures) (omega (
+      fits-match _ _ _ _ (c .match-goal .ensures) (omega (
         arith,
-        argument-whole _ _ _ _ (start .pre .0) _ (item-at .item-at .ensures .0) _
-            (argument-ends _ _ _ _ (start .pre .0) _ (item-at .item-at .ensures .0) _ (start .pre .1)) .least,
+        argument-whole _ _ _ _ (start .pre .0) _ (goal-at .goal-at .ensures .0) _
+            (argument-ends _ _ _ _ (start .pre .0) _ (goal-at .goal-at .ensures .0) _ (start .pre .1)) .least,
         start .pre .0 .ready .bounds .short,
       )) (omega (arith, start .pre .0 .ready .bounds .top))
           (omega (arith, start .pre .0 .ready .bounds .easy-room, start .pre .0 .ready .bounds .top)),
@@ -203,9 +203,9 @@ add-t51 c =
     let else4 : tie.Else4 = search in
     let placed : tie.After-placed = search in
     let place-argument : tie.After-place-argument = search in
-    let item-at : tie.After-item-at = search in
+    let goal-at : tie.After-goal-at = search in
     let start : tie.Start = search in
-    let e = ending _ _ _ _ (start .pre .0) _ (item-at .item-at .ensures .0) _ _ _
+    let e = ending _ _ _ _ (start .pre .0) _ (goal-at .goal-at .ensures .0) _ _ _
     (placed-at _ _ _ _ _ _ _ (place-argument .place-argument .ensures) (placed .placed .given .1)) in
     omega (arith, e .most, start .pre .0 .ready .bounds .top)
 
@@ -214,50 +214,50 @@ add-t52 c =
     let else4 : tie.Else4 = search in
     let placed : tie.After-placed = search in
     let place-argument : tie.After-place-argument = search in
-    let item-at : tie.After-item-at = search in
+    let goal-at : tie.After-goal-at = search in
     let start : tie.Start = search in
-    let e = ending _ _ _ _ (start .pre .0) _ (item-at .item-at .ensures .0) _ _ _
+    let e = ending _ _ _ _ (start .pre .0) _ (goal-at .goal-at .ensures .0) _ _ _
     (placed-at _ _ _ _ _ _ _ (place-argument .place-argument .ensures) (placed .placed .given .1)) in
     omega (arith, e .most, start .pre .0 .ready .bounds .top)
 
 same-length-6 : tie.Need-same-length-6
 same-length-6 c =
-    let put-item2 : tie.After-put-item2 = search in
-    let put-item : tie.After-put-item = search in
+    let put-goal2 : tie.After-put-goal2 = search in
+    let put-goal : tie.After-put-goal = search in
     let occurs-before : tie.After-occurs-before = search in
     let bytes2 : tie.After-bytes2 = search in
     let slice-known2 : tie.After-slice-known2 = search in
     let place-argument : tie.After-place-argument = search in
-    put-item2 .put-item2 .kept .0 ∙ put-item .put-item .kept .0 ∙ place-argument .place-argument .kept .0
+    put-goal2 .put-goal2 .kept .0 ∙ put-goal .put-goal .kept .0 ∙ place-argument .place-argument .kept .0
 
 -- places that lie far back, from one between
 abbrev placed-before : tie.Else4 → tie.After-placed
 placed-before c = search
 
-abbrev item-before : tie.After-placed → tie.After-item-at
-item-before c = search
+abbrev stored-before : tie.After-placed → tie.After-goal-at
+stored-before c = search
 
 returns-6 : tie.Need-returns-6
 returns-6 c =
-    let put-item : tie.After-put-item = search in
-    let build-item : tie.After-build-item = search in
+    let put-goal : tie.After-put-goal = search in
+    let build-goal : tie.After-build-goal = search in
     let else4 : tie.Else4 = search in
     let occurs-before : tie.After-occurs-before = search in
     let placed = placed-before else4 in
-    let item-at = item-before placed in
+    let goal-at = stored-before placed in
     let start : tie.Start = search in
     let place-argument : tie.After-place-argument = search in
-    found _ _ _ _ (start .pre .0) _ (item-at .item-at .ensures .0) _ _ _
+    found _ _ _ _ (start .pre .0) _ (goal-at .goal-at .ensures .0) _ _ _
     (placed-at _ _ _ _ _ _ _ (place-argument .place-argument .ensures) (placed .placed .given .1)) _ _ _ _ _ _
-    (argument-ends _ _ _ _ (start .pre .0) _ (item-at .item-at .ensures .0) _ (start .pre .1)) (occurs-before .occurs-before .ensures)
-    (else4 .if4 .left) (build-item .build-item .ensures) (c .before .before .before .match-item .ensures) (put-item .put-item .ensures)
-    (c .before .before .put-item2 .ensures)
+    (argument-ends _ _ _ _ (start .pre .0) _ (goal-at .goal-at .ensures .0) _ (start .pre .1)) (occurs-before .occurs-before .ensures)
+    (else4 .if4 .left) (build-goal .build-goal .ensures) (c .before .before .before .match-goal .ensures) (put-goal .put-goal .ensures)
+    (c .before .before .put-goal2 .ensures)
 
 pub find-argument-spec : {M : Type 1} → statement M
 find-argument-spec =
     tie.close
     (tie.spec
-    item-at-requires
+    goal-at-requires
     mul-heads-agree
     add-heads-agree
     heads-agree-requires
@@ -283,11 +283,11 @@ find-argument-spec =
     misses-local-requires
     same-length-5
     returns-5
-    build-item-requires
-    put-item-requires
-    add-put-item
-    match-item-requires
-    put-item-requires-2
+    build-goal-requires
+    put-goal-requires
+    add-put-goal
+    match-goal-requires
+    put-goal-requires-2
     mul-t33
     add-t51
     add-t52

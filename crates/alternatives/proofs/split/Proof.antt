@@ -6,15 +6,15 @@ use borrow.Author.Needs.{needs}
 use Rattle.alternatives.proofs.split.Statement.{statement}
 use Rattle.alternatives.proofs.split.Tie as tie
 
-item-at-requires : tie.Need-item-at-requires
-item-at-requires c κs = search needs
+goal-at-requires : tie.Need-goal-at-requires
+goal-at-requires c κs = search needs
 
 slice-read-if1 : tie.Need-slice-read-if1
 slice-read-if1 c =
     let start : tie.Start = search in
     omega (
       arith,
-      numbers _ _ _ _ (start .pre) _ (c .before .item-at .ensures .0) .target-low,
+      numbers _ _ _ _ (start .pre) _ (c .before .goal-at .ensures .0) .target-low,
       start .pre .ready .bounds .top,
       start .pre .ready .bounds .whole,
     )
@@ -30,9 +30,9 @@ add-end-at c = search needs
 
 end-at-requires : tie.Need-end-at-requires
 end-at-requires c κs =
-    let item-at : tie.After-item-at = search in
+    let goal-at : tie.After-goal-at = search in
     let start : tie.Start = search in
-    numbers _ _ _ _ (start .pre) _ (item-at .item-at .ensures .0) .head
+    numbers _ _ _ _ (start .pre) _ (goal-at .goal-at .ensures .0) .head
 
 add-end-at-2 : tie.Need-add-end-at-2
 add-end-at-2 c = search needs
@@ -40,48 +40,48 @@ add-end-at-2 c = search needs
 end-at-requires-2 : tie.Need-end-at-requires-2
 end-at-requires-2 c κs =
     let else1 : tie.Else1 = search in
-    let item-at : tie.After-item-at = search in
+    let goal-at : tie.After-goal-at = search in
     let start : tie.Start = search in
-    whole-head _ _ (numbers _ _ _ _ (start .pre) _ (item-at .item-at .ensures .0) .target) (else1 .if1 .left)
+    whole-head _ _ (numbers _ _ _ _ (start .pre) _ (goal-at .goal-at .ensures .0) .target) (else1 .if1 .left)
 
-match-item-requires : tie.Need-match-item-requires
-match-item-requires c κs = search needs
+match-goal-requires : tie.Need-match-goal-requires
+match-goal-requires c κs = search needs
 
-put-item-requires : tie.Need-put-item-requires
-put-item-requires c κs =
+put-goal-requires : tie.Need-put-goal-requires
+put-goal-requires c κs =
     let end-at2 : tie.After-end-at2 = search in
     let end-at : tie.After-end-at = search in
-    let item-at : tie.After-item-at = search in
+    let goal-at : tie.After-goal-at = search in
     let start : tie.Start = search in
-    let n = numbers _ _ _ _ (start .pre) _ (item-at .item-at .ensures .0) in (
+    let n = numbers _ _ _ _ (start .pre) _ (goal-at .goal-at .ensures .0) in (
       omega (arith, n .room, start .pre .ready .bounds .whole),
-      fits-match _ _ _ _ (c .match-item .ensures) (omega (arith, end-at .end-at .ensures .within, start .pre .ready .bounds .short))
+      fits-match _ _ _ _ (c .match-goal .ensures) (omega (arith, end-at .end-at .ensures .within, start .pre .ready .bounds .short))
           (omega (arith, end-at2 .end-at2 .ensures .within, start .pre .ready .bounds .whole))
           (omega (arith, start .pre .ready .bounds .easy-room, start .pre .ready .bounds .top)),
     )
 
-add-put-item : tie.Need-add-put-item
-add-put-item c =
+add-put-goal : tie.Need-add-put-goal
+add-put-goal c =
     let start : tie.Start = search in
     omega arith
 
-add-match-item : tie.Need-add-match-item
-add-match-item c = search needs
+add-match-goal : tie.Need-add-match-goal
+add-match-goal c = search needs
 
-add-match-item-2 : tie.Need-add-match-item-2
-add-match-item-2 c = search needs
+add-match-goal-2 : tie.Need-add-match-goal-2
+add-match-goal-2 c = search needs
 
-match-item-requires-2 : tie.Need-match-item-requires-2
-match-item-requires-2 c κs = search needs
+match-goal-requires-2 : tie.Need-match-goal-requires-2
+match-goal-requires-2 c κs = search needs
 
-put-item-requires-2 : tie.Need-put-item-requires-2
-put-item-requires-2 c κs =
-    let item-at : tie.After-item-at = search in
+put-goal-requires-2 : tie.Need-put-goal-requires-2
+put-goal-requires-2 c κs =
+    let goal-at : tie.After-goal-at = search in
     let start : tie.Start = search in
-    let n = numbers _ _ _ _ (start .pre) _ (item-at .item-at .ensures .0) in (
+    let n = numbers _ _ _ _ (start .pre) _ (goal-at .goal-at .ensures .0) in (
       omega (arith, n .room, start .pre .ready .bounds .whole),
-      fits-match _ _ _ _ (c .match-item2 .ensures)
-          (omega (arith, item-at .item-at .ensures .1 .part, n .part-low, start .pre .ready .bounds .short))
+      fits-match _ _ _ _ (c .match-goal2 .ensures)
+          (omega (arith, goal-at .goal-at .ensures .1 .part, n .part-low, start .pre .ready .bounds .short))
           (omega (arith, n .target-low, start .pre .ready .bounds .top)) (omega (arith, start .pre .ready .bounds .top)),
     )
 
@@ -90,14 +90,14 @@ mul-t15 c = search needs
 
 add-t25 : tie.Need-add-t25
 add-t25 c =
-    let put-item-arg : tie.After-put-item-arg = search in
+    let put-goal-arg : tie.After-put-goal-arg = search in
     let start : tie.Start = search in
     omega (arith, start .pre .ready .bounds .top)
 
 add-t24 : tie.Need-add-t24
 add-t24 c =
     let struct-known4 : tie.After-struct-known4 = search in
-    let match-item : tie.After-match-item = search in
+    let match-goal : tie.After-match-goal = search in
     let else1 : tie.Else1 = search in
     let shared-slice-known : tie.After-shared-slice-known = search in
     let start : tie.Start = search in
@@ -108,14 +108,14 @@ same-length-2 c = search needs
 
 returns-2 : tie.Need-returns-2
 returns-2 c =
-    let put-item2 : tie.After-put-item2 = search in
-    let match-item2 : tie.After-match-item2 = search in
-    let put-item : tie.After-put-item = search in
-    let match-item : tie.After-match-item = search in
+    let put-goal2 : tie.After-put-goal2 = search in
+    let match-goal2 : tie.After-match-goal2 = search in
+    let put-goal : tie.After-put-goal = search in
+    let match-goal : tie.After-match-goal = search in
     let end-at2 : tie.After-end-at2 = search in
     let end-at : tie.After-end-at = search in
     let else1 : tie.Else1 = search in
-    let item-at : tie.After-item-at = search in
+    let goal-at : tie.After-goal-at = search in
     let start : tie.Start = search in
     search (needs, live, parts-pushed)
 
@@ -123,7 +123,7 @@ pub split-spec : {M : Type 1} → statement M
 split-spec =
     tie.close
     (tie.spec
-    item-at-requires
+    goal-at-requires
     slice-read-if1
     same-length
     returns
@@ -131,13 +131,13 @@ split-spec =
     end-at-requires
     add-end-at-2
     end-at-requires-2
-    match-item-requires
-    put-item-requires
-    add-put-item
-    add-match-item
-    add-match-item-2
-    match-item-requires-2
-    put-item-requires-2
+    match-goal-requires
+    put-goal-requires
+    add-put-goal
+    add-match-goal
+    add-match-goal-2
+    match-goal-requires-2
+    put-goal-requires-2
     mul-t15
     add-t25
     add-t24

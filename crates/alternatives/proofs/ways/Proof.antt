@@ -1,13 +1,13 @@
 -- `alternatives::ways` meets its contract. The end of the target tells how many records it has, and the end of the head where the
 -- argument begins, whose skeleton is a skeleton in every state that stands there. Assumes nothing.
-use Rattle.alternatives.proofs.Applications.{numbers, argument-whole, argument-walkable, argument-outlines, locals, counted}
+use Rattle.alternatives.proofs.Applications.{numbers, argument-whole, argument-walkable, argument-source, locals, counted}
 use Rattle.alternatives.proofs.Applications.{depths-room}
 use borrow.Author.Needs.{needs}
 use Rattle.alternatives.proofs.ways.Statement.{statement}
 use Rattle.alternatives.proofs.ways.Tie as tie
 
-item-at-requires : tie.Need-item-at-requires
-item-at-requires c κs = search needs
+goal-at-requires : tie.Need-goal-at-requires
+goal-at-requires c κs = search needs
 
 add-head : tie.Need-add-head
 add-head c = search needs
@@ -15,25 +15,25 @@ add-head c = search needs
 end-at-requires : tie.Need-end-at-requires
 end-at-requires c κs =
     let start : tie.Start = search in
-    numbers _ _ _ _ (start .pre) _ (c .before .item-at .ensures .0) .target
+    numbers _ _ _ _ (start .pre) _ (c .before .goal-at .ensures .0) .target
 
 end-at-requires-2 : tie.Need-end-at-requires-2
 end-at-requires-2 c κs =
-    let item-at : tie.After-item-at = search in
+    let goal-at : tie.After-goal-at = search in
     let start : tie.Start = search in
-    numbers _ _ _ _ (start .pre) _ (item-at .item-at .ensures .0) .head
+    numbers _ _ _ _ (start .pre) _ (goal-at .goal-at .ensures .0) .head
 
 is-rigid-requires : tie.Need-is-rigid-requires
 is-rigid-requires c κs = search (needs, argument-whole)
 
 ask-at-requires : tie.Need-ask-at-requires
 ask-at-requires c κs =
-    let item-at : tie.After-item-at = search in
+    let goal-at : tie.After-goal-at = search in
     let start : tie.Start = search in
-    argument-walkable _ _ _ _ (start .pre) _ (item-at .item-at .ensures .0) _ (c .before .end-at2 .ensures)
+    argument-walkable _ _ _ _ (start .pre) _ (goal-at .goal-at .ensures .0) _ (c .before .end-at2 .ensures)
 
 skeleton-at-requires : tie.Need-skeleton-at-requires
-skeleton-at-requires c κs = search (needs, argument-outlines)
+skeleton-at-requires c κs = search (needs, argument-source)
 
 lacks-local-requires : tie.Need-lacks-local-requires
 lacks-local-requires c κs = search (needs, locals)
@@ -57,7 +57,7 @@ pub ways-spec : {M : Type 1} → statement M
 ways-spec =
     tie.close
     (tie.spec
-    item-at-requires
+    goal-at-requires
     add-head
     end-at-requires
     end-at-requires-2

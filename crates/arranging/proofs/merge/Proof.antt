@@ -3,13 +3,13 @@
 use Prim.Native.Nat.{_+_, _-_}
 use native.Mathlib.Omega.{arith}
 use lib.ListN.{length}
-use Rattle.arranging.proofs.Merging.{Going, going-on, going-end}
+use Rattle.arranging.proofs.Merging.{MergingOn, going-on, going-end}
 use borrow.Author.Needs.{needs}
 use Rattle.arranging.proofs.merge.Statement.{statement}
 use Rattle.arranging.proofs.merge.Tie as tie
 
 abbrev Inv-loop : tie.InvT-loop
-Inv-loop a b values out₀ n i₀ j₀ out i j = Going a b values out₀ i j out
+Inv-loop a b values out₀ n i₀ j₀ out i j = MergingOn a b values out₀ i j out
 
 abbrev μ-loop : tie.MeasureT-loop
 μ-loop a b values out₀ n i₀ j₀ out i j = length a + length b - (i + j)

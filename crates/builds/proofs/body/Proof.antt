@@ -2,18 +2,19 @@
 -- sweeps to its abstraction, and else becomes the head's target. Assumes nothing.
 use native.Mathlib.Omega.{arith}
 use borrow.Author.Tests.{not-true, not-false}
-use Rattle.builds.proofs.Building.{choosing, end-within, bodied, choices-within, used-chosen, unused, body-tree, pushes, eta, pushed}
+use Rattle.builds.proofs.Building.{choosing, end-within, bodied, choices-within, used-chosen, unused, body-tree, pushes, eta}
+use Rattle.builds.proofs.Building.{stored-pushed}
 use borrow.Author.Needs.{needs}
 use Rattle.builds.proofs.body.Statement.{statement}
 use Rattle.builds.proofs.body.Tie as tie
 use Rattle.abstractions.proofs.body_into.Reads as body-into-reads
 use Rattle.builds.proofs.any_chosen.Reads as any-chosen-reads
 use Rattle.builds.proofs.push_abstraction.Reads as push-abstraction-reads
-use Rattle.agenda.proofs.item_at.Reads as item-at-reads
+use Rattle.agenda.proofs.goal_at.Reads as goal-at-reads
 use Rattle.records.proofs.is_eta.Reads as is-eta-reads
 
-item-at-requires : tie.Need-item-at-requires
-item-at-requires c κs = search needs
+goal-at-requires : tie.Need-goal-at-requires
+goal-at-requires c κs = search needs
 
 slice-aggregate-body-into : tie.Need-slice-aggregate-body-into
 slice-aggregate-body-into c = search needs
@@ -23,9 +24,9 @@ slice-aggregate-body-into-2 c = search needs
 
 body-into-requires : tie.Need-body-into-requires
 body-into-requires c κs =
-    let item-at : tie.After-item-at = search in
+    let goal-at : tie.After-goal-at = search in
     let start : tie.Start = search in
-    choosing _ _ _ _ (start .pre .0) (start .pre .1) _ (item-at .item-at .ensures .0) _ _ (omega arith) (omega arith)
+    choosing _ _ _ _ (start .pre .0) (start .pre .1) _ (goal-at .goal-at .ensures .0) _ _ (omega arith) (omega arith)
 
 slice-aggregate-any-chosen : tie.Need-slice-aggregate-any-chosen
 slice-aggregate-any-chosen c = search needs
@@ -34,8 +35,8 @@ any-chosen-requires : tie.Need-any-chosen-requires
 any-chosen-requires c κs =
     omega (
       arith,
-      (let body-into : tie.After-body-into = search in let item-at : tie.After-item-at = search in let
-          start : tie.Start = search in choices-within _ _ _ _ (start .pre .0) (start .pre .1) _ (item-at .item-at .ensures .0) _ _ _ _ _ _
+      (let body-into : tie.After-body-into = search in let goal-at : tie.After-goal-at = search in let
+          start : tie.Start = search in choices-within _ _ _ _ (start .pre .0) (start .pre .1) _ (goal-at .goal-at .ensures .0) _ _ _ _ _ _
           (omega arith) (body-into .body-into .ensures)),
     )
 
@@ -57,10 +58,10 @@ part-is-eta-end c = search (needs, end-within)
 is-eta-requires : tie.Need-is-eta-requires
 is-eta-requires c κs =
     let body-into : tie.After-body-into = search in
-    let item-at : tie.After-item-at = search in
+    let goal-at : tie.After-goal-at = search in
     let start : tie.Start = search in
-    body-tree _ _ _ _ (start .pre .0) (start .pre .1) _ (item-at .item-at .ensures .0) _ _
-    (bodied _ _ _ _ (start .pre .0) (start .pre .1) _ (item-at .item-at .ensures .0) _ _ _ _ _ _ (omega arith)
+    body-tree _ _ _ _ (start .pre .0) (start .pre .1) _ (goal-at .goal-at .ensures .0) _ _
+    (bodied _ _ _ _ (start .pre .0) (start .pre .1) _ (goal-at .goal-at .ensures .0) _ _ _ _ _ _ (omega arith)
     (body-into .body-into .ensures))
 
 same-length-2 : tie.Need-same-length-2
@@ -81,11 +82,11 @@ part-push-abstraction-end c = search (needs, end-within)
 push-abstraction-requires : tie.Need-push-abstraction-requires
 push-abstraction-requires c κs =
     let body-into : tie.After-body-into = search in
-    let item-at : tie.After-item-at = search in
+    let goal-at : tie.After-goal-at = search in
     let start : tie.Start = search in
-    pushes _ _ _ _ (start .pre .0) (start .pre .1) _ (item-at .item-at .ensures .0) _ _
-    (bodied _ _ _ _ (start .pre .0) (start .pre .1) _ (item-at .item-at .ensures .0) _ _ _ _ _ _ (omega arith)
-    (body-into .body-into .ensures)) (item-at .item-at .ensures .1)
+    pushes _ _ _ _ (start .pre .0) (start .pre .1) _ (goal-at .goal-at .ensures .0) _ _
+    (bodied _ _ _ _ (start .pre .0) (start .pre .1) _ (goal-at .goal-at .ensures .0) _ _ _ _ _ _ (omega arith)
+    (body-into .body-into .ensures)) (goal-at .goal-at .ensures .1)
 
 same-length-3 : tie.Need-same-length-3
 same-length-3 c = search needs
@@ -98,15 +99,15 @@ returns-3 c =
     let else1 : tie.Else1 = search in
     let any-chosen : tie.After-any-chosen = search in
     let body-into : tie.After-body-into = search in
-    let item-at : tie.After-item-at = search in
+    let goal-at : tie.After-goal-at = search in
     let start : tie.Start = search in
-    search (needs, pushed, bodied, used-chosen, not-false)
+    search (needs, stored-pushed, bodied, used-chosen, not-false)
 
 pub body-spec : {M : Type 1} → statement M
 body-spec =
     tie.close
     (tie.spec
-    item-at-requires
+    goal-at-requires
     slice-aggregate-body-into
     slice-aggregate-body-into-2
     body-into-requires

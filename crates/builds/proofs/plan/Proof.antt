@@ -6,8 +6,8 @@ use borrow.Author.Needs.{needs}
 use Rattle.builds.proofs.plan.Statement.{statement}
 use Rattle.builds.proofs.plan.Tie as tie
 
-item-at-requires : tie.Need-item-at-requires
-item-at-requires c κs = search needs
+goal-at-requires : tie.Need-goal-at-requires
+goal-at-requires c κs = search needs
 
 lacks-local-requires : tie.Need-lacks-local-requires
 lacks-local-requires c κs = search (needs, comparing)
@@ -46,7 +46,7 @@ pub plan-spec : {M : Type 1} → statement M
 plan-spec =
     tie.close
     (tie.spec
-    item-at-requires
+    goal-at-requires
     lacks-local-requires
     body-requires
     enum-told

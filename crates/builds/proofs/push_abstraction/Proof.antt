@@ -20,8 +20,8 @@ add-easy c = search needs
 add-easy-2 : tie.Need-add-easy-2
 add-easy-2 c = search needs
 
-put-item-requires : tie.Need-put-item-requires
-put-item-requires c κs = search needs
+put-goal-requires : tie.Need-put-goal-requires
+put-goal-requires c κs = search needs
 
 add-t14 : tie.Need-add-t14
 add-t14 c = search needs
@@ -41,7 +41,7 @@ push-abstraction-spec =
     copy-into-requires
     add-easy
     add-easy-2
-    put-item-requires
+    put-goal-requires
     add-t14
     same-length
     returns)

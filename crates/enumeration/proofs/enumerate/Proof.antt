@@ -1,7 +1,7 @@
 -- `enumeration::enumerate` meets its contract: the reduct is a pattern with the same full listing. Where it is too long the pattern
 -- itself is searched. Assumes nothing.
 use native.Mathlib.Omega.{arith}
-use Rattle.contraction.proofs.Reducts.{reducible, result}
+use Rattle.reducts.proofs.Reducts.{reducible, reduct-table}
 use Rattle.enumeration.proofs.Reducts.{listable, enumerated}
 use borrow.Author.Needs.{needs}
 use Rattle.enumeration.proofs.enumerate.Statement.{statement}
@@ -37,7 +37,7 @@ mul-enumerate-short c =
     let start : tie.Start = search in
     omega (
       arith,
-      result _ _ _ _ _ (reduce .reduce .ensures (start .pre .pattern-checked .tree) (start .pre .pattern-checked .table .0))
+      reduct-table _ _ _ _ _ (reduce .reduce .ensures (start .pre .pattern-checked .tree) (start .pre .pattern-checked .table .0))
           (c .before .length .given .1) (omega arith) .few,
     )
 
@@ -52,7 +52,7 @@ part-enumerate-short-end c =
     let length : tie.After-length = search in
     let reduce : tie.After-reduce = search in
     let start : tie.Start = search in
-    result _ _ _ _ _ (reduce .reduce .ensures (start .pre .pattern-checked .tree) (start .pre .pattern-checked .table .0))
+    reduct-table _ _ _ _ _ (reduce .reduce .ensures (start .pre .pattern-checked .tree) (start .pre .pattern-checked .table .0))
     (length .length .given .1) (omega arith) .within
 
 enumerate-short-requires-2 : tie.Need-enumerate-short-requires-2
@@ -60,7 +60,7 @@ enumerate-short-requires-2 c κs =
     let length : tie.After-length = search in
     let reduce : tie.After-reduce = search in
     let start : tie.Start = search in
-    let o = result _ _ _ _ _ (reduce .reduce .ensures (start .pre .pattern-checked .tree) (start .pre .pattern-checked .table .0))
+    let o = reduct-table _ _ _ _ _ (reduce .reduce .ensures (start .pre .pattern-checked .tree) (start .pre .pattern-checked .table .0))
     (length .length .given .1) (omega arith) in
     listable _ _ (start .pre .pattern-checked) (o .bytes) (omega (arith, o .fills, o .few)) _ _ _ _ (start .pre)
 
@@ -78,7 +78,7 @@ returns-2 c =
     let length : tie.After-length = search in
     let reduce : tie.After-reduce = search in
     let start : tie.Start = search in
-    let o = result _ _ _ _ _ (reduce .reduce .ensures (start .pre .pattern-checked .tree) (start .pre .pattern-checked .table .0))
+    let o = reduct-table _ _ _ _ _ (reduce .reduce .ensures (start .pre .pattern-checked .tree) (start .pre .pattern-checked .table .0))
     (length .length .given .1) (omega arith) in
     search (needs, enumerated)
 

@@ -5,14 +5,14 @@ use Prim.Native.Nat.{_+_, _-_, _≤_}
 use native.Mathlib.Omega.{arith}
 use lib.ListN.{length, drop}
 use Rattle.terms.specs.Figures.{variables}
-use Rattle.listing.specs.Writers.{total}
+use Rattle.listing.specs.Writers.{entriesRecords}
 use Rattle.listing.proofs.Writers.{total-next, total-none}
 use borrow.Author.Needs.{needs}
 use Rattle.listing.proofs.records_of.Statement.{statement}
 use Rattle.listing.proofs.records_of.Tie as tie
 
 abbrev Inv-loop : tie.InvT-loop
-Inv-loop a n₀ i₀ n i = (i ≤ variables) × (length a ≡ variables) × (n + total (drop i a) ≡ total a)
+Inv-loop a n₀ i₀ n i = (i ≤ variables) × (length a ≡ variables) × (n + entriesRecords (drop i a) ≡ entriesRecords a)
 
 abbrev μ-loop : tie.MeasureT-loop
 μ-loop a n₀ i₀ n i = variables - i

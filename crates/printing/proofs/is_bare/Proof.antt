@@ -5,14 +5,14 @@ use Prim.Native.Nat.{_≤_, _-_}
 use native.Mathlib.Omega.{arith}
 use borrow.Author.Tests.{not-true, not-false}
 use Rattle.terms.specs.Figures.{variables}
-use Rattle.printing.specs.Text.{Opens}
+use Rattle.printing.specs.Text.{OpenBefore}
 use Rattle.printing.proofs.Rooms.{opens-none, opens-more, opens-not, opens-all}
 use borrow.Author.Needs.{needs}
 use Rattle.printing.proofs.is_bare.Statement.{statement}
 use Rattle.printing.proofs.is_bare.Tie as tie
 
 abbrev Inv-loop : tie.InvT-loop
-Inv-loop line v₀ v = (v ≤ variables) × Opens line v
+Inv-loop line v₀ v = (v ≤ variables) × OpenBefore line v
 
 abbrev μ-loop : tie.MeasureT-loop
 μ-loop line v₀ v = variables - v

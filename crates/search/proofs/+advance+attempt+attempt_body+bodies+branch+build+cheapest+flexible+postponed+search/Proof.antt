@@ -9,7 +9,7 @@ use Rattle.agenda.specs.Moves.{progress}
 use Rattle.search.proofs.Taken.{stepped-failed, stepped-left, stepped-assign, branched-failed, branched-next, decided-failed}
 use Rattle.search.proofs.Taken.{decided-next, decided-open, planned-failed, planned-next, planned-bodies}
 use Rattle.search.proofs.Searching.{begins-move, searched-move, searched-failed, finds, searched-found, begins-open, searched-open}
-use Rattle.search.proofs.Searching.{Going, going-start, begins-going, going-next, going-end, going-stop, searched-last}
+use Rattle.search.proofs.Searching.{SearchingOn, going-start, begins-going, going-next, going-end, going-stop, searched-last}
 use Rattle.search.proofs.Searching.{searched-stop, choosing-next, searched-both, begins-forwarded, searched-forwarded, begins-kept}
 use Rattle.search.proofs.Searching.{matches-kept, counted-kept, builds-kept, planned-begins, planned-searched}
 use borrow.Author.Needs.{needs}
@@ -59,7 +59,7 @@ use Rattle.alternatives.proofs.way.Reads as way-reads
 use Rattle.alternatives.proofs.ways.Reads as ways-reads
 use Rattle.builds.proofs.body.Reads as body-reads
 use Rattle.builds.proofs.plan.Reads as plan-reads
-use Rattle.builds.proofs.ground.decide.Reads as decide-reads
+use Rattle.builds.proofs.deciding.decide.Reads as decide-reads
 use Rattle.ordering.proofs.order.bring_forward.Reads as bring-forward-reads
 use Rattle.ordering.proofs.repeated.force.Reads as force-reads
 use Rattle.steps.proofs.step.Reads as step-reads
@@ -622,7 +622,7 @@ cheapest-branch-requires t c κs =
     let f = bring-forward .bring-forward .ensures in
     let e = decided-open _ _ _ _ _ _ _ (decide .decide .ensures) (enum-told2 .enum-told2 .given .1) in (
       omega (arith, f .level),
-      (begins-open _ _ _ _ _ _ _ _ _ _ e (begins-forwarded _ _ _ _ _ _ _ _ _ _ f (start .pre .1 .0)), f .none-easy, f .some-hard),
+      (begins-open _ _ _ _ _ _ _ _ _ _ e (begins-forwarded _ _ _ _ _ _ _ _ _ _ f (start .pre .1 .0)), f .none-easy, f .some-deferred),
     )
 
 cheapest-same-length-5 : (t : ℕ) → cheapest-in t cheapest-lts.Need-same-length-5
@@ -645,7 +645,7 @@ cheapest-returns-3 t c =
 
 abbrev flexible-Inv-loop : flexible-lts.InvT-loop
 flexible-Inv-loop p work₀ s a limit lines₀ values₀ w found₀ i₀ work lines values found i =
-    Going p work₀ s a limit lines₀ values₀ found₀ (w .count) i work lines values found
+    SearchingOn p work₀ s a limit lines₀ values₀ found₀ (w .count) i work lines values found
 
 abbrev flexible-μ-loop : flexible-lts.MeasureT-loop
 flexible-μ-loop p work₀ s a limit lines₀ values₀ w found₀ i₀ work lines values found i = w .count - i

@@ -9,8 +9,8 @@ use Rattle.search.proofs.collect.Tie as tie
 copy-into-requires : tie.Need-copy-into-requires
 copy-into-requires c κs = omega (arith, recipe-short)
 
-put-item-requires : tie.Need-put-item-requires
-put-item-requires c κs =
+put-goal-requires : tie.Need-put-goal-requires
+put-goal-requires c κs =
     let copy-into : tie.After-copy-into = search in
     let start : tie.Start = search in (
       omega (arith, recipe-short _ _ _ _ _ _ (start .pre), start .pre .area, copy-into .copy-into .kept .1 .0),
@@ -40,7 +40,7 @@ collect-spec =
     tie.close
     (tie.spec
     copy-into-requires
-    put-item-requires
+    put-goal-requires
     add-t17
     search-requires
     same-length

@@ -3,7 +3,7 @@
 use Prim.Native.Nat.{_-_}
 use lib.ListN.{length}
 use native.Mathlib.Omega.{arith}
-use Rattle.shifting.proofs.Substitution.{reached, substituted-kinds, substitutes-head, substitutes-argument, substituted-app}
+use Rattle.shifting.proofs.Substitution.{walk-reached, substituted-kinds, substitutes-head, substitutes-argument, substituted-app}
 use Rattle.shifting.proofs.Substitution.{substituted-stop, substitutes-body, substituted-lam, substituted-other}
 use Rattle.shifting.proofs.Substitution.{substituted-other-no}
 use borrow.Author.Needs.{needs}
@@ -90,7 +90,7 @@ is-substituted-is-substituted-requires-2 t c κs =
     let then3 : is-substituted-in t is-substituted-lts.Then3 = search in
     let else2 : is-substituted-in t is-substituted-lts.Else2 = search in
     let start : is-substituted-in t is-substituted-lts.Start = search in
-    let w = reached _ _ _ _ _ _ _ (c .before .head .given .1) (is-substituted-point .is-substituted .ensures) in (
+    let w = walk-reached _ _ _ _ _ _ _ (c .before .head .given .1) (is-substituted-point .is-substituted .ensures) in (
       omega (arith, w .body-ends .more, w .body-ends .within),
       substitutes-argument _ _ _ _ _ (else2 .if2 .left) (then3 .if3 .taken) _ _ (c .before .head .given .1)
           (is-substituted-point .is-substituted .ensures) (start .pre .1),

@@ -3,9 +3,9 @@
 use Prim.Native.Nat.{_+_, _*_}
 use lib.ListN.{length}
 use native.Mathlib.Omega.{arith}
-use Rattle.skeletons.proofs.Outlines.{outlinable-head, outlinable-argument, outlinable-body, result-within}
-use Rattle.skeletons.proofs.Outlines.{head-no-hole, parts-applied, outlined-application, part-abstracted, outlined-abstraction}
-use Rattle.skeletons.proofs.Outlines.{variable-known, outlined-variable, leaf-length, outlined-leaf}
+use Rattle.skeletons.proofs.Writing.{input-head, input-argument, input-body, result-within}
+use Rattle.skeletons.proofs.Writing.{head-no-hole, parts-applied, skeleton-application, part-abstracted, skeleton-abstraction}
+use Rattle.skeletons.proofs.Writing.{variable-known, skeleton-variable, leaf-length, skeleton-leaf}
 use borrow.Author.Needs.{needs}
 use Prim.Native.Nat.{ℕ, _<_}
 use borrow.Fn.Kinds.{In, Out}
@@ -116,7 +116,7 @@ skeleton-skeleton-variable-requires : (t : ℕ) → skeleton-in t skeleton-lts.N
 skeleton-skeleton-variable-requires t c κs = search (needs, variable-known)
 
 skeleton-returns-3 : (t : ℕ) → skeleton-in t skeleton-lts.Need-returns-3
-skeleton-returns-3 t c = search (needs, outlined-variable)
+skeleton-returns-3 t c = search (needs, skeleton-variable)
 
 skeleton-copy-into-requires : (t : ℕ) → skeleton-in t skeleton-lts.Need-copy-into-requires
 skeleton-copy-into-requires t c κs =
@@ -126,7 +126,7 @@ skeleton-copy-into-requires t c κs =
     omega (arith, leaf-length _ _ _ (else1 .if1 .left) (else2 .if2 .left) (start .pre .1))
 
 skeleton-returns-4 : (t : ℕ) → skeleton-in t skeleton-lts.Need-returns-4
-skeleton-returns-4 t c = search (needs, outlined-leaf)
+skeleton-returns-4 t c = search (needs, skeleton-leaf)
 
 abbrev skeleton-abstraction-in :
     ℕ →
@@ -146,7 +146,7 @@ skeleton-abstraction-body-of-requires : (t : ℕ) → skeleton-abstraction-in t 
 skeleton-abstraction-body-of-requires t c κs = search needs
 
 skeleton-abstraction-skeleton-requires : (t : ℕ) → skeleton-abstraction-in t skeleton-abstraction-lts.Need-skeleton-requires
-skeleton-abstraction-skeleton-requires t c κs = search (needs, outlinable-body)
+skeleton-abstraction-skeleton-requires t c κs = search (needs, input-body)
 
 skeleton-abstraction-mul-n : (t : ℕ) → skeleton-abstraction-in t skeleton-abstraction-lts.Need-mul-n
 skeleton-abstraction-mul-n t c = search needs
@@ -158,13 +158,13 @@ skeleton-abstraction-part-abstract-over-start : (t : ℕ) → skeleton-abstracti
 skeleton-abstraction-part-abstract-over-start t c = search needs
 
 skeleton-abstraction-part-abstract-over-end : (t : ℕ) → skeleton-abstraction-in t skeleton-abstraction-lts.Need-part-abstract-over-end
-skeleton-abstraction-part-abstract-over-end t c = search (needs, result-within, outlinable-body)
+skeleton-abstraction-part-abstract-over-end t c = search (needs, result-within, input-body)
 
 skeleton-abstraction-abstract-over-requires : (t : ℕ) → skeleton-abstraction-in t skeleton-abstraction-lts.Need-abstract-over-requires
 skeleton-abstraction-abstract-over-requires t c κs = search (needs, part-abstracted)
 
 skeleton-abstraction-returns : (t : ℕ) → skeleton-abstraction-in t skeleton-abstraction-lts.Need-returns
-skeleton-abstraction-returns t c = search (needs, outlined-abstraction)
+skeleton-abstraction-returns t c = search (needs, skeleton-abstraction)
 
 abbrev skeleton-application-in :
     ℕ →
@@ -188,7 +188,7 @@ skeleton-application-head-of-requires : (t : ℕ) → skeleton-application-in t 
 skeleton-application-head-of-requires t c κs = search needs
 
 skeleton-application-skeleton-requires : (t : ℕ) → skeleton-application-in t skeleton-application-lts.Need-skeleton-requires
-skeleton-application-skeleton-requires t c κs = search (needs, outlinable-head)
+skeleton-application-skeleton-requires t c κs = search (needs, input-head)
 
 skeleton-application-array-read-if1 : (t : ℕ) → skeleton-application-in t skeleton-application-lts.Need-array-read-if1
 skeleton-application-array-read-if1 t c = search needs
@@ -203,7 +203,7 @@ skeleton-application-argument-of-requires : (t : ℕ) → skeleton-application-i
 skeleton-application-argument-of-requires t c κs = search needs
 
 skeleton-application-skeleton-requires-2 : (t : ℕ) → skeleton-application-in t skeleton-application-lts.Need-skeleton-requires-2
-skeleton-application-skeleton-requires-2 t c κs = search (needs, outlinable-argument)
+skeleton-application-skeleton-requires-2 t c κs = search (needs, input-argument)
 
 skeleton-application-mul-n : (t : ℕ) → skeleton-application-in t skeleton-application-lts.Need-mul-n
 skeleton-application-mul-n t c = search needs
@@ -218,7 +218,7 @@ skeleton-application-part-apply-start : (t : ℕ) → skeleton-application-in t 
 skeleton-application-part-apply-start t c = search needs
 
 skeleton-application-part-apply-end : (t : ℕ) → skeleton-application-in t skeleton-application-lts.Need-part-apply-end
-skeleton-application-part-apply-end t c = search (needs, result-within, outlinable-head)
+skeleton-application-part-apply-end t c = search (needs, result-within, input-head)
 
 skeleton-application-sub-apply-2 : (t : ℕ) → skeleton-application-in t skeleton-application-lts.Need-sub-apply-2
 skeleton-application-sub-apply-2 t c = search needs
@@ -227,13 +227,13 @@ skeleton-application-part-apply-start-2 : (t : ℕ) → skeleton-application-in 
 skeleton-application-part-apply-start-2 t c = search needs
 
 skeleton-application-part-apply-end-2 : (t : ℕ) → skeleton-application-in t skeleton-application-lts.Need-part-apply-end-2
-skeleton-application-part-apply-end-2 t c = search (needs, result-within, outlinable-argument)
+skeleton-application-part-apply-end-2 t c = search (needs, result-within, input-argument)
 
 skeleton-application-apply-requires : (t : ℕ) → skeleton-application-in t skeleton-application-lts.Need-apply-requires
 skeleton-application-apply-requires t c κs = search (needs, parts-applied, head-no-hole)
 
 skeleton-application-returns-2 : (t : ℕ) → skeleton-application-in t skeleton-application-lts.Need-returns-2
-skeleton-application-returns-2 t c = search (needs, outlined-application)
+skeleton-application-returns-2 t c = search (needs, skeleton-application)
 
 pub +skeleton+skeleton-abstraction+skeleton-application-spec : {M : Type 1} → statement M
 +skeleton+skeleton-abstraction+skeleton-application-spec =

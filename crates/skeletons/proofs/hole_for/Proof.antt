@@ -1,6 +1,6 @@
 -- `skeletons::hole_for` meets its contract: a closed part has closed swept forms, and a hole for any term is right for every part. Assumes
 -- nothing.
-use Rattle.skeletons.proofs.Outlines.{outlined-hole, outlined-closed}
+use Rattle.skeletons.proofs.Writing.{skeleton-hole, skeleton-closed}
 use borrow.Author.Needs.{needs}
 use Rattle.skeletons.proofs.hole_for.Statement.{statement}
 use Rattle.skeletons.proofs.hole_for.Tie as tie
@@ -12,13 +12,13 @@ hole-requires : tie.Need-hole-requires
 hole-requires c κs = search needs
 
 returns : tie.Need-returns
-returns c = search (needs, outlined-closed)
+returns c = search (needs, skeleton-closed)
 
 hole-requires-2 : tie.Need-hole-requires-2
 hole-requires-2 c κs = search needs
 
 returns-2 : tie.Need-returns-2
-returns-2 c = λ values a. outlined-hole values a _ _ _ (c .hole2 .ensures) _
+returns-2 c = λ values a. skeleton-hole values a _ _ _ (c .hole2 .ensures) _
 
 pub hole-for-spec : {M : Type 1} → statement M
 hole-for-spec =

@@ -1,7 +1,7 @@
 -- `skeletons::skeleton_variable` meets its contract: the span's records are the value's table, and a hole is right for an open variable.
 -- Assumes nothing.
 use native.Mathlib.Omega.{arith}
-use Rattle.skeletons.proofs.Outlines.{entered-hole, value-held, value-bytes, entered-value}
+use Rattle.skeletons.proofs.Writing.{entered-hole, value-held, value-bytes, entered-value}
 use borrow.Author.Needs.{needs}
 use Rattle.skeletons.proofs.skeleton_variable.Statement.{statement}
 use Rattle.skeletons.proofs.skeleton_variable.Tie as tie

@@ -7,16 +7,16 @@ use borrow.Author.Needs.{needs}
 use Rattle.steps.proofs.step.Statement.{statement}
 use Rattle.steps.proofs.step.Tie as tie
 
-item-at-requires : tie.Need-item-at-requires
-item-at-requires c κs = search needs
+goal-at-requires : tie.Need-goal-at-requires
+goal-at-requires c κs = search needs
 
 shared-slice-read-kind : tie.Need-shared-slice-read-kind
 shared-slice-read-kind c =
     let start : tie.Start = search in
     omega (
       arith,
-      opens _ _ _ _ _ (start .pre .0) (start .pre .1) (c .before .item-at .ensures .0)
-          (c .before .item-at .ensures .1) .part .least,
+      opens _ _ _ _ _ (start .pre .0) (start .pre .1) (c .before .goal-at .ensures .0)
+          (c .before .goal-at .ensures .1) .part .least,
     )
 
 step-abstraction-requires : tie.Need-step-abstraction-requires
@@ -48,9 +48,9 @@ returns-3 c = search needs
 
 is-rigid-requires : tie.Need-is-rigid-requires
 is-rigid-requires c κs =
-    let item-at : tie.After-item-at = search in
+    let goal-at : tie.After-goal-at = search in
     let start : tie.Start = search in
-    opens _ _ _ _ _ (start .pre .0) (start .pre .1) (item-at .item-at .ensures .0) (item-at .item-at .ensures .1) .part
+    opens _ _ _ _ _ (start .pre .0) (start .pre .1) (goal-at .goal-at .ensures .0) (goal-at .goal-at .ensures .1) .part
 
 step-rigid-requires : tie.Need-step-rigid-requires
 step-rigid-requires c κs =
@@ -76,7 +76,7 @@ pub step-spec : {M : Type 1} → statement M
 step-spec =
     tie.close
     (tie.spec
-    item-at-requires
+    goal-at-requires
     shared-slice-read-kind
     step-abstraction-requires
     same-length

@@ -14,8 +14,8 @@ slice-read-if1 c = search needs
 add-t16 : tie.Need-add-t16
 add-t16 c = search needs
 
-put-item-requires : tie.Need-put-item-requires
-put-item-requires c κs = search needs
+put-goal-requires : tie.Need-put-goal-requires
+put-goal-requires c κs = search needs
 
 add-t16-2 : tie.Need-add-t16-2
 add-t16-2 c = search needs
@@ -29,8 +29,8 @@ returns c = search (needs, body-pushed)
 apply-into-requires : tie.Need-apply-into-requires
 apply-into-requires c κs = search (needs, applies)
 
-put-item-requires-2 : tie.Need-put-item-requires-2
-put-item-requires-2 c κs = search needs
+put-goal-requires-2 : tie.Need-put-goal-requires-2
+put-goal-requires-2 c κs = search needs
 
 add-t26 : tie.Need-add-t26
 add-t26 c = search needs
@@ -48,12 +48,12 @@ step-abstraction-spec =
     add-body
     slice-read-if1
     add-t16
-    put-item-requires
+    put-goal-requires
     add-t16-2
     same-length
     returns
     apply-into-requires
-    put-item-requires-2
+    put-goal-requires-2
     add-t26
     same-length-2
     returns-2)

@@ -1,6 +1,6 @@
 -- `steps::step_flexible` meets its contract. A local that the part lacks rules out every assignment; else the goal moves as it is
--- to those put off. Assumes nothing.
-use Rattle.steps.proofs.Descents.{locals, flexible-missed, put-off}
+-- to those deferred. Assumes nothing.
+use Rattle.steps.proofs.Descents.{locals, flexible-missed, deferred-as-is}
 use borrow.Author.Needs.{needs}
 use Rattle.steps.proofs.step_flexible.Statement.{statement}
 use Rattle.steps.proofs.step_flexible.Tie as tie
@@ -14,8 +14,8 @@ same-length c = search needs
 returns : tie.Need-returns
 returns c = search (needs, flexible-missed)
 
-put-item-requires : tie.Need-put-item-requires
-put-item-requires c κs = search needs
+put-goal-requires : tie.Need-put-goal-requires
+put-goal-requires c κs = search needs
 
 add-t14 : tie.Need-add-t14
 add-t14 c = search needs
@@ -24,7 +24,7 @@ same-length-2 : tie.Need-same-length-2
 same-length-2 c = search needs
 
 returns-2 : tie.Need-returns-2
-returns-2 c = search (needs, put-off)
+returns-2 c = search (needs, deferred-as-is)
 
 pub step-flexible-spec : {M : Type 1} → statement M
 step-flexible-spec =
@@ -33,7 +33,7 @@ step-flexible-spec =
     lacks-local-requires
     same-length
     returns
-    put-item-requires
+    put-goal-requires
     add-t14
     same-length-2
     returns-2)

@@ -23,8 +23,8 @@ add-end-at-2 c = search needs
 end-at-requires-2 : tie.Need-end-at-requires-2
 end-at-requires-2 c κs = search (needs, target-head-whole)
 
-put-item-requires : tie.Need-put-item-requires
-put-item-requires c κs = search needs
+put-goal-requires : tie.Need-put-goal-requires
+put-goal-requires c κs = search needs
 
 add-second : tie.Need-add-second
 add-second c = search needs
@@ -35,8 +35,8 @@ add-t15 c = search needs
 add-t16 : tie.Need-add-t16
 add-t16 c = search needs
 
-put-item-requires-2 : tie.Need-put-item-requires-2
-put-item-requires-2 c κs = search needs
+put-goal-requires-2 : tie.Need-put-goal-requires-2
+put-goal-requires-2 c κs = search needs
 
 add-t16-2 : tie.Need-add-t16-2
 add-t16-2 c = search needs
@@ -57,11 +57,11 @@ step-rigid-spec =
     end-at-requires
     add-end-at-2
     end-at-requires-2
-    put-item-requires
+    put-goal-requires
     add-second
     add-t15
     add-t16
-    put-item-requires-2
+    put-goal-requires-2
     add-t16-2
     same-length
     returns-2)

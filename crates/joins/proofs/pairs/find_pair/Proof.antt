@@ -1,13 +1,13 @@
 -- `joins::pairs::find_pair` meets its contract. The loop's invariant: the constants are none of the pairs passed, each of which stands for
 -- one local; the measure is how many pairs are left. Assumes nothing.
 use native.Mathlib.Omega.{arith}
-use Rattle.joins.proofs.Spines.{Passed, passed-first, passed-pair, passed-next, passed-all}
+use Rattle.joins.proofs.Spines.{PairPassed, passed-first, passed-pair, passed-next, passed-all}
 use borrow.Author.Needs.{needs}
 use Rattle.joins.proofs.pairs.find_pair.Statement.{statement}
 use Rattle.joins.proofs.pairs.find_pair.Tie as tie
 
 abbrev Inv-loop : tie.InvT-loop
-Inv-loop p q m n d k₀ k = Passed p q m n d k
+Inv-loop p q m n d k₀ k = PairPassed p q m n d k
 
 abbrev μ-loop : tie.MeasureT-loop
 μ-loop p q m n d k₀ k = k

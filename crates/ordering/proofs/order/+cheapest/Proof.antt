@@ -8,7 +8,7 @@ use borrow.Fn.PlainCycle.{Measures, is, falls, and}
 use Rattle.ordering.proofs.order.cheapest.Reads as cheapest
 use Rattle.ordering.proofs.order.cheapest.Kinds as cheapest-kinds
 use Rattle.ordering.proofs.order.+cheapest.Lts-cheapest as cheapest-lts
-use Rattle.agenda.proofs.item_at.Reads as item-at-reads
+use Rattle.agenda.proofs.goal_at.Reads as goal-at-reads
 use Rattle.ordering.proofs.order.cost.Reads as cost-reads
 use Rattle.ordering.proofs.order.+cheapest.{statement}
 use Rattle.ordering.proofs.order.+cheapest.Tie.{close}
@@ -28,8 +28,8 @@ abbrev cheapest-in : ℕ → (cheapest-lts.Claims → In 2 cheapest-kinds.ps →
 cheapest-in t X = X (
   cost-reads.Asked,
   cost-reads.Learnt,
-  item-at-reads.Asked,
-  item-at-reads.Learnt,
+  goal-at-reads.Asked,
+  goal-at-reads.Learnt,
   cheapest-below t,
   cheapest.Post,
 ) (cheapest-at t) cheapest.Post
@@ -37,8 +37,8 @@ cheapest-in t X = X (
 cheapest-cost-requires : (t : ℕ) → cheapest-in t cheapest-lts.Need-cost-requires
 cheapest-cost-requires t c κs = ranks-weighs (c .before .before .pre .1)
 
-cheapest-item-at-requires : (t : ℕ) → cheapest-in t cheapest-lts.Need-item-at-requires
-cheapest-item-at-requires t c κs = c .before .before .before .pre .1 .within
+cheapest-goal-at-requires : (t : ℕ) → cheapest-in t cheapest-lts.Need-goal-at-requires
+cheapest-goal-at-requires t c κs = c .before .before .before .pre .1 .within
 
 cheapest-returns : (t : ℕ) → cheapest-in t cheapest-lts.Need-returns
 cheapest-returns t c =
@@ -48,16 +48,16 @@ cheapest-returns t c =
 cheapest-cheapest-requires : (t : ℕ) → cheapest-in t cheapest-lts.Need-cheapest-requires
 cheapest-cheapest-requires t c κs =
     let start : cheapest-in t cheapest-lts.Start = search in (
-      omega (arith, start .pre .1 .falls, c .before .item-at .ensures .0 .next),
-      ranks-next (start .pre .1) (c .before .item-at .ensures .0) (c .if1 .left),
+      omega (arith, start .pre .1 .falls, c .before .goal-at .ensures .0 .next),
+      ranks-next (start .pre .1) (c .before .goal-at .ensures .0) (c .if1 .left),
     )
 
 cheapest-returns-2 : (t : ℕ) → cheapest-in t cheapest-lts.Need-returns-2
 cheapest-returns-2 t c =
     let cheapest-point : cheapest-in t cheapest-lts.After-cheapest = search in
-    let item-at : cheapest-in t cheapest-lts.After-item-at = search in
+    let goal-at : cheapest-in t cheapest-lts.After-goal-at = search in
     let start : cheapest-in t cheapest-lts.Start = search in
-    ranks-further (start .pre .1) (item-at .item-at .ensures .0) (cheapest-point .cheapest .ensures)
+    ranks-further (start .pre .1) (goal-at .goal-at .ensures .0) (cheapest-point .cheapest .ensures)
 
 cheapest-returns-3 : (t : ℕ) → cheapest-in t cheapest-lts.Need-returns-3
 cheapest-returns-3 t c =
@@ -68,15 +68,15 @@ pub +cheapest-spec : {M : Type 1} → statement M
 +cheapest-spec = close μ-cheapest λ t. cheapest-lts.spec (
   cost-reads.Asked,
   cost-reads.Learnt,
-  item-at-reads.Asked,
-  item-at-reads.Learnt,
+  goal-at-reads.Asked,
+  goal-at-reads.Learnt,
   cheapest-below t,
   cheapest.Post,
 )
     (cheapest-at t)
     cheapest.Post
     (cheapest-cost-requires t)
-    (cheapest-item-at-requires t)
+    (cheapest-goal-at-requires t)
     (cheapest-returns t)
     (cheapest-cheapest-requires t)
     (cheapest-returns-2 t)

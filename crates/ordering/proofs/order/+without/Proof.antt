@@ -10,9 +10,9 @@ use borrow.Fn.PlainCycle.{Measures, is, falls, and}
 use Rattle.ordering.proofs.order.without.Reads as without
 use Rattle.ordering.proofs.order.without.Kinds as without-kinds
 use Rattle.ordering.proofs.order.+without.Lts-without as without-lts
-use Rattle.agenda.proofs.item_at.Reads as item-at-reads
+use Rattle.agenda.proofs.goal_at.Reads as goal-at-reads
 use Rattle.ordering.proofs.order.linked.Reads as linked-reads
-use Rattle.agenda.proofs.put_item.Reads as put-item-reads
+use Rattle.agenda.proofs.put_goal.Reads as put-goal-reads
 use Rattle.ordering.proofs.order.+without.{statement}
 use Rattle.ordering.proofs.order.+without.Tie.{close}
 
@@ -28,18 +28,18 @@ without-below t = and 1 without-kinds.ps (falls 1 without-kinds.ps _<_ μ-withou
 -- `without-in t X`: the place or the need X of `without`, whose calls within the cycle have a measure below t.
 abbrev without-in : ℕ → (without-lts.Claims → In 1 without-kinds.ps → Out 1 without-kinds.ps without-kinds.r → Type 0) → Type 0
 without-in t X = X (
-  item-at-reads.Asked,
-  item-at-reads.Learnt,
+  goal-at-reads.Asked,
+  goal-at-reads.Learnt,
   without-below t,
   without.Post,
   linked-reads.Asked,
   linked-reads.Learnt,
-  put-item-reads.Asked,
-  put-item-reads.Learnt,
+  put-goal-reads.Asked,
+  put-goal-reads.Learnt,
 ) (without-at t) without.Post
 
-without-item-at-requires : (t : ℕ) → without-in t without-lts.Need-item-at-requires
-without-item-at-requires t c κs = omega arith
+without-goal-at-requires : (t : ℕ) → without-in t without-lts.Need-goal-at-requires
+without-goal-at-requires t c κs = omega arith
 
 without-same-length : (t : ℕ) → without-in t without-lts.Need-same-length
 without-same-length t c = refl
@@ -53,15 +53,15 @@ without-without-requires t c κs = search (needs, drops-next)
 without-linked-requires : (t : ℕ) → without-in t without-lts.Need-linked-requires
 without-linked-requires t c κs = search needs
 
-without-put-item-requires : (t : ℕ) → without-in t without-lts.Need-put-item-requires
-without-put-item-requires t c κs =
+without-put-goal-requires : (t : ℕ) → without-in t without-lts.Need-put-goal-requires
+without-put-goal-requires t c κs =
     let without-point : without-in t without-lts.After-without = search in
     let else1 : without-in t without-lts.Else1 = search in
-    let item-at : without-in t without-lts.After-item-at = search in
+    let goal-at : without-in t without-lts.After-goal-at = search in
     let start : without-in t without-lts.Start = search in (
       omega (
         arith,
-        anew-room (start .pre .1) (item-at .item-at .ensures .0) (else1 .if1 .left) (without-point .without .ensures),
+        anew-room (start .pre .1) (goal-at .goal-at .ensures .0) (else1 .if1 .left) (without-point .without .ensures),
         without-point .without .ensures .whole,
         start .pre .1 .whole,
       ),
@@ -72,9 +72,9 @@ without-add-t17 : (t : ℕ) → without-in t without-lts.Need-add-t17
 without-add-t17 t c =
     let without-point : without-in t without-lts.After-without = search in
     let else1 : without-in t without-lts.Else1 = search in
-    let item-at : without-in t without-lts.After-item-at = search in
+    let goal-at : without-in t without-lts.After-goal-at = search in
     let start : without-in t without-lts.Start = search in
-    omega (arith, anew-room (start .pre .1) (item-at .item-at .ensures .0) (else1 .if1 .left) (without-point .without .ensures))
+    omega (arith, anew-room (start .pre .1) (goal-at .goal-at .ensures .0) (else1 .if1 .left) (without-point .without .ensures))
 
 without-same-length-2 : (t : ℕ) → without-in t without-lts.Need-same-length-2
 without-same-length-2 t c = search needs
@@ -84,23 +84,23 @@ without-returns-2 t c = search (needs, dropped-further)
 
 pub +without-spec : {M : Type 1} → statement M
 +without-spec = close μ-without λ t. without-lts.spec (
-  item-at-reads.Asked,
-  item-at-reads.Learnt,
+  goal-at-reads.Asked,
+  goal-at-reads.Learnt,
   without-below t,
   without.Post,
   linked-reads.Asked,
   linked-reads.Learnt,
-  put-item-reads.Asked,
-  put-item-reads.Learnt,
+  put-goal-reads.Asked,
+  put-goal-reads.Learnt,
 )
     (without-at t)
     without.Post
-    (without-item-at-requires t)
+    (without-goal-at-requires t)
     (without-same-length t)
     (without-returns t)
     (without-without-requires t)
     (without-linked-requires t)
-    (without-put-item-requires t)
+    (without-put-goal-requires t)
     (without-add-t17 t)
     (without-same-length-2 t)
     (without-returns-2 t)

@@ -6,8 +6,8 @@ use borrow.Author.Needs.{needs}
 use Rattle.ordering.proofs.order.bring_forward.Statement.{statement}
 use Rattle.ordering.proofs.order.bring_forward.Tie as tie
 
-item-at-requires : tie.Need-item-at-requires
-item-at-requires c κs = search needs
+goal-at-requires : tie.Need-goal-at-requires
+goal-at-requires c κs = search needs
 
 same-length : tie.Need-same-length
 same-length c = search needs
@@ -24,8 +24,8 @@ same-length-2 c = search needs
 returns-2 : tie.Need-returns-2
 returns-2 c = search (needs, forwarded-same)
 
-item-at-requires-2 : tie.Need-item-at-requires-2
-item-at-requires-2 c κs = search (needs, reached-room)
+goal-at-requires-2 : tie.Need-goal-at-requires-2
+goal-at-requires-2 c κs = search (needs, reached-room)
 
 without-requires : tie.Need-without-requires
 without-requires c κs = search (needs, ready-drops)
@@ -33,36 +33,36 @@ without-requires c κs = search (needs, ready-drops)
 linked-requires : tie.Need-linked-requires
 linked-requires c κs = search needs
 
-put-item-requires : tie.Need-put-item-requires
-put-item-requires c κs =
+put-goal-requires : tie.Need-put-goal-requires
+put-goal-requires c κs =
     let without : tie.After-without = search in
-    let item-at2 : tie.After-item-at2 = search in
+    let goal-at2 : tie.After-goal-at2 = search in
     let cheapest : tie.After-cheapest = search in
     let slice-known : tie.After-slice-known = search in
     let start : tie.Start = search in (
       omega (
         arith,
         forward-room (start .pre .0) (start .pre .1) (start .pre .2) (cheapest .cheapest .ensures)
-            (item-at2 .item-at2 .ensures .0) (without .without .ensures),
+            (goal-at2 .goal-at2 .ensures .0) (without .without .ensures),
         without .without .ensures .whole,
         start .pre .0 .bounds .whole,
       ),
-      forward-fits (start .pre .0) (start .pre .1) (start .pre .2) (cheapest .cheapest .ensures) (item-at2 .item-at2 .ensures .0)
-          (without .without .ensures) (item-at2 .item-at2 .ensures .1) (c .linked .ensures),
+      forward-fits (start .pre .0) (start .pre .1) (start .pre .2) (cheapest .cheapest .ensures) (goal-at2 .goal-at2 .ensures .0)
+          (without .without .ensures) (goal-at2 .goal-at2 .ensures .1) (c .linked .ensures),
     )
 
 add-t24 : tie.Need-add-t24
 add-t24 c =
     let work : tie.After-work = search in
     let without : tie.After-without = search in
-    let item-at2 : tie.After-item-at2 = search in
+    let goal-at2 : tie.After-goal-at2 = search in
     let cheapest : tie.After-cheapest = search in
     let slice-known : tie.After-slice-known = search in
     let start : tie.Start = search in
     omega (
       arith,
       forward-room (start .pre .0) (start .pre .1) (start .pre .2) (cheapest .cheapest .ensures)
-          (item-at2 .item-at2 .ensures .0) (without .without .ensures),
+          (goal-at2 .goal-at2 .ensures .0) (without .without .ensures),
     )
 
 same-length-3 : tie.Need-same-length-3
@@ -73,24 +73,24 @@ returns-3 c =
     let without : tie.After-without = search in
     let cheapest : tie.After-cheapest = search in
     let start : tie.Start = search in
-    let item-at2 : tie.After-item-at2 = search in
-    forwarded (start .pre .0) (start .pre .1) (start .pre .2) (cheapest .cheapest .ensures) (item-at2 .item-at2 .ensures .0)
-    (without .without .ensures) (c .before .before .before .linked .ensures) (c .before .before .put-item .ensures)
+    let goal-at2 : tie.After-goal-at2 = search in
+    forwarded (start .pre .0) (start .pre .1) (start .pre .2) (cheapest .cheapest .ensures) (goal-at2 .goal-at2 .ensures .0)
+    (without .without .ensures) (c .before .before .before .linked .ensures) (c .before .before .put-goal .ensures)
 
 pub bring-forward-spec : {M : Type 1} → statement M
 bring-forward-spec =
     tie.close
     (tie.spec
-    item-at-requires
+    goal-at-requires
     same-length
     returns
     cheapest-requires
     same-length-2
     returns-2
-    item-at-requires-2
+    goal-at-requires-2
     without-requires
     linked-requires
-    put-item-requires
+    put-goal-requires
     add-t24
     same-length-3
     returns-3)

@@ -5,23 +5,23 @@ use borrow.Author.Needs.{needs}
 use Rattle.ordering.proofs.order.cost.Statement.{statement}
 use Rattle.ordering.proofs.order.cost.Tie as tie
 
-item-at-requires : tie.Need-item-at-requires
-item-at-requires c κs = search needs
+goal-at-requires : tie.Need-goal-at-requires
+goal-at-requires c κs = search needs
 
 end-at-requires : tie.Need-end-at-requires
 end-at-requires c κs = search (needs, weighs-part)
 
-sub-is-ground : tie.Need-sub-is-ground
-sub-is-ground c = search needs
+sub-is-assigned : tie.Need-sub-is-assigned
+sub-is-assigned c = search needs
 
-part-is-ground-start : tie.Need-part-is-ground-start
-part-is-ground-start c = search needs
+part-is-assigned-start : tie.Need-part-is-assigned-start
+part-is-assigned-start c = search needs
 
-part-is-ground-end : tie.Need-part-is-ground-end
-part-is-ground-end c = search needs
+part-is-assigned-end : tie.Need-part-is-assigned-end
+part-is-assigned-end c = search needs
 
-is-ground-requires : tie.Need-is-ground-requires
-is-ground-requires c κs = search (needs, weighs-entries)
+is-assigned-requires : tie.Need-is-assigned-requires
+is-assigned-requires c κs = search (needs, weighs-entries)
 
 returns : tie.Need-returns
 returns c = search needs
@@ -51,12 +51,12 @@ pub cost-spec : {M : Type 1} → statement M
 cost-spec =
     tie.close
     (tie.spec
-    item-at-requires
+    goal-at-requires
     end-at-requires
-    sub-is-ground
-    part-is-ground-start
-    part-is-ground-end
-    is-ground-requires
+    sub-is-assigned
+    part-is-assigned-start
+    part-is-assigned-end
+    is-assigned-requires
     returns
     candidates-requires
     returns-2

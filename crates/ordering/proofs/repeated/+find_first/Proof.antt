@@ -9,7 +9,7 @@ use borrow.Fn.PlainCycle.{Measures, is, falls, and}
 use Rattle.ordering.proofs.repeated.find_first.Reads as find-first
 use Rattle.ordering.proofs.repeated.find_first.Kinds as find-first-kinds
 use Rattle.ordering.proofs.repeated.+find_first.Lts-find_first as find-first-lts
-use Rattle.agenda.proofs.item_at.Reads as item-at-reads
+use Rattle.agenda.proofs.goal_at.Reads as goal-at-reads
 use Rattle.ordering.proofs.repeated.find_second.Reads as find-second-reads
 use Rattle.ordering.proofs.repeated.+find_first.{statement}
 use Rattle.ordering.proofs.repeated.+find_first.Tie.{close}
@@ -31,8 +31,8 @@ abbrev find-first-in :
     (find-first-lts.Claims → In 2 find-first-kinds.ps → Out 2 find-first-kinds.ps find-first-kinds.r → Type 0) →
     Type 0
 find-first-in t X = X (
-  item-at-reads.Asked,
-  item-at-reads.Learnt,
+  goal-at-reads.Asked,
+  goal-at-reads.Learnt,
   find-first-below t,
   find-first.Post,
   find-second-reads.Asked,
@@ -42,15 +42,15 @@ find-first-in t X = X (
 find-first-returns : (t : ℕ) → find-first-in t find-first-lts.Need-returns
 find-first-returns t c = finds-nothing _ _ _
 
-find-first-item-at-requires : (t : ℕ) → find-first-in t find-first-lts.Need-item-at-requires
-find-first-item-at-requires t c κs = search needs
+find-first-goal-at-requires : (t : ℕ) → find-first-in t find-first-lts.Need-goal-at-requires
+find-first-goal-at-requires t c κs = search needs
 
 find-first-find-first-requires : (t : ℕ) → find-first-in t find-first-lts.Need-find-first-requires
 find-first-find-first-requires t c κs =
-    let item-at : find-first-in t find-first-lts.After-item-at = search in
+    let goal-at : find-first-in t find-first-lts.After-goal-at = search in
     let else1 : find-first-in t find-first-lts.Else1 = search in
     let start : find-first-in t find-first-lts.Start = search in
-    (omega (arith, listed-falls (start .pre .1) (else1 .if1 .left) (item-at .item-at .ensures .0)), search (needs, listed-next))
+    (omega (arith, listed-falls (start .pre .1) (else1 .if1 .left) (goal-at .goal-at .ensures .0)), search (needs, listed-next))
 
 find-first-returns-2 : (t : ℕ) → find-first-in t find-first-lts.Need-returns-2
 find-first-returns-2 t c = search (needs, finds-further)
@@ -66,10 +66,10 @@ find-first-enum-told t c = search needs
 
 find-first-find-first-requires-2 : (t : ℕ) → find-first-in t find-first-lts.Need-find-first-requires-2
 find-first-find-first-requires-2 t c κs =
-    let item-at : find-first-in t find-first-lts.After-item-at = search in
+    let goal-at : find-first-in t find-first-lts.After-goal-at = search in
     let else1 : find-first-in t find-first-lts.Else1 = search in
     let start : find-first-in t find-first-lts.Start = search in
-    (omega (arith, listed-falls (start .pre .1) (else1 .if1 .left) (item-at .item-at .ensures .0)), search (needs, listed-next))
+    (omega (arith, listed-falls (start .pre .1) (else1 .if1 .left) (goal-at .goal-at .ensures .0)), search (needs, listed-next))
 
 find-first-returns-3 : (t : ℕ) → find-first-in t find-first-lts.Need-returns-3
 find-first-returns-3 t c = search (needs, finds-here)
@@ -79,8 +79,8 @@ find-first-returns-4 t c = search (needs, finds-further)
 
 pub +find-first-spec : {M : Type 1} → statement M
 +find-first-spec = close μ-find-first λ t. find-first-lts.spec (
-  item-at-reads.Asked,
-  item-at-reads.Learnt,
+  goal-at-reads.Asked,
+  goal-at-reads.Learnt,
   find-first-below t,
   find-first.Post,
   find-second-reads.Asked,
@@ -89,7 +89,7 @@ pub +find-first-spec : {M : Type 1} → statement M
     (find-first-at t)
     find-first.Post
     (find-first-returns t)
-    (find-first-item-at-requires t)
+    (find-first-goal-at-requires t)
     (find-first-find-first-requires t)
     (find-first-returns-2 t)
     (find-first-find-second-requires t)

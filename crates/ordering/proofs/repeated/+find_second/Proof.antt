@@ -9,7 +9,7 @@ use borrow.Fn.PlainCycle.{Measures, is, falls, and}
 use Rattle.ordering.proofs.repeated.find_second.Reads as find-second
 use Rattle.ordering.proofs.repeated.find_second.Kinds as find-second-kinds
 use Rattle.ordering.proofs.repeated.+find_second.Lts-find_second as find-second-lts
-use Rattle.agenda.proofs.item_at.Reads as item-at-reads
+use Rattle.agenda.proofs.goal_at.Reads as goal-at-reads
 use Rattle.joins.proofs.pairs.spines_at.Reads as spines-at-reads
 use Rattle.ordering.proofs.repeated.+find_second.{statement}
 use Rattle.ordering.proofs.repeated.+find_second.Tie.{close}
@@ -31,8 +31,8 @@ abbrev find-second-in :
     (find-second-lts.Claims → In 2 find-second-kinds.ps → Out 2 find-second-kinds.ps find-second-kinds.r → Type 0) →
     Type 0
 find-second-in t X = X (
-  item-at-reads.Asked,
-  item-at-reads.Learnt,
+  goal-at-reads.Asked,
+  goal-at-reads.Learnt,
   find-second-below t,
   find-second.Post,
   spines-at-reads.Asked,
@@ -42,15 +42,15 @@ find-second-in t X = X (
 find-second-returns : (t : ℕ) → find-second-in t find-second-lts.Need-returns
 find-second-returns t c = later-nothing _ _ _ _ _
 
-find-second-item-at-requires : (t : ℕ) → find-second-in t find-second-lts.Need-item-at-requires
-find-second-item-at-requires t c κs = search needs
+find-second-goal-at-requires : (t : ℕ) → find-second-in t find-second-lts.Need-goal-at-requires
+find-second-goal-at-requires t c κs = search needs
 
 find-second-find-second-requires : (t : ℕ) → find-second-in t find-second-lts.Need-find-second-requires
 find-second-find-second-requires t c κs =
-    let item-at : find-second-in t find-second-lts.After-item-at = search in
+    let goal-at : find-second-in t find-second-lts.After-goal-at = search in
     let else1 : find-second-in t find-second-lts.Else1 = search in
     let start : find-second-in t find-second-lts.Start = search in
-    (omega (arith, listed-falls (start .pre .1 .0) (else1 .if1 .left) (item-at .item-at .ensures .0)), search (needs, listed-next))
+    (omega (arith, listed-falls (start .pre .1 .0) (else1 .if1 .left) (goal-at .goal-at .ensures .0)), search (needs, listed-next))
 
 find-second-returns-2 : (t : ℕ) → find-second-in t find-second-lts.Need-returns-2
 find-second-returns-2 t c = search (needs, later-further)
@@ -66,10 +66,10 @@ find-second-enum-told t c = search needs
 
 find-second-find-second-requires-2 : (t : ℕ) → find-second-in t find-second-lts.Need-find-second-requires-2
 find-second-find-second-requires-2 t c κs =
-    let item-at : find-second-in t find-second-lts.After-item-at = search in
+    let goal-at : find-second-in t find-second-lts.After-goal-at = search in
     let else1 : find-second-in t find-second-lts.Else1 = search in
     let start : find-second-in t find-second-lts.Start = search in
-    (omega (arith, listed-falls (start .pre .1 .0) (else1 .if1 .left) (item-at .item-at .ensures .0)), search (needs, listed-next))
+    (omega (arith, listed-falls (start .pre .1 .0) (else1 .if1 .left) (goal-at .goal-at .ensures .0)), search (needs, listed-next))
 
 find-second-returns-3 : (t : ℕ) → find-second-in t find-second-lts.Need-returns-3
 find-second-returns-3 t c = search (needs, later-here)
@@ -79,8 +79,8 @@ find-second-returns-4 t c = search (needs, later-further)
 
 pub +find-second-spec : {M : Type 1} → statement M
 +find-second-spec = close μ-find-second λ t. find-second-lts.spec (
-  item-at-reads.Asked,
-  item-at-reads.Learnt,
+  goal-at-reads.Asked,
+  goal-at-reads.Learnt,
   find-second-below t,
   find-second.Post,
   spines-at-reads.Asked,
@@ -89,7 +89,7 @@ pub +find-second-spec : {M : Type 1} → statement M
     (find-second-at t)
     find-second.Post
     (find-second-returns t)
-    (find-second-item-at-requires t)
+    (find-second-goal-at-requires t)
     (find-second-find-second-requires t)
     (find-second-returns-2 t)
     (find-second-spines-at-requires t)

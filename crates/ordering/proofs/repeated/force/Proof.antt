@@ -23,11 +23,11 @@ same-length c = search needs
 returns : tie.Need-returns
 returns c = search (needs, decided-open)
 
-item-at-requires : tie.Need-item-at-requires
-item-at-requires c κs = search (needs, first-room, found)
+goal-at-requires : tie.Need-goal-at-requires
+goal-at-requires c κs = search (needs, first-room, found)
 
-item-at-requires-2 : tie.Need-item-at-requires-2
-item-at-requires-2 c κs = search (needs, second-room, found)
+goal-at-requires-2 : tie.Need-goal-at-requires-2
+goal-at-requires-2 c κs = search (needs, second-room, found)
 
 slice-aggregate-join-into : tie.Need-slice-aggregate-join-into
 slice-aggregate-join-into c = search needs
@@ -52,15 +52,15 @@ returns-2 c =
 sub-n : tie.Need-sub-n
 sub-n c =
     let join-into : tie.After-join-into = search in
-    let item-at2 : tie.After-item-at2 = search in
-    let item-at : tie.After-item-at = search in
+    let goal-at2 : tie.After-goal-at2 = search in
+    let goal-at : tie.After-goal-at = search in
     let search-point : tie.After-search = search in
     let find-first : tie.After-find-first = search in
     let start : tie.Start = search in
     omega (
       arith,
       target-ends (start .pre .0) (found _ _ _ _ _ (search-point .search .given .1) (find-first .find-first .ensures))
-          (item-at .item-at .ensures .0) (item-at2 .item-at2 .ensures .0) (join-into .join-into .ensures) (c .before .walk .given .1),
+          (goal-at .goal-at .ensures .0) (goal-at2 .goal-at2 .ensures .0) (join-into .join-into .ensures) (c .before .walk .given .1),
     )
 
 sub-enclose-into : tie.Need-sub-enclose-into
@@ -73,36 +73,36 @@ part-enclose-into-end : tie.Need-part-enclose-into-end
 part-enclose-into-end c =
     let walk : tie.After-walk = search in
     let join-into : tie.After-join-into = search in
-    let item-at2 : tie.After-item-at2 = search in
-    let item-at : tie.After-item-at = search in
+    let goal-at2 : tie.After-goal-at2 = search in
+    let goal-at : tie.After-goal-at = search in
     let search-point : tie.After-search = search in
     let find-first : tie.After-find-first = search in
     let start : tie.Start = search in
     omega (
       arith,
       target-within (start .pre .0) (found _ _ _ _ _ (search-point .search .given .1) (find-first .find-first .ensures))
-          (item-at .item-at .ensures .0) (item-at2 .item-at2 .ensures .0) (join-into .join-into .ensures) (walk .walk .given .1),
+          (goal-at .goal-at .ensures .0) (goal-at2 .goal-at2 .ensures .0) (join-into .join-into .ensures) (walk .walk .given .1),
     )
 
 enclose-into-requires : tie.Need-enclose-into-requires
 enclose-into-requires c κs =
     let walk : tie.After-walk = search in
     let join-into : tie.After-join-into = search in
-    let item-at2 : tie.After-item-at2 = search in
-    let item-at : tie.After-item-at = search in
+    let goal-at2 : tie.After-goal-at2 = search in
+    let goal-at : tie.After-goal-at = search in
     let search-point : tie.After-search = search in
     let find-first : tie.After-find-first = search in
     let start : tie.Start = search in
     forced-encloses (start .pre .0) (found _ _ _ _ _ (search-point .search .given .1) (find-first .find-first .ensures))
-    (item-at .item-at .ensures .0) (item-at2 .item-at2 .ensures .0) (join-into .join-into .ensures) (walk .walk .given .1) (omega arith)
+    (goal-at .goal-at .ensures .0) (goal-at2 .goal-at2 .ensures .0) (join-into .join-into .ensures) (walk .walk .given .1) (omega arith)
 
 without-requires : tie.Need-without-requires
 without-requires c κs =
     let enclose-into : tie.After-enclose-into = search in
     let walk : tie.After-walk = search in
     let join-into : tie.After-join-into = search in
-    let item-at2 : tie.After-item-at2 = search in
-    let item-at : tie.After-item-at = search in
+    let goal-at2 : tie.After-goal-at2 = search in
+    let goal-at : tie.After-goal-at = search in
     let search-point : tie.After-search = search in
     let find-first : tie.After-find-first = search in
     let start : tie.Start = search in
@@ -114,44 +114,44 @@ without-requires-2 c κs =
     let enclose-into : tie.After-enclose-into = search in
     let walk : tie.After-walk = search in
     let join-into : tie.After-join-into = search in
-    let item-at2 : tie.After-item-at2 = search in
-    let item-at : tie.After-item-at = search in
+    let goal-at2 : tie.After-goal-at2 = search in
+    let goal-at : tie.After-goal-at = search in
     let search-point : tie.After-search = search in
     let find-first : tie.After-find-first = search in
     let start : tie.Start = search in
     search (needs, forced-drops-two, found)
 
-match-item-requires : tie.Need-match-item-requires
-match-item-requires c κs = search needs
+match-goal-requires : tie.Need-match-goal-requires
+match-goal-requires c κs = search needs
 
-put-item-requires : tie.Need-put-item-requires
-put-item-requires c κs =
+put-goal-requires : tie.Need-put-goal-requires
+put-goal-requires c κs =
     let without2 : tie.After-without2 = search in
     let without : tie.After-without = search in
     let enclose-into : tie.After-enclose-into = search in
     let walk : tie.After-walk = search in
     let join-into : tie.After-join-into = search in
-    let item-at2 : tie.After-item-at2 = search in
-    let item-at : tie.After-item-at = search in
+    let goal-at2 : tie.After-goal-at2 = search in
+    let goal-at : tie.After-goal-at = search in
     let search-point : tie.After-search = search in
     let find-first : tie.After-find-first = search in
     let start : tie.Start = search in (
       omega (
         arith,
         forced-room (start .pre .0) (found _ _ _ _ _ (search-point .search .given .1) (find-first .find-first .ensures))
-            (item-at .item-at .ensures .0) (item-at2 .item-at2 .ensures .0) (join-into .join-into .ensures)
+            (goal-at .goal-at .ensures .0) (goal-at2 .goal-at2 .ensures .0) (join-into .join-into .ensures)
             (walk .walk .given .1) (omega arith)
             (enclose-into .enclose-into .ensures) (without .without .ensures) (without2 .without2 .ensures),
         forced-whole (start .pre .0)
-            (found _ _ _ _ _ (search-point .search .given .1) (find-first .find-first .ensures)) (item-at .item-at .ensures .0)
-            (item-at2 .item-at2 .ensures .0) (join-into .join-into .ensures) (walk .walk .given .1) (omega arith)
+            (found _ _ _ _ _ (search-point .search .given .1) (find-first .find-first .ensures)) (goal-at .goal-at .ensures .0)
+            (goal-at2 .goal-at2 .ensures .0) (join-into .join-into .ensures) (walk .walk .given .1) (omega arith)
             (enclose-into .enclose-into .ensures) (without .without .ensures) (without2 .without2 .ensures),
       ),
       forced-fits (start .pre .0) (found _ _ _ _ _ (search-point .search .given .1) (find-first .find-first .ensures))
-          (item-at .item-at .ensures .0) (item-at2 .item-at2 .ensures .0) (join-into .join-into .ensures)
+          (goal-at .goal-at .ensures .0) (goal-at2 .goal-at2 .ensures .0) (join-into .join-into .ensures)
           (walk .walk .given .1) (omega arith)
           (enclose-into .enclose-into .ensures) (without .without .ensures) (without2 .without2 .ensures) (start .pre .1)
-          (c .before .match-item .ensures),
+          (c .before .match-goal .ensures),
     )
 
 add-t32 : tie.Need-add-t32
@@ -161,15 +161,15 @@ add-t32 c =
     let enclose-into : tie.After-enclose-into = search in
     let walk : tie.After-walk = search in
     let join-into : tie.After-join-into = search in
-    let item-at2 : tie.After-item-at2 = search in
-    let item-at : tie.After-item-at = search in
+    let goal-at2 : tie.After-goal-at2 = search in
+    let goal-at : tie.After-goal-at = search in
     let search-point : tie.After-search = search in
     let find-first : tie.After-find-first = search in
     let start : tie.Start = search in
     omega (
       arith,
       forced-room (start .pre .0) (found _ _ _ _ _ (search-point .search .given .1) (find-first .find-first .ensures))
-          (item-at .item-at .ensures .0) (item-at2 .item-at2 .ensures .0) (join-into .join-into .ensures)
+          (goal-at .goal-at .ensures .0) (goal-at2 .goal-at2 .ensures .0) (join-into .join-into .ensures)
           (walk .walk .given .1) (omega arith)
           (enclose-into .enclose-into .ensures) (without .without .ensures) (without2 .without2 .ensures),
     )
@@ -179,22 +179,22 @@ same-length-3 c = search needs
 
 returns-3 : tie.Need-returns-3
 returns-3 c =
-    let put-item : tie.After-put-item = search in
-    let match-item : tie.After-match-item = search in
+    let put-goal : tie.After-put-goal = search in
+    let match-goal : tie.After-match-goal = search in
     let without2 : tie.After-without2 = search in
     let without : tie.After-without = search in
     let enclose-into : tie.After-enclose-into = search in
     let walk : tie.After-walk = search in
     let join-into : tie.After-join-into = search in
-    let item-at2 : tie.After-item-at2 = search in
-    let item-at : tie.After-item-at = search in
+    let goal-at2 : tie.After-goal-at2 = search in
+    let goal-at : tie.After-goal-at = search in
     let search-point : tie.After-search = search in
     let find-first : tie.After-find-first = search in
     let start : tie.Start = search in
     decided-next (start .pre .0) (found _ _ _ _ _ (search-point .search .given .1) (find-first .find-first .ensures))
-    (item-at .item-at .ensures .0) (item-at2 .item-at2 .ensures .0) (join-into .join-into .ensures) (walk .walk .given .1) (omega arith)
+    (goal-at .goal-at .ensures .0) (goal-at2 .goal-at2 .ensures .0) (join-into .join-into .ensures) (walk .walk .given .1) (omega arith)
     (enclose-into .enclose-into .ensures) (without .without .ensures) (without2 .without2 .ensures) (start .pre .1)
-    (match-item .match-item .ensures) (put-item .put-item .ensures)
+    (match-goal .match-goal .ensures) (put-goal .put-goal .ensures)
 
 pub force-spec : {M : Type 1} → statement M
 force-spec =
@@ -205,8 +205,8 @@ force-spec =
     enum-told
     same-length
     returns
-    item-at-requires
-    item-at-requires-2
+    goal-at-requires
+    goal-at-requires-2
     slice-aggregate-join-into
     join-into-requires
     enum-known-walk
@@ -220,8 +220,8 @@ force-spec =
     enclose-into-requires
     without-requires
     without-requires-2
-    match-item-requires
-    put-item-requires
+    match-goal-requires
+    put-goal-requires
     add-t32
     same-length-3
     returns-3)

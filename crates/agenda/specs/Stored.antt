@@ -1,0 +1,36 @@
+-- Goals as the code reads and writes them.
+--   storedBytes r                           the eight bytes of the stored goal r
+--   StoredAt W at r                         the stored goal r stands in W at byte `at`
+--   StoredFits r                            the fields of r fit their bytes
+--   storedMatch part target next            the goal that the part sweeps to the target
+--   storedBuild part target next argument   the goal that the part builds the target from the argument's target
+use mathlib.Core.Path.{_≡_}
+use mathlib.Core.List.{List, [], _∷_}
+use Prim.Native.Nat.{ℕ, _+_, _/_, _%_, _<_}
+use lib.ListN.{getD}
+use Rattle.agenda.specs.declared.StoredGoal.{StoredGoal}
+use Rattle.agenda.specs.State.{patternAt, targetAt, nextAt, argumentAt}
+
+abbrev pub storedBytes : StoredGoal → List ℕ
+storedBytes r =
+    (r .part / 4) ∷ r .kind ∷ (r .target / 4 / 256) ∷ (r .target / 4 % 256) ∷ (r .next / 4 / 256) ∷ (r .next / 4 % 256)
+    ∷ (r .argument / 4 / 256) ∷ (r .argument / 4 % 256) ∷ []
+
+pub record StoredFits (r : StoredGoal) : Type 0 where
+  pub part : r .part < 1024
+  pub target : r .target < 262144
+  pub next : r .next < 262144
+  pub argument : r .argument < 262144
+
+pub record StoredAt (W : List ℕ) (at : ℕ) (r : StoredGoal) : Type 0 where
+  pub part : r .part ≡ patternAt W at
+  pub kind : r .kind ≡ getD W (at + 1) 0
+  pub target : r .target ≡ targetAt W at
+  pub next : r .next ≡ nextAt W at
+  pub argument : r .argument ≡ argumentAt W at
+
+abbrev pub storedMatch : ℕ → ℕ → ℕ → StoredGoal
+storedMatch part target next = record { part = part; kind = 0; target = target; next = next; argument = 0 }
+
+abbrev pub storedBuild : ℕ → ℕ → ℕ → ℕ → StoredGoal
+storedBuild part target next argument = record { part = part; kind = 1; target = target; next = next; argument = argument }

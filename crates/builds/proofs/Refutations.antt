@@ -1,0 +1,258 @@
+-- Skeletons of parts of the pattern, the goals that they refuse and those that they decide. An assignment that extends the line gives each
+-- assigned variable its value in the work area, so that the swept part fits the skeleton: it is the skeleton where that has no hole, and a
+-- goal whose target doesn't fit has no assignment. Assumes nothing.
+use mathlib.Core.Path.{_≡_, refl, sym, ap, _∙_, subst}
+use mathlib.Core.Bool.{Bool, true, false}
+use mathlib.Core.List.{List}
+use Prim.Native.Nat.{ℕ, suc, _-_, _*_, _<_, _≤_}
+use native.Mathlib.Omega.{arith}
+use lib.ListN.{length, getD, take, drop}
+use lib.Seq.{sets, length-sets, length-take-le}
+use Rattle.terms.specs.Figures.{patternRecords, tableBytes}
+use Rattle.terms.specs.Term.{Term, con, var, size}
+use Rattle.terms.specs.Sweep.{sweep, fill}
+use Rattle.terms.specs.Table.{encode}
+use Rattle.terms.specs.Assignment.{valueOr}
+use Rattle.terms.specs.Listing.{Line}
+use Rattle.terms.proofs.Table.{encode-length, encode-one}
+use Rattle.matching.specs.Lists.{Values, Extends}
+use Rattle.matching.specs.Goals.{Goal, Goal.match, Goal.build, Meets}
+use Rattle.matching.specs.Skeletons.{Fits}
+use Rattle.matching.proofs.Lines.{extends-entry}
+use Rattle.matching.proofs.Partial.{totalOf}
+use Rattle.matching.proofs.Targets.{closed-more}
+use Rattle.matching.proofs.Skeletons.{fits-exact}
+use Rattle.matching.proofs.Prune.{fits-abstraction}
+use Rattle.records.specs.Parts.{Part, Whole, Ends, Tree}
+use Rattle.records.specs.Tests.{Says, Tells, Asks, Walked}
+use Rattle.records.specs.declared.Ask.the-variants.{Below as BelowAsk}
+use Rattle.records.specs.declared.Walk.{Walk}
+use Rattle.records.specs.declared.Walk.the-variants.{Upto}
+use Rattle.records.proofs.Parts.{part-bytes, whole, at-start, kind-at}
+use Rattle.assignments.specs.declared.Entry.{Entry}
+use Rattle.assignments.specs.Entries.{Given}
+use Rattle.sweeping.specs.Swept.{sweptBytes}
+use Rattle.copying.proofs.Stores.{stored}
+use Rattle.assignments.specs.Held.{Holds}
+use Rattle.skeletons.specs.Skeleton.{GivenValues, SkeletonInput, IsSkeleton, WritesSkeleton, SkeletonComparable, MayBe, SkeletonApplicable}
+use Rattle.skeletons.specs.Skeleton.{MayBuild}
+use Rattle.skeletons.specs.Contracted.{Exact}
+use Rattle.agenda.specs.declared.Agenda.{Agenda}
+use Rattle.agenda.specs.declared.Decision.{Decision}
+use Rattle.agenda.specs.declared.StoredGoal.{StoredGoal}
+use Rattle.agenda.specs.Stored.{StoredAt}
+use Rattle.agenda.specs.State.{GoalAt, Sat, Bounds, Ready, relinking}
+use Rattle.agenda.specs.Moves.{Decided}
+use Rattle.builds.specs.Refuting.{SkeletonSource, Prefix, PartSkeleton, Judges, SkeletonRefuses, Possible}
+use Rattle.builds.proofs.Decisions.{held-given, partOf, GoalOpened, opened, from, put, SweptForm}
+
+-- the values of the variables that are assigned
+module _ (P W : List ℕ) (s : Agenda) (a : List Entry) (l : Line) (bounds : Bounds P W s) (h : Holds W (s .top) a l) (t : Term) where
+  pub extended-values : (φ : ℕ → Term) → Extends φ l → GivenValues W a φ t
+  extended-values φ g i n o q =
+      let v = held-given P W s a l bounds h i n q in
+      subst (Given W a i) (sym (extends-entry φ l i (v .0) (v .1) g)) (v .2)
+
+  pub line-values : GivenValues W a (totalOf l) t
+  line-values i n o q = let v = held-given P W s a l bounds h i n q in subst (Given W a i) (sym (ap (valueOr (con 0)) (v .1))) (v .2)
+
+-- the skeleton of a part
+module _ (P : List ℕ) (i : ℕ) (W : List ℕ) (a : List Entry) (x : SkeletonSource P i W a) where
+  pub hole-sketch : (out after : List ℕ) → length out ≡ sweptBytes → after ≡ sets out 0 (encode (var 0)) → PartSkeleton P i W a after 4
+  hole-sketch out after h e = record {
+    table = record {
+      tree = var 0;
+      bytes = stored out after (encode (var 0)) 4 e refl (omega arith);
+      least = omega arith;
+      within = omega (arith, h, ap length e, length-sets out 0 (encode (var 0)));
+      most = omega arith;
+    };
+    closed = tt;
+    is-skeleton = λ t p φ v g. tt;
+  }
+
+  module _ (w : Walk) (k : Walked P i (Asks BelowAsk patternRecords) w) (end : ℕ) (e : w ≡ Upto end) where
+    walked-upto : Ends P i end × ((t : Term) → Part P i t → Asks BelowAsk patternRecords t)
+    unfolding Walked
+    walked-upto = subst (Walked P i (Asks BelowAsk patternRecords)) e k
+
+    pub part-ends : Ends P i end
+    part-ends = walked-upto .0
+
+    abbrev table : List ℕ
+    table = take (end - i) (drop i P)
+
+    table-of : (t : Term) → Part P i t → table ≡ encode t
+    table-of t p = part-bytes P i (end - i) t p (omega (arith, part-ends .exact t p))
+
+    pub skeleton-input : SkeletonInput table W a
+    skeleton-input =
+        let p = x .part in
+        let b = table-of (x .tree) p in
+        record {
+          tree = x .tree;
+          bytes = b;
+          least = omega (arith, ap length b, encode-length (x .tree), p .some);
+          most = omega (arith, ap length b, encode-length (x .tree), p .within, x .short);
+          depth = patternRecords;
+          shallow = omega (arith, p .within, x .short);
+          closed = walked-upto .1 (x .tree) p;
+          below = x .below;
+          φ = x .φ;
+          gives = x .gives;
+        }
+
+    pub part-sketch : (out after : List ℕ) (n : ℕ) → WritesSkeleton table W a out n after → length out ≡ sweptBytes
+        → PartSkeleton P i W a after (n * 4)
+    part-sketch out after n o h =
+        let b = table-of (x .tree) (x .part) in
+        let v = o .written (x .tree) b in
+        record {
+          table = record {
+            tree = v .skeleton;
+            bytes = stored out after (encode (v .skeleton)) (n * 4) (v .bytes) (omega (arith, v .sized, encode-length (v .skeleton)))
+                (omega (arith, o .few));
+            least = omega (arith, o .some);
+            within = omega (arith, h, o .few, ap length (v .bytes), length-sets out 0 (encode (v .skeleton)));
+            most = omega (arith, o .few);
+          };
+          closed = v .closed patternRecords (walked-upto .1 (x .tree) (x .part));
+          is-skeleton = λ t p. subst (λ (u : Term). IsSkeleton W a u (v .skeleton)) (encode-one (x .tree) t (sym b
+              ∙ table-of t p)) (v .is-skeleton);
+        }
+
+-- what stands in the first n bytes of c
+module _ (c : List ℕ) (n : ℕ) (k : Prefix c n) where
+  pub skeleton-part : Part (take (n - 0) (drop 0 c)) 0 (k .tree)
+  skeleton-part = at-start (take (n - 0) (drop 0 c)) (k .tree) (k .bytes)
+
+  pub skeleton-tree : Tree (take (n - 0) (drop 0 c))
+  skeleton-tree = record { tree = k .tree; bytes = k .bytes; least = omega (arith, skeleton-part .some, skeleton-part .within) }
+
+  pub skeleton-comparable : (X : List ℕ) (at : ℕ) → Whole X at → length X ≤ tableBytes → SkeletonComparable (take (n - 0) (drop 0 c)) X at
+  skeleton-comparable X at w m = record {
+    skeleton = whole (take (n - 0) (drop 0 c)) 0 (k .tree) skeleton-part;
+    least = skeleton-tree .least;
+    term = w;
+    within = w .least;
+    most = m;
+  }
+
+-- whether a goal is possible
+module _ (c W : List ℕ) (r : StoredGoal) where
+  pub possible : Possible c W r true
+  unfolding Possible
+  possible = tt
+
+  refused : SkeletonRefuses c W r → Possible c W r false
+  unfolding Possible
+  refused x = x
+
+  pub possible-match : r .kind ≡ 0 → (b : Bool) → MayBe c W (r .target) b → Possible c W r b
+  unfolding MayBe
+  possible-match z true m = possible
+  possible-match z false m = refused (record { matches = λ _. m; builds = λ d. absurd (d z) })
+
+  module _ (d : ¬ (r .kind ≡ 0)) where
+    pub possible-other : ¬ (getD c 0 0 ≡ 4) → ¬ (getD c 0 0 ≡ 1) → Possible c W r false
+    possible-other h o = refused (record {
+      matches = λ z. absurd (d z);
+      builds = λ _ x e t b p _ _ f. absurd (let k = kind-at c 0 x p in o (k ∙ fits-abstraction x b f (λ q. h (k ∙ q))));
+    })
+
+    pub possible-build : (b : Bool) → MayBuild c W (r .argument) (r .target) b → Possible c W r b
+    unfolding MayBuild
+    possible-build true m = possible
+    possible-build false m = refused (record { matches = λ z. absurd (d z); builds = λ _ x e t b p i j. m x e t b p i j })
+
+-- the first deferred goal
+module _ (P W : List ℕ) (s : Agenda) (a : List Entry) (ready : Ready relinking P W s a) (deferred : 0 < s .deferred) (r : StoredGoal)
+    (y : StoredAt W (s .deferred) r) where
+  pub part-source : SkeletonSource P (r .part) W a
+  part-source = from P W s a ready deferred r y (SkeletonSource P (r .part) W a) (λ gs hs l g x.
+      let v = put P W s a ready deferred r y g (x .deferred .0 .goal) in
+      record {
+        tree = partOf g;
+        part = v .part;
+        short = ready .bounds .short;
+        below = v .below;
+        φ = totalOf l;
+        gives = line-values P W s a l (ready .bounds) (x .entries) (partOf g);
+      })
+
+  pub goal-target : Whole W (r .target)
+  goal-target = from P W s a ready deferred r y (Whole W (r .target)) (λ gs hs l g x. go g (x .deferred .0 .goal))
+    where
+      go : (g : Goal) → GoalAt P W (s .top) (s .deferred) g → Whole W (r .target)
+      go (match p t) x = whole W (r .target) t (subst (λ (i : ℕ). Part W i t) (sym (y .target)) (x .target .part))
+      go (build f t e) x = whole W (r .target) t (subst (λ (i : ℕ). Part W i t) (sym (y .target)) (x .target .part))
+
+  module _ (c : List ℕ) (n : ℕ) (k : PartSkeleton P (r .part) W a c n) where
+    pub judges : Judges (take (n - 0) (drop 0 c)) W r
+    judges = record {
+      target = skeleton-comparable c n (k .table) W (r .target) goal-target (omega (arith, ready .bounds .whole));
+      both = λ d. from P W s a ready deferred r y (SkeletonApplicable (take (n - 0) (drop 0 c)) W (r .argument) (r .target))
+          (λ gs hs l g x. go d g (x .deferred .0 .goal));
+    }
+      where
+        go : ¬ (r .kind ≡ 0) → (g : Goal) → GoalAt P W (s .top) (s .deferred) g
+            → SkeletonApplicable (take (n - 0) (drop 0 c)) W (r .argument) (r .target)
+        go d (match p t) x = absurd (d (y .kind ∙ x .kind))
+        go d (build f t e) x = record {
+          skeleton = k .table .tree;
+          argument = e;
+          bytes = k .table .bytes;
+          part = subst (λ (i : ℕ). Part W i e) (sym (y .argument)) (x .argument .part);
+          least = skeleton-tree c n (k .table) .least;
+          few = omega
+              (arith, skeleton-part c n (k .table) .within, length-take-le (n - 0) c (omega (arith, k .table .within)), k .table .most);
+          argument-few = omega (arith, x .argument .short);
+          depth = patternRecords;
+          shallow = omega arith;
+          closed = k .closed;
+          argument-closed = closed-more (patternRecords - suc (size f)) patternRecords e (omega arith) (x .argument .closed);
+          target = goal-target;
+          most = omega (arith, ready .bounds .whole);
+        }
+
+    fits-part :
+        (gs hs : List Goal) (l : Line) (g : Goal) → GoalOpened P W s a ready deferred r y gs l g hs
+        → (φ : ℕ → Term) → Values φ → Extends φ l → Fits (k .table .tree) (sweep (fill φ (partOf g)))
+    fits-part gs hs l g x φ v e =
+        k .is-skeleton (partOf g) (put P W s a ready deferred r y g (x .deferred .0 .goal) .part) φ v
+        (extended-values P W s a l (ready .bounds) (x .entries) (partOf g) φ e)
+
+    unmet : SkeletonRefuses (take (n - 0) (drop 0 c)) W r → (gs hs : List Goal) (l : Line) (g : Goal)
+        → GoalOpened P W s a ready deferred r y gs l g hs
+        → (φ : ℕ → Term) → Fits (k .table .tree) (sweep (fill φ (partOf g))) → ¬ Meets g φ
+    unmet q gs hs l (match p t) x φ f e =
+        let z = x .deferred .0 .goal in
+        q .matches (y .kind ∙ z .kind) (k .table .tree) t (skeleton-part c n (k .table))
+        (subst (λ (i : ℕ). Part W i t) (sym (y .target)) (z .target .part)) (subst (Fits (k .table .tree)) e f)
+    unmet q gs hs l (build p t e) x φ f o =
+        let z = x .deferred .0 .goal in
+        q .builds (λ d. omega (arith, d, y .kind, z .kind)) (k .table .tree) e t (o .0) (skeleton-part c n (k .table))
+        (subst (λ (i : ℕ). Part W i e) (sym (y .argument)) (z .argument .part))
+        (subst (λ (i : ℕ). Part W i t) (sym (y .target)) (z .target .part))
+        (subst (Fits (k .table .tree)) (o .1) f) (o .2)
+
+    pub decided-refused : (b : Bool) → Possible (take (n - 0) (drop 0 c)) W r b → b ≡ false → Decided relinking P W s a W Decision.Failed
+    unfolding Possible Decided
+    decided-refused b p e =
+        let q : Possible (take (n - 0) (drop 0 c)) W r false = subst (Possible (take (n - 0) (drop 0 c)) W r) e p in
+        record {
+          none = λ gs hs l z φ v. opened P W s a ready deferred r y gs l (λ us. ¬ Sat gs us l φ)
+              (λ g us x o. unmet q gs us l g x φ (fits-part gs us l g x φ v (o .2)) (o .1 .0)) hs z;
+          kept = refl;
+        }
+
+    pub exact-form : (b : Bool) → b ≡ true → Tells (take (n - 0) (drop 0 c)) Exact b
+        → SweptForm P W s a ready deferred r y (take (n - 0) (drop 0 c))
+    exact-form b true-b tells =
+        let e = subst (λ (i : Bool). Says i (Exact (k .table .tree))) true-b (tells (k .table .tree) (k .table .bytes)) in
+        record {
+          tree = k .table .tree;
+          bytes = k .table .bytes;
+          most = omega (arith, length-take-le (n - 0) c (omega (arith, k .table .within)), k .table .most);
+          is = λ gs hs l g x φ v o. sym (fits-exact (k .table .tree) (sweep (fill φ (partOf g))) e (fits-part gs hs l g x φ v o));
+        }

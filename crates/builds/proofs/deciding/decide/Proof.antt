@@ -1,0 +1,147 @@
+-- `builds::deciding::decide` meets its contract. The part's skeleton is its swept form if it has no hole, and is compared with the goal's
+-- targets; else it may refuse the goal. Each way out is one law. Assumes nothing.
+use mathlib.Core.Path.{refl}
+use native.Mathlib.Omega.{arith}
+use borrow.Author.Tests.{not-false}
+use borrow.Author.Needs.{needs}
+use Rattle.builds.proofs.Decisions.{walkable, decided-open, comparing, decided-dead, decided-live}
+use Rattle.builds.proofs.Refutations.{part-source, skeleton-tree, judges, decided-refused, exact-form}
+use Rattle.builds.proofs.deciding.decide.Statement.{statement}
+use Rattle.builds.proofs.deciding.decide.Tie as tie
+
+goal-at-requires : tie.Need-goal-at-requires
+goal-at-requires c κs = search needs
+
+ask-at-requires : tie.Need-ask-at-requires
+ask-at-requires c κs =
+    let start : tie.Start = search in
+    walkable _ _ _ _ (start .pre .0) (start .pre .1) _ (c .goal-at .ensures .0)
+
+skeleton-at-requires : tie.Need-skeleton-at-requires
+skeleton-at-requires c κs = search (needs, part-source)
+
+sub-is-exact : tie.Need-sub-is-exact
+sub-is-exact c = search needs
+
+part-is-exact-start : tie.Need-part-is-exact-start
+part-is-exact-start c = search needs
+
+part-is-exact-end : tie.Need-part-is-exact-end
+part-is-exact-end c = search needs
+
+is-exact-requires : tie.Need-is-exact-requires
+is-exact-requires c κs = search (needs, skeleton-tree)
+
+sub-is-possible : tie.Need-sub-is-possible
+sub-is-possible c = search needs
+
+part-is-possible-start : tie.Need-part-is-possible-start
+part-is-possible-start c = search needs
+
+part-is-possible-end : tie.Need-part-is-possible-end
+part-is-possible-end c = search needs
+
+is-possible-requires : tie.Need-is-possible-requires
+is-possible-requires c κs = search (needs, judges)
+
+same-length : tie.Need-same-length
+same-length c = search needs
+
+returns : tie.Need-returns
+returns c = decided-open _ _ _ _ _ refl
+
+same-length-2 : tie.Need-same-length-2
+same-length-2 c = search needs
+
+returns-2 : tie.Need-returns-2
+returns-2 c = search (needs, decided-refused)
+
+sub-is-met : tie.Need-sub-is-met
+sub-is-met c = search needs
+
+part-is-met-start : tie.Need-part-is-met-start
+part-is-met-start c = search needs
+
+part-is-met-end : tie.Need-part-is-met-end
+part-is-met-end c = search needs
+
+is-met-requires : tie.Need-is-met-requires
+is-met-requires c κs =
+    let else1 : tie.Else1 = search in
+    let is-exact : tie.After-is-exact = search in
+    let skeleton-at : tie.After-skeleton-at = search in
+    let goal-at : tie.After-goal-at = search in
+    let start : tie.Start = search in
+    comparing _ _ _ _ (start .pre .0) (start .pre .1) _ (goal-at .goal-at .ensures .0) _
+    (exact-form _ _ _ _ (start .pre .0) (start .pre .1) _ (goal-at .goal-at .ensures .0) _ _ (skeleton-at .skeleton-at .ensures)
+    (is-exact .is-exact .result) (not-false _ (else1 .if1 .left)) (is-exact .is-exact .ensures))
+
+add-t37 : tie.Need-add-t37
+add-t37 c =
+    let else1 : tie.Else1 = search in
+    let is-exact : tie.After-is-exact = search in
+    let skeleton-at : tie.After-skeleton-at = search in
+    let goal-at : tie.After-goal-at = search in
+    let start : tie.Start = search in
+    omega arith
+
+same-length-3 : tie.Need-same-length-3
+same-length-3 c = search needs
+
+returns-3 : tie.Need-returns-3
+returns-3 c =
+    let is-met : tie.After-is-met = search in
+    let else1 : tie.Else1 = search in
+    let is-exact : tie.After-is-exact = search in
+    let skeleton-at : tie.After-skeleton-at = search in
+    let goal-at : tie.After-goal-at = search in
+    let start : tie.Start = search in
+    decided-live _ _ _ _ (start .pre .0) (start .pre .1) _ (goal-at .goal-at .ensures .0) _
+    (exact-form _ _ _ _ (start .pre .0) (start .pre .1) _ (goal-at .goal-at .ensures .0) _ _ (skeleton-at .skeleton-at .ensures)
+    (is-exact .is-exact .result) (not-false _ (else1 .if1 .left)) (is-exact .is-exact .ensures)) _ _ (is-met .is-met .ensures)
+    (c .before .if3 .taken)
+
+same-length-4 : tie.Need-same-length-4
+same-length-4 c = search needs
+
+returns-4 : tie.Need-returns-4
+returns-4 c =
+    let is-met : tie.After-is-met = search in
+    let else1 : tie.Else1 = search in
+    let is-exact : tie.After-is-exact = search in
+    let skeleton-at : tie.After-skeleton-at = search in
+    let goal-at : tie.After-goal-at = search in
+    let start : tie.Start = search in
+    decided-dead _ _ _ _ (start .pre .0) (start .pre .1) _ (goal-at .goal-at .ensures .0) _
+    (exact-form _ _ _ _ (start .pre .0) (start .pre .1) _ (goal-at .goal-at .ensures .0) _ _ (skeleton-at .skeleton-at .ensures)
+    (is-exact .is-exact .result) (not-false _ (else1 .if1 .left)) (is-exact .is-exact .ensures)) _ _ (is-met .is-met .ensures)
+    (c .if3 .left)
+
+pub decide-spec : {M : Type 1} → statement M
+decide-spec =
+    tie.close
+    (tie.spec
+    goal-at-requires
+    ask-at-requires
+    skeleton-at-requires
+    sub-is-exact
+    part-is-exact-start
+    part-is-exact-end
+    is-exact-requires
+    sub-is-possible
+    part-is-possible-start
+    part-is-possible-end
+    is-possible-requires
+    same-length
+    returns
+    same-length-2
+    returns-2
+    sub-is-met
+    part-is-met-start
+    part-is-met-end
+    is-met-requires
+    add-t37
+    same-length-3
+    returns-3
+    same-length-4
+    returns-4)

@@ -1,0 +1,46 @@
+-- `builds::refuting::is_possible` meets its contract: each way out is one law of goals that a skeleton refuses, by the goal's kind and the
+-- skeleton's first record. Assumes nothing.
+use borrow.Author.Needs.{needs}
+use Rattle.builds.proofs.Refutations.{possible, possible-match, possible-other, possible-build}
+use Rattle.builds.proofs.refuting.is_possible.Statement.{statement}
+use Rattle.builds.proofs.refuting.is_possible.Tie as tie
+
+may-be-requires : tie.Need-may-be-requires
+may-be-requires c κs = search needs
+
+returns : tie.Need-returns
+returns c = search (needs, possible-match)
+
+shared-slice-read-if2 : tie.Need-shared-slice-read-if2
+shared-slice-read-if2 c = search needs
+
+returns-2 : tie.Need-returns-2
+returns-2 c = possible _ _ _
+
+shared-slice-read-if3 : tie.Need-shared-slice-read-if3
+shared-slice-read-if3 c = search needs
+
+returns-3 : tie.Need-returns-3
+returns-3 c = search (needs, possible-other)
+
+may-build-requires : tie.Need-may-build-requires
+may-build-requires c κs =
+    let else1 : tie.Else1 = search in
+    let start : tie.Start = search in
+    (start .pre .both (else1 .if1 .left), search needs)
+
+returns-4 : tie.Need-returns-4
+returns-4 c = search (needs, possible-build)
+
+pub is-possible-spec : {M : Type 1} → statement M
+is-possible-spec =
+    tie.close
+    (tie.spec
+    may-be-requires
+    returns
+    shared-slice-read-if2
+    returns-2
+    shared-slice-read-if3
+    returns-3
+    may-build-requires
+    returns-4)

@@ -1,0 +1,66 @@
+-- `reducts::contract_redex` meets its contract: the size of the substituted body is known from its uses before it is written.
+-- Assumes nothing.
+use native.Mathlib.Omega.{arith}
+use Rattle.sweeping.proofs.Contraction.{redex-whole, uses-bytes, redex-substitution}
+use Rattle.reducts.proofs.Reducts.{reduct-too-long, contracted}
+use borrow.Author.Needs.{needs}
+use Rattle.reducts.proofs.contract_redex.Statement.{statement}
+use Rattle.reducts.proofs.contract_redex.Tie as tie
+
+count-uses-requires : tie.Need-count-uses-requires
+count-uses-requires c κs = search (needs, redex-whole)
+
+sub-bytes : tie.Need-sub-bytes
+sub-bytes c = search needs
+
+sub-bytes-2 : tie.Need-sub-bytes-2
+sub-bytes-2 c = search needs
+
+mul-bytes : tie.Need-mul-bytes
+mul-bytes c =
+    let start : tie.Start = search in
+    omega (
+      arith,
+      uses-bytes _ _ _ _ (c .before .count-uses .ensures .few) (c .before .count-uses .ensures .ends .within)
+          (start .pre .0 .head-most) (start .pre .0 .argument-most),
+    )
+
+add-bytes : tie.Need-add-bytes
+add-bytes c =
+    let start : tie.Start = search in
+    omega (
+      arith,
+      start .pre .0 .head-most,
+      uses-bytes _ _ _ _ (c .before .count-uses .ensures .few)
+          (c .before .count-uses .ensures .ends .within) (start .pre .0 .head-most) (start .pre .0 .argument-most),
+    )
+
+returns : tie.Need-returns
+returns c = λ x y e g. reduct-too-long _ _ _
+
+substitute-into-requires : tie.Need-substitute-into-requires
+substitute-into-requires c κs =
+    let count-uses : tie.After-count-uses = search in
+    let start : tie.Start = search in
+    redex-substitution _ _ (start .pre .1) _ _ (count-uses .count-uses .ensures) _ (start .pre .0) (omega (arith, c .before .if1 .left))
+    (omega (arith, c .before .if1 .left))
+
+returns-2 : tie.Need-returns-2
+returns-2 c =
+    let else1 : tie.Else1 = search in
+    let count-uses : tie.After-count-uses = search in
+    let start : tie.Start = search in
+    contracted _ _ (start .pre .1) _ _ (count-uses .count-uses .ensures) _ _ _ _ (else1 .if1 .left) (c .substitute-into .ensures)
+
+pub contract-redex-spec : {M : Type 1} → statement M
+contract-redex-spec =
+    tie.close
+    (tie.spec
+    count-uses-requires
+    sub-bytes
+    sub-bytes-2
+    mul-bytes
+    add-bytes
+    returns
+    substitute-into-requires
+    returns-2)

@@ -1,0 +1,129 @@
+// The reduct of a pattern: its redexes contracted where the argument is rigid,
+// or where the local stands only as the argument of a constant.
+//
+// Such redexes make the search exponential, and they needn't wait for the sweep: a rigid argument never sweeps to an abstraction, and below
+// a constant an abstraction meets no argument, so that the reduct has the pattern's own listing, as `matching` shows. The crate goes
+// bottom-up through the parts of a table and writes the reduct of each into an array of its own. It promises that what it writes is the
+// table of the reduct, and says "too long" where that of some part is above 32 records. It rests on `records` for single records and parts,
+// on `shifting` for the test of an argument, and on `sweeping` for the substitution.
+//
+// A local that is itself a head is not guarded: `@ \ @ #0 k0 \ k1` doesn't match `k1`, and its contracted form would. Nor is one below
+// another local, as what is put for that may be an abstraction. Where the reduct would be longer than a pattern may be the pattern itself
+// is searched, so that nothing is promised of that answer. Contracting while goals are matched would need targets for parts that stand in
+// no table.
+
+mod guards;
+
+use records::Kind;
+use records::RECORD;
+use sweeping::Length;
+ghost use mathlib.Core.Path.{_≡_};
+ghost use Prim.Native.Nat.{_+_, _≤_};
+ghost use lib.ListN.{length, getD};
+ghost use Rattle.sweeping.specs.Swept.{SweptParts};
+ghost use Rattle.reducts.specs.Reduced.{Contracts, ReducesApplication, ReducibleParts, ReducesRedex, Reducible, Reduces};
+
+// The bytes of a pattern of 32 records, the longest reduct that is written.
+pub const PATTERN_BYTES: usize = 128;
+
+// Contracts the application of f to a, both reduced, where f is an abstraction.
+fn contract_redex(f: &[u8], a: &[u8], out: &mut [u8; PATTERN_BYTES]) -> Length
+    requires { ⌜ SweptParts (now f) (now a) × (getD (now f) 0 0 ≡ 1) ⌝ }
+    ensures { λ r. ⌜ Contracts (now (f .entry)) (now (a .entry)) (now (out .entry)) r (now (out .exit)) ⌝ }
+{
+    let uses = sweeping::count_uses(f, RECORD, 0);
+    // each use is one record of the body, and all of the argument's records take its place
+    let bytes = f.len() - RECORD + uses.count * (a.len() - RECORD);
+    if bytes > PATTERN_BYTES {
+        return Length::TooLong;
+    }
+    sweeping::substitute_into(f, RECORD, 0, a, out, 0);
+    Length::Records(bytes / RECORD)
+}
+
+// Writes the application of f to a as it is.
+fn join(f: &[u8], a: &[u8], out: &mut [u8; PATTERN_BYTES]) -> Length
+    requires { ⌜ (length (now f) ≤ 128) × (length (now a) ≤ 128) ⌝ }
+    ensures { λ r. ⌜ ReducesApplication (now (f .entry)) (now (a .entry)) (now (out .entry)) r (now (out .exit)) ⌝ }
+{
+    let n = RECORD + f.len() + a.len();
+    if n > PATTERN_BYTES {
+        return Length::TooLong;
+    }
+    records::put_record(out, 0, Kind::APPLICATION, 0);
+    copying::copy_into(f, out, RECORD);
+    copying::copy_into(a, out, RECORD + f.len());
+    Length::Records(n / RECORD)
+}
+
+// Applies f to a, both reduced: the redex is contracted if it is one, and a is rigid or the local guarded.
+fn apply(f: &[u8], a: &[u8], out: &mut [u8; PATTERN_BYTES]) -> Length
+    requires { ⌜ ReducibleParts (now f) (now a) ⌝ }
+    ensures { λ r. ⌜ ReducesRedex (now (f .entry)) (now (a .entry)) (now (out .entry)) r (now (out .exit)) ⌝ }
+{
+    if f[0] != Kind::ABSTRACTION.code {
+        return join(f, a, out);
+    }
+    if shifting::is_rigid(a, 0) {
+        return contract_redex(f, a, out);
+    }
+    if guards::is_guarded(records::body_of(f), 0) {
+        return contract_redex(f, a, out);
+    }
+    join(f, a, out)
+}
+
+// Reduces an application: its head, its argument, and then the two together.
+fn reduce_application(s: &[u8], out: &mut [u8; PATTERN_BYTES]) -> Length
+    requires { ⌜ Reducible (now s) × (getD (now s) 0 0 ≡ 0) ⌝ }
+    ensures { λ r. ⌜ Reduces (now (s .entry)) (now (out .entry)) r (now (out .exit)) ⌝ }
+{
+    let mut head = [0u8; PATTERN_BYTES];
+    let first = reduce(records::head_of(s), &mut head);
+    let Length::Records(n) = first else {
+        return Length::TooLong;
+    };
+    let mut argument = [0u8; PATTERN_BYTES];
+    let second = reduce(records::argument_of(s), &mut argument);
+    let Length::Records(m) = second else {
+        return Length::TooLong;
+    };
+    let n = n * RECORD;
+    let m = m * RECORD;
+    apply(&head[0..n], &argument[0..m], out)
+}
+
+// Reduces an abstraction: its body, and then the abstraction over it.
+fn reduce_abstraction(s: &[u8], out: &mut [u8; PATTERN_BYTES]) -> Length
+    requires { ⌜ Reducible (now s) × (getD (now s) 0 0 ≡ 1) ⌝ }
+    ensures { λ r. ⌜ Reduces (now (s .entry)) (now (out .entry)) r (now (out .exit)) ⌝ }
+{
+    let mut body = [0u8; PATTERN_BYTES];
+    let reduced = reduce(records::body_of(s), &mut body);
+    let Length::Records(n) = reduced else {
+        return Length::TooLong;
+    };
+    let n = n * RECORD;
+    if n == PATTERN_BYTES {
+        return Length::TooLong;
+    }
+    records::put_record(out, 0, Kind::ABSTRACTION, 0);
+    copying::copy_into(&body[0..n], out, RECORD);
+    Length::Records(n / RECORD + 1)
+}
+
+// Writes the reduct of s, the table of a pattern or of a part of one, into out from byte 0 on. Leaves are their own reducts.
+pub fn reduce(s: &[u8], out: &mut [u8; PATTERN_BYTES]) -> Length
+    requires { ⌜ Reducible (now s) ⌝ }
+    ensures { λ r. ⌜ Reduces (now (s .entry)) (now (out .entry)) r (now (out .exit)) ⌝ }
+{
+    let kind = s[0];
+    if kind == Kind::APPLICATION.code {
+        return reduce_application(s, out);
+    }
+    if kind == Kind::ABSTRACTION.code {
+        return reduce_abstraction(s, out);
+    }
+    copying::copy_into(s, out, 0);
+    Length::Records(1)
+}
