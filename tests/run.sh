@@ -9,7 +9,7 @@ here=$(cd "$(dirname "$0")" && pwd)
 library=${1:-$here/../target/staticlib/libexports.a}
 calls=${2:-200000}
 [ $# -ge 2 ] && shift 2 || shift $#
-[ -f "$library" ] || { echo "no static library at $library" >&2; exit 2; }
+[ -f "$library" ] || { echo "no static library at $library: 'rt staticlib exports' builds target/staticlib/libexports.a" >&2; exit 2; }
 library=$(cd "$(dirname "$library")" && pwd)/$(basename "$library")
 
 "$here/../examples/link/run.sh" "$library"

@@ -5,7 +5,7 @@
 set -eu
 here=$(cd "$(dirname "$0")" && pwd)
 library=${1:-$here/../target/staticlib/libexports.a}
-[ -f "$library" ] || { echo "no static library at $library" >&2; exit 2; }
+[ -f "$library" ] || { echo "no static library at $library: 'rt staticlib exports' builds target/staticlib/libexports.a" >&2; exit 2; }
 build=$(mktemp -d)
 trap 'rm -rf "$build"' EXIT
 cc -O2 -Wall -Wextra -Werror "$here/stack.c" "$library" -pthread -o "$build/stack"

@@ -5,7 +5,7 @@ set -eu
 here=$(cd "$(dirname "$0")" && pwd)
 top=$here/../..
 library=${1:-$top/target/staticlib/libexports.a}
-[ -f "$library" ] || { echo "no static library at $library" >&2; exit 2; }
+[ -f "$library" ] || { echo "no static library at $library: 'rt staticlib exports' builds target/staticlib/libexports.a" >&2; exit 2; }
 
 room=$(mktemp -d)
 trap 'rm -rf "$room"' EXIT
