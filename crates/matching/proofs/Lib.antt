@@ -25,3 +25,4 @@ pub mod Repeated
 pub mod Known
 pub mod Skeletons
 pub mod Instances
+pub mod Ground

@@ -1,0 +1,44 @@
+-- A refusal is known by its number: no two have one, and none has 0. It stands at its number in a list of all. Assumes nothing.
+--   ofNumber n   the refusal of number n
+use mathlib.Core.Path.{_≡_, refl, sym, ap, _∙_}
+use mathlib.Core.List.{List, [], _∷_}
+use Prim.Native.Nat.{ℕ, _<_}
+use lib.Dec.{lit<}
+use lib.ListN.{getD}
+use Rattle.refusals.specs.declared.Refusal.{Refusal}
+use Rattle.refusals.specs.Judged.{number}
+
+-- those of the numbers 1 to 14
+abbrev refusals : List Refusal
+refusals =
+    Refusal.PatternLength ∷ Refusal.PatternRecord ∷ Refusal.PatternTerm ∷ Refusal.RecipeLength ∷ Refusal.RecipeRecord ∷ Refusal.RecipeTerm
+    ∷ Refusal.RecipeRedex ∷ Refusal.Tables ∷ Refusal.LineRoom ∷ Refusal.ValueRoom ∷ Refusal.Assignment ∷ Refusal.SweptForm ∷ Refusal.Output
+    ∷ Refusal.NoMatch ∷ []
+
+abbrev pub ofNumber : ℕ → Refusal
+ofNumber n = getD (Refusal.NoMatch ∷ refusals) n Refusal.NoMatch
+
+numbered : (c : Refusal) → (0 < number c) × (ofNumber (number c) ≡ c)
+numbered Refusal.PatternLength = (lit< tt, refl)
+numbered Refusal.PatternRecord = (lit< tt, refl)
+numbered Refusal.PatternTerm = (lit< tt, refl)
+numbered Refusal.RecipeLength = (lit< tt, refl)
+numbered Refusal.RecipeRecord = (lit< tt, refl)
+numbered Refusal.RecipeTerm = (lit< tt, refl)
+numbered Refusal.RecipeRedex = (lit< tt, refl)
+numbered Refusal.Tables = (lit< tt, refl)
+numbered Refusal.LineRoom = (lit< tt, refl)
+numbered Refusal.ValueRoom = (lit< tt, refl)
+numbered Refusal.Assignment = (lit< tt, refl)
+numbered Refusal.SweptForm = (lit< tt, refl)
+numbered Refusal.Output = (lit< tt, refl)
+numbered Refusal.NoMatch = (lit< tt, refl)
+
+pub number-positive : (c : Refusal) → 0 < number c
+number-positive c = numbered c .0
+
+pub of-number : (c : Refusal) → ofNumber (number c) ≡ c
+of-number c = numbered c .1
+
+pub number-inj : (c d : Refusal) → number c ≡ number d → c ≡ d
+number-inj c d e = sym (of-number c) ∙ ap ofNumber e ∙ of-number d
