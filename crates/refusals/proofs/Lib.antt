@@ -1,3 +1,4 @@
 pub mod Judging
 pub mod Clearing
 pub mod Numbers
+pub mod Passing

@@ -1,10 +1,13 @@
--- A refusal is known by its number: no two have one, and none has 0. It stands at its number in a list of all. Assumes nothing.
+-- A refusal is known by its number: no two have one, and none has 0; so rows refuse with one cause only. It stands at its number in a list
+-- of all. Assumes nothing.
 --   ofNumber n   the refusal of number n
 use mathlib.Core.Path.{_≡_, refl, sym, ap, _∙_}
 use mathlib.Core.List.{List, [], _∷_}
 use Prim.Native.Nat.{ℕ, _<_}
 use lib.Dec.{lit<}
 use lib.ListN.{getD}
+use Rattle.terms.specs.Refusal.{Row, Refused}
+use Rattle.terms.proofs.Refusal.{refused-once}
 use Rattle.refusals.specs.declared.Refusal.{Refusal}
 use Rattle.refusals.specs.Judged.{number}
 
@@ -42,3 +45,7 @@ of-number c = numbered c .1
 
 pub number-inj : (c d : Refusal) → number c ≡ number d → c ≡ d
 number-inj c d e = sym (of-number c) ∙ ap ofNumber e ∙ of-number d
+
+-- rows refuse with one cause
+pub refusal-one : (rows : List Row) (c d : Refusal) → Refused rows (number c) → Refused rows (number d) → c ≡ d
+refusal-one rows c d x y = number-inj c d (refused-once rows (number c) (number d) x y)

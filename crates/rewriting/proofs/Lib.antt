@@ -1,2 +1,4 @@
 pub mod Sides
 pub mod Answers
+pub mod Determined
+pub mod Cases

@@ -1,0 +1,121 @@
+-- Document 01's case 8, of check's promise itself: whatever meets it on the tables of the case is no. The tables pass every row of refusal,
+-- the filled pattern sweeps to a term of other size than the recipe, and check's promise leaves one answer. Assumes nothing.
+use mathlib.Core.Path.{_≡_, refl, sym, ap, subst}
+use mathlib.Core.List.{List, _∷_, _++_}
+use mathlib.Core.Logic.{inl, inr}
+use Prim.Native.Nat.{ℕ, zero, suc}
+use native.Mathlib.Omega.{arith}
+use lib.Dec.{lit<, lit≤}
+use lib.ListN.{length, replicate}
+use Rattle.terms.specs.Figures.{tableBytes}
+use Rattle.terms.specs.Term.{Term, app, lam, loc, con, var, Occurs, size}
+use Rattle.terms.specs.Sweep.{sweep, fill, largest}
+use Rattle.terms.specs.Table.{encode, IsTable}
+use Rattle.terms.specs.Layout.{Stored}
+use Rattle.terms.specs.Refusal.{Passed, Filled, Matches, OccursIn, assignmentTables, assignment, swept}
+use Rattle.terms.specs.Refusal.{pattern as patternRows, recipe as recipeRows}
+use Rattle.terms.proofs.Table.{encode-one}
+use Rattle.terms.proofs.Refusal.{passed-both, filled-one}
+use Rattle.refusals.proofs.Passing.{table-passed, pattern-passed, recipe-passed}
+use Rattle.rewriting.specs.declared.CheckAnswer.{CheckAnswer}
+use Rattle.rewriting.specs.Operations.{lentForCheck, Checked}
+use Rattle.rewriting.proofs.Determined.{checked-one}
+
+-- 8. `\ @ @ p0 #0 p1`, `\ @ @ k1 #0 #0`, p0=`\ \ @ #0 #1`, p1 = the recipe: check says no
+abbrev pattern : Term
+pattern = lam (app (app (var 0) (loc 0)) (var 1))
+
+abbrev recipe : Term
+recipe = lam (app (app (con 1) (loc 0)) (loc 0))
+
+-- their tables
+abbrev p : List ℕ
+p = encode pattern
+
+abbrev r : List ℕ
+r = encode recipe
+
+abbrev first : Term
+first = lam (lam (app (loc 0) (loc 1)))
+
+abbrev φ : ℕ → Term
+φ zero = first
+φ (suc n) = recipe
+
+-- the line: 5 records from 0, 6 records from 5, and for the variables that don't occur bytes that are not read
+abbrev line : List ℕ
+line = 0 ∷ 0 ∷ 0 ∷ 5 ∷ 0 ∷ 5 ∷ 0 ∷ 6 ∷ replicate 24 255
+
+abbrev values : List ℕ
+values = encode first ++ r
+
+pattern-table : IsTable p pattern
+pattern-table = (refl, ((tt, lit< tt), tt))
+
+recipe-table : IsTable r recipe
+recipe-table = (refl, ((tt, lit< tt), lit< tt))
+
+first-stored : Stored line values 0 first
+first-stored = record {
+  least = lit≤ tt;
+  most = lit≤ tt;
+  within = lit≤ tt;
+  bytes = refl;
+  value = ((lit< tt, lit< tt), (tt, (tt, (tt, tt, tt))), (tt, tt));
+}
+
+second-stored : Stored line values 1 recipe
+second-stored = record {
+  least = lit≤ tt;
+  most = lit≤ tt;
+  within = lit≤ tt;
+  bytes = refl;
+  value = (((tt, lit< tt), lit< tt), (tt, (tt, (tt, tt, tt), tt)), ((lit< tt, tt), tt));
+}
+
+stored : (i : ℕ) → Occurs i pattern → Stored line values i (φ i)
+stored i (inl (inl e)) = subst (λ (j : ℕ). Stored line values j (φ j)) (sym e) first-stored
+stored i (inl (inr e)) = absurd e
+stored i (inr e) = subst (λ (j : ℕ). Stored line values j (φ j)) (sym e) second-stored
+
+filled : Filled p line values (fill φ pattern)
+filled = record { term = pattern; table = pattern-table; φ = φ; stored = stored; is = refl }
+
+filled-is : (t : Term) → Filled p line values t → t ≡ fill φ pattern
+filled-is t f = filled-one p line values t (fill φ pattern) f filled
+
+tables-passed : (w : List ℕ) → length w ≡ tableBytes → Passed (assignmentTables line values w)
+tables-passed w h = (λ n. n refl, (table-passed 4 values (lit≤ tt) refl, (λ n. n h, tt)))
+
+sides-passed : Passed (patternRows p ++ recipeRows r)
+sides-passed =
+    passed-both (patternRows p) (recipeRows r)
+    (pattern-passed pattern pattern-table (lit≤ tt) refl)
+    (recipe-passed recipe recipe-table (lit≤ tt) refl (tt, (tt, (tt, tt, tt), tt)))
+
+assignment-passed : Passed (assignment (OccursIn p) line values)
+assignment-passed =
+    (λ z. z .2 (φ (z .0)) (stored (z .0) (subst (Occurs (z .0)) (encode-one (z .1 .0) pattern (sym (z .1 .1 .0))) (z .1 .2))), tt)
+
+swept-passed : Passed (swept p line values)
+swept-passed = (λ z. omega (arith, z .2, ap largest (filled-is (z .0) (z .1))), tt)
+
+no-match : ¬ Matches p line values r
+no-match z =
+    omega (arith, ap size (encode-one recipe (sweep (z .0)) (z .2 .0)), ap (λ (t : Term). size (sweep t)) (filled-is (z .0) (z .1)))
+
+module _ (w : List ℕ) (h : length w ≡ tableBytes) where
+  lent-passed : Passed (lentForCheck p r line values w)
+  lent-passed =
+      passed-both (assignmentTables line values w ++ (patternRows p ++ recipeRows r))
+      (assignment (OccursIn p) line values)
+      (passed-both (assignmentTables line values w) (patternRows p ++ recipeRows r) (tables-passed w h) sides-passed)
+      assignment-passed
+
+  answer-no : Checked p r line values w CheckAnswer.No
+  unfolding Checked
+  answer-no =
+      (passed-both (lentForCheck p r line values w) (swept p line values) lent-passed swept-passed, no-match)
+
+  pub case-8 : (a : CheckAnswer) → Checked p r line values w a → a ≡ CheckAnswer.No
+  case-8 a x = checked-one p r line values w a CheckAnswer.No x answer-no
