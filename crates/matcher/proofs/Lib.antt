@@ -1,1 +1,3 @@
 pub mod Listed
+pub mod Determined
+pub mod Cases

@@ -21,6 +21,7 @@ use Rattle.refusals.specs.declared.Verdict.{Verdict}
 use Rattle.refusals.specs.declared.Refusal.{Refusal}
 use Rattle.refusals.specs.Judged.{number, Judged, firstOf}
 use Rattle.refusals.proofs.Judging.{judged-more, judged-first}
+use Rattle.refusals.proofs.Numbers.{number-inj}
 use Rattle.enumeration.specs.declared.ListAnswer.{ListAnswer}
 use Rattle.enumeration.specs.Written.{lentLines, lentRecords, ListingOf, NoRoom, Enumerated}
 use Rattle.matcher.specs.Operations.{lentForList, Listed, TooMany, NineExactly}
@@ -46,22 +47,6 @@ low-refused [] k h p = absurd p
 low-refused (r ∷ rows) k h (inl p) = omega (arith, p .1, h .0)
 low-refused (r ∷ rows) k h (inr p) = low-refused rows k (h .1) (p .1)
 
-number-nine : (c : Refusal) → number c ≡ 9 → c ≡ Refusal.LineRoom
-number-nine Refusal.PatternLength e = absurd (omega arith)
-number-nine Refusal.PatternRecord e = absurd (omega arith)
-number-nine Refusal.PatternTerm e = absurd (omega arith)
-number-nine Refusal.RecipeLength e = absurd (omega arith)
-number-nine Refusal.RecipeRecord e = absurd (omega arith)
-number-nine Refusal.RecipeTerm e = absurd (omega arith)
-number-nine Refusal.RecipeRedex e = absurd (omega arith)
-number-nine Refusal.Tables e = absurd (omega arith)
-number-nine Refusal.LineRoom e = refl
-number-nine Refusal.ValueRoom e = absurd (omega arith)
-number-nine Refusal.Assignment e = absurd (omega arith)
-number-nine Refusal.SweptForm e = absurd (omega arith)
-number-nine Refusal.Output e = absurd (omega arith)
-number-nine Refusal.NoMatch e = absurd (omega arith)
-
 module _ (p r l s w : List ℕ) where
   abbrev lent : List Row
   lent = lentForList p r l s w
@@ -77,7 +62,7 @@ module _ (p r l s w : List ℕ) where
       go true e = good-below variables x [] (ap (goodRecords variables) (append-nil (encode x) ∙ sym (i .0)) ∙ e) .0
       go false e = absurd (h .1 .1 .1 .1 .0 e)
 
-  listing-one : Passed lent → (ls ms : List Line) → ListingOf p r ls → ListingOf p r ms → ls ≡ ms
+  pub listing-one : Passed lent → (ls ms : List Line) → ListingOf p r ls → ListingOf p r ms → ls ≡ ms
   listing-one h ls ms f g =
       let x = f .pattern-term in
       let y = f .recipe-term in
@@ -107,7 +92,7 @@ module _ (p r l s w : List ℕ) where
     where
       more : (n : NoRoom p r l s (number c)) → Refused (listing (lentLines l) (lentRecords s) (n .lines)) (number c)
           → ListAnswer.Refused c ≡ ListAnswer.Refused Refusal.LineRoom
-      more n (inl d) = ap ListAnswer.Refused (number-nine c (d .1))
+      more n (inl d) = ap ListAnswer.Refused (number-inj c Refusal.LineRoom (d .1))
       more n (inr d) = absurd (d .0 (z .1 (n .lines) (n .listing-of)))
 
       go : Refused lent (number c) ⊎ (Passed lent × NoRoom p r l s (number c)) → ListAnswer.Refused c ≡ ListAnswer.Refused Refusal.LineRoom
