@@ -2,8 +2,10 @@
 --   refusalCode c     minus document 01's number of the refusal c
 --   listCode a, checkCode a, sweepCode a, rewriteCode a   the number of an answer
 --   ListedAs, CheckedAs, SweptAs, RewrittenAs   some answer that the operation may give has this number
+--   NineAs k          k is minus 9 exactly if no earlier cause holds and every full listing has more lines than were lent
 use mathlib.Core.Path.{_≡_}
 use mathlib.Core.List.{List}
+use mathlib.Core.Logic.{_↔_}
 use Prim.Native.Nat.{ℕ}
 use lib.IntN.{ℤ, pos, negℤ}
 use Rattle.refusals.specs.declared.Refusal.{Refusal}
@@ -13,7 +15,7 @@ use Rattle.rewriting.specs.declared.SweepAnswer.{SweepAnswer}
 use Rattle.rewriting.specs.declared.RewriteAnswer.{RewriteAnswer}
 use Rattle.rewriting.specs.Operations.{Checked, Swept, Rewritten}
 use Rattle.enumeration.specs.declared.ListAnswer.{ListAnswer}
-use Rattle.matcher.specs.Operations.{Listed}
+use Rattle.matcher.specs.Operations.{Listed, TooMany}
 
 abbrev pub refusalCode : Refusal → ℤ
 refusalCode c = negℤ (pos (number c))
@@ -37,6 +39,9 @@ rewriteCode (RewriteAnswer.Refused c) = refusalCode c
 
 abbrev pub ListedAs : List ℕ → List ℕ → List ℕ → List ℕ → List ℕ → ℤ → List ℕ → List ℕ → Type 0
 ListedAs p r l s w k lines-after values-after = (a : ListAnswer) × Listed p r l s w a lines-after values-after × (k ≡ listCode a)
+
+unfoldable pub NineAs : List ℕ → List ℕ → List ℕ → List ℕ → List ℕ → ℤ → Type 0
+NineAs p r l s w k = (k ≡ refusalCode Refusal.LineRoom) ↔ TooMany p r l s w
 
 abbrev pub CheckedAs : List ℕ → List ℕ → List ℕ → List ℕ → List ℕ → ℤ → Type 0
 CheckedAs p r l s w k = (a : CheckAnswer) × Checked p r l s w a × (k ≡ checkCode a)

@@ -2,13 +2,14 @@
 //
 // `include/onestep.h` documents the four functions. Each calls its operation and gives the number of the answer: lines or records written,
 // 1 or 0 for yes or no, or minus document 01's number of a refusal. The crate promises that the number is that of an answer which the
-// operation may give on these tables, and that the tables and the work area are left as the operation leaves them. It rests on `matcher`
-// and `rewriting`; the static library is built from it.
+// operation may give on these tables, that -9 is given exactly if list's 9 is due, and that the tables and the work area are left as the
+// operation leaves them. It rests on `matcher` and `rewriting`; the static library is built from it.
 //
-// The answers are stated by `listCode`, `checkCode`, `sweepCode` and `rewriteCode`; no two answers of an operation have one number, so that
-// the number says which it is. The crate stands by itself because the kit builds a static library only from a crate that the same command
-// checks: `rt staticlib exports` after `rt ci` proves these five functions again, and not the crates below. A kit that builds a static
-// library from an rlib would change that.
+// The answers are stated by `listCode`, `checkCode`, `sweepCode` and `rewriteCode`; no two answers of an operation have one number
+// (`proofs/Codes`), so that the number says which it is, and no two numbers meet a promise on the same tables (`proofs/Determined`). The
+// crate stands by itself because the kit builds a static library only from a crate that the same command checks: `rt staticlib exports`
+// after `rt ci` proves these five functions again, and not the crates below. A kit that builds a static library from an rlib would change
+// that.
 
 use enumeration::ListAnswer;
 use refusals::Refusal;
@@ -17,7 +18,7 @@ use rewriting::RewriteAnswer;
 use rewriting::SweepAnswer;
 ghost use mathlib.Core.Path.{_≡_};
 ghost use Rattle.refusals.specs.Lent.{cleared};
-ghost use Rattle.exports.specs.Answers.{refusalCode, ListedAs, CheckedAs, SweptAs, RewrittenAs};
+ghost use Rattle.exports.specs.Answers.{refusalCode, ListedAs, NineAs, CheckedAs, SweptAs, RewrittenAs};
 
 // Minus document 01's number of a refusal.
 fn refusal_code(c: Refusal) -> i64
@@ -37,6 +38,8 @@ pub extern "C" fn onestep_list(
 ) -> i64
     ensures answer { λ r. ⌜ ListedAs (now (pattern .entry)) (now (recipe .entry)) (now (lines .entry)) (now (values .entry))
         (now (work .entry)) r (now (lines .exit)) (now (values .exit)) ⌝ }
+    ensures nine { λ r. ⌜ NineAs (now (pattern .entry)) (now (recipe .entry)) (now (lines .entry)) (now (values .entry))
+        (now (work .entry)) r ⌝ }
     ensures area { λ _. ⌜ now (work .exit) ≡ cleared (now (work .entry)) ⌝ }
 {
     let answer = matcher::list(pattern, recipe, lines, values, work);

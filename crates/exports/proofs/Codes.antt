@@ -1,0 +1,77 @@
+-- The number of an exported answer says which answer it is: the codes of each of the four functions are one to one. A code from 0 on is a
+-- count, or yes and no, and one below 0 is minus the number of one refusal. So -9 is list's answer 9. Assumes nothing.
+use mathlib.Core.Path.{_≡_, refl, sym, ap, _∙_}
+use mathlib.Core.List.{List}
+use Prim.Native.Nat.{ℕ, zero, suc, _<_}
+use native.Mathlib.Omega.{arith}
+use lib.IntN.{ℤ, pos, negsuc, negℤ}
+use Rattle.refusals.specs.declared.Refusal.{Refusal}
+use Rattle.refusals.specs.Judged.{number}
+use Rattle.refusals.proofs.Numbers.{ofNumber, of-number, number-positive}
+use Rattle.rewriting.specs.declared.CheckAnswer.{CheckAnswer}
+use Rattle.rewriting.specs.declared.SweepAnswer.{SweepAnswer}
+use Rattle.rewriting.specs.declared.RewriteAnswer.{RewriteAnswer}
+use Rattle.enumeration.specs.declared.ListAnswer.{ListAnswer}
+use Rattle.matcher.specs.Operations.{Listed, NineExactly}
+use Rattle.exports.specs.Answers.{refusalCode, listCode, checkCode, sweepCode, rewriteCode, ListedAs, NineAs}
+
+-- answers that are counts or refusals, read back from their codes
+module _ {A : Type 0} (counted : ℕ → A) (refused : Refusal → A) where
+  abbrev answer : ℤ → A
+  answer (pos n) = counted n
+  answer (negsuc n) = refused (ofNumber (suc n))
+
+  answer-minus : (n : ℕ) → 0 < n → answer (negℤ (pos n)) ≡ refused (ofNumber n)
+  answer-minus zero h = absurd (omega arith)
+  answer-minus (suc n) h = refl
+
+  answer-refusal : (c : Refusal) → answer (refusalCode c) ≡ refused c
+  answer-refusal c = answer-minus (number c) (number-positive c) ∙ ap refused (of-number c)
+
+  answer-inj : (code : A → ℤ) → ((a : A) → answer (code a) ≡ a) → (a b : A) → code a ≡ code b → a ≡ b
+  answer-inj code back a b e = sym (back a) ∙ ap answer e ∙ back b
+
+pub list-code-inj : (a b : ListAnswer) → listCode a ≡ listCode b → a ≡ b
+list-code-inj = answer-inj ListAnswer.Lines ListAnswer.Refused listCode back
+  where
+    back : (a : ListAnswer) → answer ListAnswer.Lines ListAnswer.Refused (listCode a) ≡ a
+    back (ListAnswer.Lines n) = refl
+    back (ListAnswer.Refused c) = answer-refusal ListAnswer.Lines ListAnswer.Refused c
+
+pub sweep-code-inj : (a b : SweepAnswer) → sweepCode a ≡ sweepCode b → a ≡ b
+sweep-code-inj = answer-inj SweepAnswer.Records SweepAnswer.Refused sweepCode back
+  where
+    back : (a : SweepAnswer) → answer SweepAnswer.Records SweepAnswer.Refused (sweepCode a) ≡ a
+    back (SweepAnswer.Records n) = refl
+    back (SweepAnswer.Refused c) = answer-refusal SweepAnswer.Records SweepAnswer.Refused c
+
+pub rewrite-code-inj : (a b : RewriteAnswer) → rewriteCode a ≡ rewriteCode b → a ≡ b
+rewrite-code-inj = answer-inj RewriteAnswer.Records RewriteAnswer.Refused rewriteCode back
+  where
+    back : (a : RewriteAnswer) → answer RewriteAnswer.Records RewriteAnswer.Refused (rewriteCode a) ≡ a
+    back (RewriteAnswer.Records n) = refl
+    back (RewriteAnswer.Refused c) = answer-refusal RewriteAnswer.Records RewriteAnswer.Refused c
+
+-- 1 is yes, 0 no
+abbrev said : ℕ → CheckAnswer
+said zero = CheckAnswer.No
+said (suc n) = CheckAnswer.Yes
+
+pub check-code-inj : (a b : CheckAnswer) → checkCode a ≡ checkCode b → a ≡ b
+check-code-inj = answer-inj said CheckAnswer.Refused checkCode back
+  where
+    back : (a : CheckAnswer) → answer said CheckAnswer.Refused (checkCode a) ≡ a
+    back CheckAnswer.Yes = refl
+    back CheckAnswer.No = refl
+    back (CheckAnswer.Refused c) = answer-refusal said CheckAnswer.Refused c
+
+-- minus 9, exactly
+module _ (p r l s w : List ℕ) (a : ListAnswer) (k : ℤ) where
+  nine-as : NineExactly p r l s w a → k ≡ listCode a → NineAs p r l s w k
+  unfolding NineExactly NineAs
+  nine-as n e = (λ f. n .0 (list-code-inj a (ListAnswer.Refused Refusal.LineRoom) (sym e ∙ f)), λ t. e ∙ ap listCode (n .1 t))
+
+pub listed-as :
+    (p r l s w : List ℕ) (A : Type 0) (a : ListAnswer) (k : ℤ) (m x : List ℕ) → Listed p r l s w a m x → NineExactly p r l s w a
+    → k ≡ listCode a → A → ListedAs p r l s w k m x × (NineAs p r l s w k × A)
+listed-as p r l s w A a k m x f n e y = ((a, f, e), (nine-as p r l s w a k n e, y))

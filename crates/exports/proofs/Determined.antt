@@ -1,0 +1,26 @@
+-- Nothing is left free in the exported functions either: two numbers that meet a function's promise on the same lent tables are equal, and
+-- so are two contents of the tables that it writes. Each is the code of its operation's one answer. Assumes nothing.
+use mathlib.Core.Path.{_≡_, sym, ap, _∙_}
+use mathlib.Core.List.{List}
+use Prim.Native.Nat.{ℕ}
+use lib.IntN.{ℤ}
+use Rattle.rewriting.proofs.Determined.{checked-one, swept-one, rewritten-one}
+use Rattle.matcher.proofs.Determined.{listed-one}
+use Rattle.exports.specs.Answers.{listCode, checkCode, sweepCode, rewriteCode, ListedAs, CheckedAs, SweptAs, RewrittenAs}
+
+pub listed-as-one : (p r l s w : List ℕ) (j k : ℤ) (m n x y : List ℕ) → ListedAs p r l s w j m x → ListedAs p r l s w k n y
+    → (j ≡ k) × (m ≡ n) × (x ≡ y)
+listed-as-one p r l s w j k m n x y f g =
+    let e = listed-one p r l s w (f .0) (g .0) m n x y (f .1) (g .1) in (f .2 ∙ ap listCode (e .0) ∙ sym (g .2), e .1, e .2)
+
+pub checked-as-one : (p r l s w : List ℕ) (j k : ℤ) → CheckedAs p r l s w j → CheckedAs p r l s w k → j ≡ k
+checked-as-one p r l s w j k f g = f .2 ∙ ap checkCode (checked-one p r l s w (f .0) (g .0) (f .1) (g .1)) ∙ sym (g .2)
+
+pub swept-as-one : (p l s o w : List ℕ) (j k : ℤ) (m n : List ℕ) → SweptAs p l s o w j m → SweptAs p l s o w k n → (j ≡ k) × (m ≡ n)
+swept-as-one p l s o w j k m n f g =
+    let e = swept-one p l s o w (f .0) (g .0) m n (f .1) (g .1) in (f .2 ∙ ap sweepCode (e .0) ∙ sym (g .2), e .1)
+
+pub rewritten-as-one : (p q r l s o w : List ℕ) (j k : ℤ) (m n : List ℕ) → RewrittenAs p q r l s o w j m → RewrittenAs p q r l s o w k n
+    → (j ≡ k) × (m ≡ n)
+rewritten-as-one p q r l s o w j k m n f g =
+    let e = rewritten-one p q r l s o w (f .0) (g .0) m n (f .1) (g .1) in (f .2 ∙ ap rewriteCode (e .0) ∙ sym (g .2), e .1)
