@@ -2,11 +2,12 @@
 //
 // A file that won't open counts as empty, and of one that is too long so much is read that the length is still refused. Two programs call
 // it: `onestep`, document 01's program, on `pattern.rec` and `recipe.rec` in the folder it is run in, and `test_program` on cases whose
-// outputs are compared with stored ones. It promises that it is safe and ends; `matcher` promises the listing, and `printing` the text of
-// each printed line. It rests on these two.
+// outputs are compared with stored ones. It promises that it is safe and ends, and that it lends `list` a line table, a value table and a
+// work area of the full length: `print_answer` asks for no less. `matcher` promises the listing, and `printing` the text of each printed
+// line. It rests on these two.
 //
-// It reads one record more than a table may have, so that `list` itself refuses a file that is too long, with 1 or 4. The function that
-// runs takes the two paths, so that the cases of `test_program` are folders of one crate.
+// It has room to read one record more than a table may have, which `print_files` asks for, so that `list` itself refuses a file that is too
+// long, with 1 or 4. The function that runs takes the two paths, so that the cases of `test_program` are folders of one crate.
 
 use enumeration::ListAnswer;
 use libc::close;
@@ -14,11 +15,11 @@ use records::PATTERN_RECORDS;
 use records::RECIPE_RECORDS;
 use records::RECORD;
 use records::TABLE_BYTES;
-ghost use Prim.Native.Nat.{_≤_};
+ghost use Prim.Native.Nat.{_+_, _*_};
 ghost use mathlib.Core.Path.{_≡_};
 ghost use lib.ListN.{length};
 ghost use Rattle.io.specs.Counts.{Counts};
-ghost use Rattle.terms.specs.Figures.{tableBytes};
+ghost use Rattle.terms.specs.Figures.{patternRecords, recipeRecords, tableBytes};
 
 // Room for a table that is one record too long.
 const PATTERN_ROOM: usize = RECORD * PATTERN_RECORDS + RECORD;
@@ -38,9 +39,9 @@ fn read(path: &[u8], table: &mut [u8]) -> usize
     n
 }
 
-// Lists into the tables and prints what came of it.
+// Lists into full tables and prints what came of it.
 fn print_answer(pattern: &[u8], recipe: &[u8], lines: &mut [u8], values: &mut [u8], work: &mut [u8])
-    requires { ⌜ (length (now lines) ≤ tableBytes) × (length (now values) ≤ tableBytes) ⌝ }
+    requires { ⌜ (length (now lines) ≡ tableBytes) × (length (now values) ≡ tableBytes) × (length (now work) ≡ tableBytes) ⌝ }
 {
     let answer = matcher::list(pattern, recipe, lines, values, work);
     match answer {
@@ -56,7 +57,7 @@ fn full_table() -> [u8; TABLE_BYTES]
     [0; TABLE_BYTES]
 }
 
-// Lists with full tables and prints.
+// Lends full tables.
 fn print_matches(pattern: &[u8], recipe: &[u8]) {
     let mut lines = full_table();
     let mut values = full_table();
@@ -64,11 +65,18 @@ fn print_matches(pattern: &[u8], recipe: &[u8]) {
     print_answer(pattern, recipe, &mut lines, &mut values, &mut work);
 }
 
+// Reads the files into their rooms, lists and prints.
+fn print_files(pattern_path: &[u8], recipe_path: &[u8], pattern: &mut [u8], recipe: &mut [u8])
+    requires { ⌜ (length (now pattern) ≡ 4 * (patternRecords + 1)) × (length (now recipe) ≡ 4 * (recipeRecords + 1)) ⌝ }
+{
+    let n = read(pattern_path, pattern);
+    let m = read(recipe_path, recipe);
+    print_matches(&pattern[..n], &recipe[..m]);
+}
+
 // The whole program, on the files at two paths.
 pub fn run(pattern_path: &[u8], recipe_path: &[u8]) {
     let mut pattern = [0u8; PATTERN_ROOM];
     let mut recipe = [0u8; RECIPE_ROOM];
-    let n = read(pattern_path, &mut pattern);
-    let m = read(recipe_path, &mut recipe);
-    print_matches(&pattern[..n], &recipe[..m]);
+    print_files(pattern_path, recipe_path, &mut pattern, &mut recipe);
 }
