@@ -5,7 +5,7 @@ use mathlib.Core.Path.{_≡_, refl}
 use mathlib.Core.Option.{some}
 use mathlib.Core.List.{List, [], _∷_, _++_}
 use mathlib.Core.Logic.{inl}
-use Prim.Native.Nat.{ℕ, _≤_}
+use Prim.Native.Nat.{ℕ, _*_, _-_, _≤_}
 use native.Mathlib.Omega.{arith}
 use lib.Dec.{lit≤}
 use lib.ListN.{replicate}
@@ -42,9 +42,10 @@ r = encode recipe
 abbrev lines : List Line
 lines = from variables (some identity ∷ some (con 0) ∷ []) ∷ from variables (some (lam (con 0)) ∷ []) ∷ []
 
--- line 0: 2 records from 0 on and 1 from 2 on; line 1: 2 records from 3 on
+-- line 0: 2 records from 0 on and 1 from 2 on; line 1: 2 records from 3 on; all else open
 abbrev lineBytes : List ℕ
-lineBytes = (0 ∷ 0 ∷ 0 ∷ 2 ∷ 0 ∷ 2 ∷ 0 ∷ 1 ∷ replicate 24 0) ++ (0 ∷ 3 ∷ 0 ∷ 2 ∷ replicate 28 0)
+lineBytes =
+    (0 ∷ 0 ∷ 0 ∷ 2 ∷ 0 ∷ 2 ∷ 0 ∷ 1 ∷ replicate (4 * variables - 8) 0) ++ (0 ∷ 3 ∷ 0 ∷ 2 ∷ replicate (4 * variables - 4) 0)
 
 -- `\ #0`, `k0`, `\ k0`
 abbrev valueBytes : List ℕ

@@ -1,5 +1,7 @@
--- "A pattern without variables has one all-zero line or none." Its lines assign nothing, so each is the line of open entries, whose bytes
--- are zero and which has no values; and since lines go up, none stands there twice. Assumes nothing.
+-- "A pattern without variables has one all-zero line or none. No match is a count of 0." The lines of such a pattern assign nothing, so
+-- each is the line of open entries, whose bytes are zero and which has no values; and since lines go up, none stands there twice. A line of
+-- any listing has a filling, which is a match. Assumes nothing.
+--   openLine n   the line of n open entries
 use mathlib.Core.Path.{_≡_, refl, ap, sym, _∙_, subst}
 use mathlib.Core.Option.{none, some}
 use mathlib.Core.List.{List, [], _∷_, append-nil}
@@ -7,13 +9,14 @@ use mathlib.Core.Logic.{_⊎_, inl, inr}
 use Prim.Native.Nat.{ℕ, zero, suc, _*_}
 use native.Mathlib.Omega.{arith}
 use lib.ListN.{length, replicate}
-use Rattle.terms.specs.Term.{Term, Occurs}
-use Rattle.terms.specs.Assignment.{Assigns}
+use Rattle.terms.specs.Term.{Term, Occurs, Below}
+use Rattle.terms.specs.Assignment.{Assignment, Assigns, Match}
 use Rattle.terms.specs.Listing.{Line, In, Less, Full}
 use Rattle.terms.specs.Layout.{lineBytes, lineValues, lineTable, valueTable}
 use Rattle.terms.proofs.Order.{less-irrefl}
+use Rattle.matching.proofs.Lists.{witness}
+use Rattle.matching.proofs.Partial.{restrict, entries-restrict, complete-restrict, agrees-restrict}
 
--- the line that assigns nothing
 abbrev pub openLine : ℕ → Line
 openLine n = replicate n none
 
@@ -50,3 +53,12 @@ open-line-table n = append-nil (lineBytes 0 (openLine n)) ∙ open-bytes 0 n
 
 pub open-value-table : (n : ℕ) → valueTable (openLine n ∷ []) ≡ []
 open-value-table n = append-nil (lineValues (openLine n)) ∙ open-values n
+
+-- no match, no line
+pub no-match : (n : ℕ) (p t : Term) → Below n p → ((a : Assignment) → ¬ Match n p t a) → (ls : List Line) → Full n p t ls → ls ≡ []
+no-match n p t b h [] f = refl
+no-match n p t b h (l ∷ ls) f =
+    let w = witness (λ i. Occurs i p) l (f .assigns l (inl refl)) in
+    let a = restrict n (w .φ) in
+    absurd (h a (f .sound a (entries-restrict n (w .φ) (w .values)) (complete-restrict n p b (w .φ)) l (inl refl)
+    (agrees-restrict n (w .φ) l (f .entries l (inl refl)) .0 (w .extends))))

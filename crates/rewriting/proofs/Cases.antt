@@ -3,11 +3,11 @@
 use mathlib.Core.Path.{_≡_, refl, sym, ap, subst}
 use mathlib.Core.List.{List, _∷_, _++_}
 use mathlib.Core.Logic.{inl, inr}
-use Prim.Native.Nat.{ℕ, zero, suc}
+use Prim.Native.Nat.{ℕ, zero, suc, _*_, _-_}
 use native.Mathlib.Omega.{arith}
 use lib.Dec.{lit<, lit≤}
 use lib.ListN.{length, replicate}
-use Rattle.terms.specs.Figures.{tableBytes}
+use Rattle.terms.specs.Figures.{variables, tableBytes}
 use Rattle.terms.specs.Term.{Term, app, lam, loc, con, var, Occurs, size}
 use Rattle.terms.specs.Sweep.{sweep, fill, largest}
 use Rattle.terms.specs.Table.{encode, IsTable}
@@ -44,7 +44,7 @@ abbrev φ : ℕ → Term
 
 -- the line: 5 records from 0, 6 records from 5, and for the variables that don't occur bytes that are not read
 abbrev line : List ℕ
-line = 0 ∷ 0 ∷ 0 ∷ 5 ∷ 0 ∷ 5 ∷ 0 ∷ 6 ∷ replicate 24 255
+line = 0 ∷ 0 ∷ 0 ∷ 5 ∷ 0 ∷ 5 ∷ 0 ∷ 6 ∷ replicate (4 * variables - 8) 255
 
 abbrev values : List ℕ
 values = encode first ++ r
