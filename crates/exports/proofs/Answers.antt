@@ -19,6 +19,7 @@ use Rattle.terms.specs.Sweep.{sweep, largest}
 use Rattle.terms.specs.Refusal.{Row, Passed, swept, output, unmatched}
 use Rattle.refusals.specs.declared.Refusal.{Refusal}
 use Rattle.refusals.specs.Judged.{number}
+use Rattle.refusals.proofs.Numbers.{number-most}
 use Rattle.rewriting.specs.declared.SweepAnswer.{SweepAnswer}
 use Rattle.rewriting.specs.declared.RewriteAnswer.{RewriteAnswer}
 use Rattle.rewriting.specs.Operations.{lentForSweep, lentForRewrite, Written, Swept, Rewritten}
@@ -90,20 +91,7 @@ fits-minus zero h = record { sfits = lit< tt }
 fits-minus (suc n) h = record { sfits = omega arith }
 
 pub number-few : (c : Refusal) → number c ≤ tableBytes
-number-few Refusal.PatternLength = omega arith
-number-few Refusal.PatternRecord = omega arith
-number-few Refusal.PatternTerm = omega arith
-number-few Refusal.RecipeLength = omega arith
-number-few Refusal.RecipeRecord = omega arith
-number-few Refusal.RecipeTerm = omega arith
-number-few Refusal.RecipeRedex = omega arith
-number-few Refusal.Tables = omega arith
-number-few Refusal.LineRoom = omega arith
-number-few Refusal.ValueRoom = omega arith
-number-few Refusal.Assignment = omega arith
-number-few Refusal.SweptForm = omega arith
-number-few Refusal.Output = omega arith
-number-few Refusal.NoMatch = omega arith
+number-few c = omega (arith, number-most c)
 
 pub fits-refusal : (c : Refusal) → SFits w64 (refusalCode c)
 fits-refusal c = fits-minus (number c) (number-few c)

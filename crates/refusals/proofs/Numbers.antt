@@ -1,5 +1,5 @@
--- A refusal is known by its number: no two have one, and none has 0; so rows refuse with one cause only. It stands at its number in a list
--- of all. Assumes nothing.
+-- A refusal is known by its number: no two have one, and all are from 1 to 14; so rows refuse with one cause only. It stands at its number
+-- in a list of all. Assumes nothing.
 --   ofNumber n   the refusal of number n
 use mathlib.Core.Path.{_≡_, refl, sym, ap, _∙_}
 use mathlib.Core.List.{List, [], _∷_}
@@ -21,27 +21,30 @@ refusals =
 abbrev pub ofNumber : ℕ → Refusal
 ofNumber n = getD (Refusal.NoMatch ∷ refusals) n Refusal.NoMatch
 
-numbered : (c : Refusal) → (0 < number c) × (ofNumber (number c) ≡ c)
-numbered Refusal.PatternLength = (lit< tt, refl)
-numbered Refusal.PatternRecord = (lit< tt, refl)
-numbered Refusal.PatternTerm = (lit< tt, refl)
-numbered Refusal.RecipeLength = (lit< tt, refl)
-numbered Refusal.RecipeRecord = (lit< tt, refl)
-numbered Refusal.RecipeTerm = (lit< tt, refl)
-numbered Refusal.RecipeRedex = (lit< tt, refl)
-numbered Refusal.Tables = (lit< tt, refl)
-numbered Refusal.LineRoom = (lit< tt, refl)
-numbered Refusal.ValueRoom = (lit< tt, refl)
-numbered Refusal.Assignment = (lit< tt, refl)
-numbered Refusal.SweptForm = (lit< tt, refl)
-numbered Refusal.Output = (lit< tt, refl)
-numbered Refusal.NoMatch = (lit< tt, refl)
+numbered : (c : Refusal) → (0 < number c) × (number c < 15) × (ofNumber (number c) ≡ c)
+numbered Refusal.PatternLength = (lit< tt, lit< tt, refl)
+numbered Refusal.PatternRecord = (lit< tt, lit< tt, refl)
+numbered Refusal.PatternTerm = (lit< tt, lit< tt, refl)
+numbered Refusal.RecipeLength = (lit< tt, lit< tt, refl)
+numbered Refusal.RecipeRecord = (lit< tt, lit< tt, refl)
+numbered Refusal.RecipeTerm = (lit< tt, lit< tt, refl)
+numbered Refusal.RecipeRedex = (lit< tt, lit< tt, refl)
+numbered Refusal.Tables = (lit< tt, lit< tt, refl)
+numbered Refusal.LineRoom = (lit< tt, lit< tt, refl)
+numbered Refusal.ValueRoom = (lit< tt, lit< tt, refl)
+numbered Refusal.Assignment = (lit< tt, lit< tt, refl)
+numbered Refusal.SweptForm = (lit< tt, lit< tt, refl)
+numbered Refusal.Output = (lit< tt, lit< tt, refl)
+numbered Refusal.NoMatch = (lit< tt, lit< tt, refl)
 
 pub number-positive : (c : Refusal) → 0 < number c
 number-positive c = numbered c .0
 
+pub number-most : (c : Refusal) → number c < 15
+number-most c = numbered c .1
+
 pub of-number : (c : Refusal) → ofNumber (number c) ≡ c
-of-number c = numbered c .1
+of-number c = numbered c .2
 
 pub number-inj : (c d : Refusal) → number c ≡ number d → c ≡ d
 number-inj c d e = sym (of-number c) ∙ ap ofNumber e ∙ of-number d
