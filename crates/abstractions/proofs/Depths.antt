@@ -2,61 +2,57 @@
 -- its parts' depths were. By the term's kind, which its first record shows; an argument's depths stand behind the head's. Assumes nothing.
 use mathlib.Core.Path.{_≡_, sym, ap, _∙_}
 use mathlib.Core.List.{List}
-use mathlib.Core.Logic.{_⊎_, inl, inr, ⊎-elim}
-use Prim.Native.Nat.{ℕ, suc, _+_, _-_, _/_, _≤_, _<_}
+use mathlib.Core.Logic.{inl, inr, ⊎-elim}
+use Prim.Native.Nat.{ℕ, suc, _+_, _/_, _≤_, _<_}
 use native.Mathlib.Omega.{arith}
 use native.Mathlib.Numerals.{add-one}
 use lib.ListN.{length, getD, set}
 use lib.Seq.{getD-set-same, getD-set-other}
 use Rattle.terms.specs.Term.{Term, app, lam, size}
 use Rattle.matching.specs.Occurrences.{partAt}
-use Rattle.records.specs.Parts.{Part, Whole, Ends}
-use Rattle.records.proofs.Parts.{whole, leaf-size, application, abstraction, argument-part, ends-app, ends-lam, ends-leaf}
+use Rattle.records.specs.Parts.{slice, Part, Whole, Ends}
+use Rattle.records.proofs.Parts.{whole, leaf-size}
+use Rattle.records.proofs.Slices.{part-slice}
+use Rattle.shifting.proofs.Slices.{application-slices, abstraction-slices, argument-slice, ends-app, ends-lam, ends-leaf}
 use Rattle.abstractions.specs.Occurrences.{DepthOf, DepthSource, WroteDepths}
 use Rattle.abstractions.proofs.Occurrences.{index-app, index-lam, index-leaf}
 
--- what a caller reads, and what it shows: the depths of a whole part, from index 0 on
-pub depth-written : (l : List ℕ) (at : ℕ) (out after : List ℕ) (r : ℕ) → WroteDepths l at 0 out 0 after r → (j : ℕ)
-    → DepthOf l at j (getD after j 0)
-depth-written l at out after r x j t p h = ap (λ (i : ℕ). getD after i 0) (omega arith) ∙ x .depths t p j h
-
-pub depth-source : (l : List ℕ) (at d room o : ℕ) (t : Term) → Part l at t → o + size t ≤ room → d + size t ≤ 256
-    → DepthSource l at d room o
-depth-source l at d room o t p e s = record {
+depth-source : (s : List ℕ) (d room o : ℕ) (t : Term) → Part s 0 t → o + size t ≤ room → d + size t ≤ 256 → DepthSource s d room o
+depth-source s d room o t p e n = record {
   tree = t;
   part = p;
   enough = e;
-  shallow = s;
+  shallow = n;
   least = omega (arith, p .some, p .within);
   first = omega (arith, p .some);
   fits = omega (arith, p .some);
 }
 
-module _ (l : List ℕ) (at d o : ℕ) where
+module _ (s : List ℕ) (d o : ℕ) where
   -- what the parts need, and the room, as the length of what a writer left
-  module _ (room rest : ℕ) (same-room : rest ≡ room) (x : DepthSource l at d room o) where
-    pub depths-whole : Whole l at
-    depths-whole = whole l at (x .tree) (x .part)
+  module _ (room rest : ℕ) (same-room : rest ≡ room) (x : DepthSource s d room o) where
+    pub depths-whole : Whole s 0
+    depths-whole = whole s 0 (x .tree) (x .part)
 
-    pub depths-head : getD l at 0 ≡ 0 → DepthSource l (at + 4) d rest (o + 1)
+    pub depths-head : getD s 0 0 ≡ 0 → DepthSource (slice s 4) d rest (o + 1)
     depths-head z =
-        let v = application l at (x .tree) (x .part) z in
+        let v = application-slices s (x .tree) (x .part) z in
         let n = ap size (v .is) in
-        depth-source l (at + 4) d rest (o + 1) (v .f) (v .head) (omega (arith, x .enough)) (omega (arith, x .shallow))
+        depth-source (slice s 4) d rest (o + 1) (v .f) (v .head) (omega (arith, x .enough)) (omega (arith, x .shallow))
 
-    pub depths-argument : (h : ℕ) → getD l at 0 ≡ 0 → Ends l (at + 4) h → DepthSource l h d rest (o + (h - at) / 4)
+    pub depths-argument : (h : ℕ) → getD s 0 0 ≡ 0 → Ends (slice s 4) 0 h → DepthSource (slice s (4 + h)) d rest (o + (4 + h) / 4)
     depths-argument h z e =
-        let v = application l at (x .tree) (x .part) z in
+        let v = application-slices s (x .tree) (x .part) z in
         let n = ap size (v .is) in
         let m = e .exact (v .f) (v .head) in
-        depth-source l h d rest (o + (h - at) / 4) (v .a) (argument-part l at h (x .tree) e v) (omega (arith, x .enough))
+        depth-source (slice s (4 + h)) d rest (o + (4 + h) / 4) (v .a) (argument-slice s h (x .tree) e v) (omega (arith, x .enough))
         (omega (arith, x .shallow))
 
-    pub depths-body : getD l at 0 ≡ 1 → DepthSource l (at + 4) (d + 1) rest (o + 1)
+    pub depths-body : getD s 0 0 ≡ 1 → DepthSource (slice s 4) (d + 1) rest (o + 1)
     depths-body z =
-        let v = abstraction l at (x .tree) (x .part) z in
+        let v = abstraction-slices s (x .tree) (x .part) z in
         let n = ap size (v .is) in
-        depth-source l (at + 4) (d + 1) rest (o + 1) (v .b) (v .body) (omega (arith, x .enough)) (omega (arith, x .shallow))
+        depth-source (slice s 4) (d + 1) rest (o + 1) (v .b) (v .body) (omega (arith, x .enough)) (omega (arith, x .shallow))
 
   -- what was written
   module _ (out : List ℕ) (room : o < length out) where
@@ -72,13 +68,13 @@ module _ (l : List ℕ) (at d o : ℕ) where
     at-index : (after : List ℕ) (i j k : ℕ) → i ≡ j → getD after j 0 ≡ k → getD after i 0 ≡ k
     at-index after i j k e p = ap (λ (n : ℕ). getD after n 0) e ∙ p
 
-    pub depths-application : (q after : List ℕ) (h r : ℕ) → getD l at 0 ≡ 0 → WroteDepths l (at + 4) d (set out o d) (o + 1) q h
-        → WroteDepths l h d q (o + (h - at) / 4) after r → WroteDepths l at d out o after r
+    pub depths-application : (q after : List ℕ) (h r : ℕ) → getD s 0 0 ≡ 0 → WroteDepths (slice s 4) d (set out o d) (o + 1) q h
+        → WroteDepths (slice s (4 + h)) d q (o + (4 + h) / 4) after r → WroteDepths s d out o after (4 + h + r)
     depths-application q after h r z x y = record {
-      ends = ends-app l at h r z (x .ends) (y .ends);
+      ends = ends-app s h r z (x .ends) (y .ends);
       depths = λ t p j i.
-          let v = application l at t p z in
-          let w = argument-part l at h t (x .ends) v in
+          let v = application-slices s t p z in
+          let w = argument-slice s h t (x .ends) v in
           let m = x .ends .exact (v .f) (v .head) in
           let n : j < size (app (v .f) (v .a)) = omega (arith, ap size (v .is)) in
           index-app (At after) d (v .f) (v .a)
@@ -86,13 +82,13 @@ module _ (l : List ℕ) (at d o : ℕ) where
           (y .others (v .a) w o (inl (omega arith)) ∙ x .others (v .f) (v .head) o (inl (omega arith)) ∙ own))
           (λ k u. y .others (v .a) w (o + suc k) (inl (omega arith))
           ∙ at-index q (o + suc k) (o + 1 + k) (partAt d (v .f) k .0) (omega arith) (x .depths (v .f) (v .head) k u))
-          (λ k u. at-index after (o + suc (size (v .f) + k)) (o + (h - at) / 4 + k) (partAt d (v .a) k .0) (omega arith)
+          (λ k u. at-index after (o + suc (size (v .f) + k)) (o + (4 + h) / 4 + k) (partAt d (v .a) k .0) (omega arith)
           (y .depths (v .a) w k u))
           j n
           ∙ ap (λ (u : Term). partAt d u j .0) (sym (v .is));
       others = λ t p i c.
-          let v = application l at t p z in
-          let w = argument-part l at h t (x .ends) v in
+          let v = application-slices s t p z in
+          let w = argument-slice s h t (x .ends) v in
           let m = x .ends .exact (v .f) (v .head) in
           let n = ap size (v .is) in
           y .others (v .a) w i (⊎-elim (λ u. inl (omega arith)) (λ u. inr (omega arith)) c)
@@ -100,12 +96,12 @@ module _ (l : List ℕ) (at d o : ℕ) where
           ∙ other i (⊎-elim (λ u e. omega arith) (λ u e. omega arith) c);
     }
 
-    pub depths-abstraction : (after : List ℕ) (r : ℕ) → getD l at 0 ≡ 1 → WroteDepths l (at + 4) (d + 1) (set out o d) (o + 1) after r
-        → WroteDepths l at d out o after r
+    pub depths-abstraction : (after : List ℕ) (r : ℕ) → getD s 0 0 ≡ 1 → WroteDepths (slice s 4) (d + 1) (set out o d) (o + 1) after r
+        → WroteDepths s d out o after (4 + r)
     depths-abstraction after r z x = record {
-      ends = ends-lam l at r z (x .ends);
+      ends = ends-lam s r z (x .ends);
       depths = λ t p j i.
-          let v = abstraction l at t p z in
+          let v = abstraction-slices s t p z in
           let n : j < size (lam (v .b)) = omega (arith, ap size (v .is)) in
           index-lam (At after) d (v .b) (at-index after (o + 0) o d (omega arith) (x .others (v .b) (v .body) o (inl (omega arith)) ∙ own))
           (λ k u.
@@ -114,17 +110,26 @@ module _ (l : List ℕ) (at d o : ℕ) where
           j n
           ∙ ap (λ (u : Term). partAt d u j .0) (sym (v .is));
       others = λ t p i c.
-          let v = abstraction l at t p z in
+          let v = abstraction-slices s t p z in
           let n = ap size (v .is) in
           x .others (v .b) (v .body) i (⊎-elim (λ u. inl (omega arith)) (λ u. inr (omega arith)) c)
           ∙ other i (⊎-elim (λ u e. omega arith) (λ u e. omega arith) c);
     }
 
-    pub depths-leaf : Whole l at → ¬ (getD l at 0 ≡ 0) → ¬ (getD l at 0 ≡ 1) → WroteDepths l at d out o (set out o d) (at + 4)
+    pub depths-leaf : Whole s 0 → ¬ (getD s 0 0 ≡ 0) → ¬ (getD s 0 0 ≡ 1) → WroteDepths s d out o (set out o d) 4
     depths-leaf x n m = record {
-      ends = ends-leaf l at n m x;
+      ends = ends-leaf s n m x;
       depths = λ t p j i.
-          let s = leaf-size l at t p n m in
+          let k = leaf-size s 0 t p n m in
           index-leaf (At (set out o d)) d t (at-index (set out o d) (o + 0) o d (omega arith) own) j (omega arith);
-      others = λ t p i c. let s = leaf-size l at t p n m in other i (⊎-elim (λ u e. omega arith) (λ u e. omega arith) c);
+      others = λ t p i c. let k = leaf-size s 0 t p n m in other i (⊎-elim (λ u e. omega arith) (λ u e. omega arith) c);
     }
+
+-- a part of a table, handed on as a slice: what writing its depths needs, and what a caller reads
+pub depths-at : (l : List ℕ) (at d room o : ℕ) (t : Term) → Part l at t → o + size t ≤ room → d + size t ≤ 256
+    → DepthSource (slice l at) d room o
+depths-at l at d room o t p e n = depth-source (slice l at) d room o t (part-slice l at t p) e n
+
+pub depth-written : (l : List ℕ) (at : ℕ) (out after : List ℕ) (r : ℕ) → WroteDepths (slice l at) 0 out 0 after r → (j : ℕ)
+    → DepthOf l at j (getD after j 0)
+depth-written l at out after r x j t p h = ap (λ (i : ℕ). getD after i 0) (omega arith) ∙ x .depths t (part-slice l at t p) j h

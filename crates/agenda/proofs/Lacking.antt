@@ -9,28 +9,30 @@ use native.Mathlib.Omega.{arith}
 use lib.ListN.{getD, replicate, getD-replicate, length-replicate}
 use Rattle.terms.specs.Figures.{patternRecords}
 use Rattle.terms.specs.Term.{Term, uses}
-use Rattle.records.specs.Parts.{Part}
+use Rattle.records.specs.Parts.{slice, Part}
 use Rattle.records.specs.Tests.{Asks, Walked}
 use Rattle.records.specs.declared.Ask.the-variants.{Other}
 use Rattle.records.specs.declared.Walk.{Walk}
 use Rattle.records.specs.declared.Walk.the-variants.{Upto}
+use Rattle.records.proofs.Slices.{slice-upto}
 use Rattle.shifting.specs.Locals.{Marked}
+use Rattle.shifting.proofs.Locals.{marked-at}
 use Rattle.agenda.specs.Locals.{Unused, Lacks}
 
 pub not-unused : (P : List ℕ) (i k m : ℕ) → Unused P i k m false
 unfolding Unused
 not-unused P i k m = tt
 
-pub is-unused : (P : List ℕ) (i k m n : ℕ) (w : Walk) → m ≡ 1 → Walked P i (Asks Other k) w → w ≡ Upto n → Unused P i k m true
+pub is-unused : (P : List ℕ) (i k m n : ℕ) (w : Walk) → m ≡ 1 → Walked (slice P i) 0 (Asks Other k) w → w ≡ Upto n → Unused P i k m true
 unfolding Unused Walked
-is-unused P i k m n w h x e = (h, subst (Walked P i (Asks Other k)) e x .1)
+is-unused P i k m n w h x e = (h, slice-upto P i (Asks Other k) n w e x .1)
 
 pub lacks-none : (P : List ℕ) (i : ℕ) (W : List ℕ) (j : ℕ) → Lacks P i W j false
 unfolding Lacks
 lacks-none P i W j = tt
 
 pub lacks : (P : List ℕ) (i : ℕ) (W : List ℕ) (j : ℕ) (m : List ℕ) (k r : ℕ) (b : Bool) → k < patternRecords
-    → Marked W j 0 (replicate patternRecords 0) m r → Unused P i k (getD m k 0) b → b ≡ true → Lacks P i W j true
+    → Marked (slice W j) 0 (replicate patternRecords 0) m r → Unused P i k (getD m k 0) b → b ≡ true → Lacks P i W j true
 unfolding Lacks Unused
 lacks P i W j m k r b h x u e =
     let v = subst (Unused P i k (getD m k 0)) e u in
@@ -39,7 +41,7 @@ lacks P i W j m k r b h x u e =
     marked : (t : Term) → Part W j t → (c : Bool) → uses k t ≡ c → uses k t ≡ true
     marked t z true q = q
     marked t z false q =
-        let g = x .marks t z k (omega (arith, length-replicate {A = ℕ} patternRecords 0)) in
+        let g = marked-at W j 0 (replicate patternRecords 0) m r x t z k (omega (arith, length-replicate {A = ℕ} patternRecords 0)) in
         absurd (omega (
           arith,
           subst (Unused P i k (getD m k 0)) e u .0,

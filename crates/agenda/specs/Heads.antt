@@ -1,6 +1,6 @@
 -- What is known of the heads of a part and a target.
---   Agree P i W j b   unless b, the term of P at byte i, if it has a rigid head, never sweeps to the one of W at byte j,
---                     moved out of binders
+--   Agree P i W j b   unless b, the term of P at byte i, if it has a rigid head, never sweeps to the one of W at byte j, moved out of
+--                     binders
 use mathlib.Core.Path.{_≡_}
 use mathlib.Core.Bool.{Bool, true, false}
 use mathlib.Core.List.{List}

@@ -9,7 +9,7 @@ use Prim.Native.Nat.{ℕ, _*_, _≤_}
 use lib.ListN.{length}
 use Rattle.terms.specs.Figures.{patternRecords}
 use Rattle.terms.specs.Term.{Term, uses}
-use Rattle.records.specs.Parts.{Part, Whole}
+use Rattle.records.specs.Parts.{slice, Part, Whole}
 use Rattle.shifting.specs.Locals.{Marks}
 
 unfoldable pub Unused : List ℕ → ℕ → ℕ → ℕ → Bool → Type 0
@@ -19,7 +19,8 @@ Unused P i k m false = Unit {0}
 pub record Locals (P : List ℕ) (i : ℕ) (W : List ℕ) (j : ℕ) : Type 0 where
   pub part : Whole P i
   pub short : length P ≤ 4 * patternRecords
-  pub target : Marks W j 0 patternRecords
+  pub target : Marks (slice W j) 0 patternRecords
+  pub place : j ≤ length W
 
 unfoldable pub Lacks : List ℕ → ℕ → List ℕ → ℕ → Bool → Type 0
 Lacks P i W j true = (k : ℕ) × ((p t : Term) → Part P i p → Part W j t → (uses k p ≡ false) × (uses k t ≡ true))

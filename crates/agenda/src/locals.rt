@@ -17,7 +17,7 @@ pub fn is_unused(pattern: &[u8], i: usize, k: usize, mark: u8) -> bool
     if mark != 1 {
         return false;
     }
-    let walk = records::ask_at(pattern, i, Ask::Other, k);
+    let walk = records::ask_part(&pattern[i..], Ask::Other, k);
     match walk {
         Walk::Upto(_) => true,
         Walk::No => false,
@@ -30,7 +30,7 @@ pub fn lacks_local(pattern: &[u8], i: usize, work: &[u8], j: usize) -> bool
     ensures { λ r. ⌜ Lacks (now (pattern .entry)) i (now (work .entry)) j r ⌝ }
 {
     let mut marks = [0u8; PATTERN_RECORDS];
-    shifting::loose_locals(work, j, 0, &mut marks);
+    shifting::loose_locals(&work[j..], 0, &mut marks);
     let mut k = 0;
     while k < PATTERN_RECORDS {
         if is_unused(pattern, i, k, marks[k]) {

@@ -25,13 +25,16 @@ use Rattle.matching.proofs.Alternatives.{alternative-parts, alternative-no-part
 use Rattle.matching.proofs.Prune.{no-local, constant-local}
 use Rattle.matching.proofs.Step.{constant-normal}
 use Rattle.matching.proofs.Targets.{closed-more, closed-shift, constant-closed, constant-ground}
-use Rattle.records.specs.Parts.{Part, Whole, Ends}
+use Rattle.records.specs.Parts.{slice, Part, Whole, Ends}
+use Rattle.records.proofs.Slices.{part-slice, whole-slice, slice-length}
 use Rattle.records.proofs.Parts.{application, kind-at, whole}
-use Rattle.sweeping.specs.Writers.{Source, Wrote}
-use Rattle.sweeping.proofs.Writers.{source}
+use Rattle.substitution.specs.Writers.{Source, Wrote}
+use Rattle.substitution.proofs.Writers.{source, slice-wrote}
 use Rattle.sweeping.proofs.Contraction.{closed-fits}
 use Rattle.copying.proofs.Stores as Stores
 use Rattle.assignments.specs.declared.Entry.{Entry}
+use Rattle.shifting.proofs.Tests.{rigid-at}
+use Rattle.shifting.proofs.Locals.{marks-at}
 use Rattle.agenda.specs.declared.Agenda.{Agenda}
 use Rattle.agenda.specs.declared.Branch.{Branch}
 use Rattle.agenda.specs.declared.StoredGoal.{StoredGoal}
@@ -40,7 +43,7 @@ use Rattle.agenda.specs.declared.Ways.{Ways}
 use Rattle.agenda.specs.Stored.{storedBytes, StoredAt, StoredFits}
 use Rattle.agenda.specs.State.{targetBytes, Target, State, Bounds, Easy, Deferred, Chain, relinking}
 use Rattle.agenda.specs.Moves.{Question, Move, Moved, Failed, Branched}
-use Rattle.abstractions.proofs.Depths.{depth-source, depth-written}
+use Rattle.abstractions.proofs.Depths.{depths-at, depth-written}
 use Rattle.abstractions.specs.Occurrences.{DepthSource, WroteDepths}
 use Rattle.alternatives.specs.Ways.{Way, HasWays, HasDepths, HeadLacks, Fitting}
 use Rattle.builds.specs.Refuting.{SkeletonSource, PartSkeleton}
@@ -50,7 +53,7 @@ use Rattle.agenda.specs.Stored.{storedMatch, storedBuild}
 use Rattle.agenda.specs.Locals.{Locals, Lacks}
 use Rattle.agenda.proofs.Frame.{Kept, part-kept, part-stored, target-kept, chain-kept, holds-kept, kept-sets, kept-then, length-stored}
 use Rattle.agenda.proofs.Frame.{goal-stored, chain-match}
-use Rattle.builds.proofs.Refutations.{line-values, extended-values}
+use Rattle.builds.proofs.Refutations.{line-values, extended-values, source-at, skeleton-at}
 
 -- the head and the argument of an application that stands in a table
 pub application-parts : (l : List ℕ) (at : ℕ) (f b : Term) → Part l at (app f b) → Part l (at + 4) f × Part l (at + 4 + 4 * size f) b
@@ -140,20 +143,20 @@ module _ (P W : List ℕ) (s : Agenda) (a : List Entry) where
       argument-whole h e =
           from (Whole P h) (λ gs hs l f b t z. whole P h b (argument-from P (r .part) h f b e (site r gs hs l f b t y z .part)))
 
-      pub argument-walkable : (h : ℕ) → Ends P (r .part + 4) h → Whole P h × (patternRecords + length P ≤ h + tableBytes)
-      argument-walkable h e = (argument-whole h e, omega (arith, x .ready .bounds .short))
+      pub argument-place : (h : ℕ) → Ends P (r .part + 4) h → h ≤ length P
+      argument-place h e = omega (arith, e .within)
 
-      pub argument-source : (h : ℕ) → Ends P (r .part + 4) h → SkeletonSource P h W a
-      argument-source h e = from (SkeletonSource P h W a) (λ gs hs l f b t z.
+      pub argument-slice : (h : ℕ) → Ends P (r .part + 4) h → Whole (slice P h) 0
+      argument-slice h e = whole-slice P h (argument-whole h e)
+
+      pub argument-walkable : (h : ℕ) → Ends P (r .part + 4) h → Whole (slice P h) 0 × (patternRecords + length (slice P h) ≤ tableBytes)
+      argument-walkable h e = (argument-slice h e, omega (arith, slice-length P h, x .ready .bounds .short))
+
+      pub argument-source : (h : ℕ) → Ends P (r .part + 4) h → SkeletonSource (slice P h) W a
+      argument-source h e = from (SkeletonSource (slice P h) W a) (λ gs hs l f b t z.
           let v = site r gs hs l f b t y z in
-          record {
-            tree = b;
-            part = argument-from P (r .part) h f b e (v .part);
-            short = x .ready .bounds .short;
-            below = v .suits .0 .0 .1;
-            φ = totalOf l;
-            gives = line-values P W s a l (x .ready .bounds) (z .entries) b;
-          })
+          source-at P h W a b (argument-from P (r .part) h f b e (v .part)) (x .ready .bounds .short) (v .suits .0 .0 .1) (totalOf l)
+          (line-values P W s a l (x .ready .bounds) (z .entries) b))
 
       pub locals : Locals P (r .part + 4) W (r .target)
       locals = from (Locals P (r .part + 4) W (r .target)) (λ gs hs l f b t z.
@@ -161,31 +164,28 @@ module _ (P W : List ℕ) (s : Agenda) (a : List Entry) where
           record {
             part = numbers .head;
             short = x .ready .bounds .short;
-            target = record {
-              tree = t;
-              part = v .part;
-              closed = closed-more (patternRecords - size (app f b)) (0 + patternRecords) t (omega arith) (v .closed);
-              shallow = omega (arith, v .short);
-              least = omega (arith, v .part .some, v .part .within);
-            };
+            target = marks-at W (r .target) 0 patternRecords t (v .part)
+                (closed-more (patternRecords - size (app f b)) (0 + patternRecords) t (omega arith) (v .closed))
+                (omega (arith, v .short));
+            place = omega (arith, v .part .within);
           })
 
       pub counted :
           (h g : ℕ) (c d : Bool) (m : List ℕ) (o : ℕ) (i : Skeleton) → Ends W (r .target) h → Ends P (r .part + 4) g
-          → ((t : Term) → Part P g t → c ≡ rigid t) → PartSkeleton P g W a (i .bytes) (i .length)
-          → Lacks P (r .part + 4) W (r .target) d → WroteDepths W (r .target) 0 (replicate valueRecords 0) 0 m o
+          → ((t : Term) → Part (slice P g) 0 t → c ≡ rigid t) → PartSkeleton (slice P g) W a (i .bytes) (i .length)
+          → Lacks P (r .part + 4) W (r .target) d → WroteDepths (slice W (r .target)) 0 (replicate valueRecords 0) 0 m o
           → Counted P W s a (record { count = (h - r .target) / 4 + 2; argument = g; rigid = c; skeleton = i; lacking = d; depths = m })
       unfolding Lacks
       counted h g c d m o i e j k p n u = record {
         ways = λ gs hs l z. opened gs l (HasWays ((h - r .target) / 4 + 2))
             (λ f b t us o. omega (arith, e .exact t (site r gs us l f b t y o .target .part))) hs z;
         argument = subst (λ (i : ℕ). Ends P (i + 4) g) (y .part) j;
-        rigid-argument = k;
+        rigid-argument = rigid-at P g c k;
         depths-are = λ gs hs l z. opened gs l (HasDepths m)
             (λ f b t us v i q. depth-written W (r .target) _ m o u i t (site r gs us l f b t y v .target .part) q) hs z;
         skeleton-table = p .table;
         skeleton-fits = λ gs hs l z. opened gs l (Fitting (p .table .tree) l) (λ f b t us v φ w q.
-            p .is-skeleton b (argument-from P (r .part) g f b j (site r gs us l f b t y v .part)) φ w
+            skeleton-at P g W a (i .bytes) (i .length) p b (argument-from P (r .part) g f b j (site r gs us l f b t y v .part)) φ w
             (extended-values P W s a l (x .ready .bounds) (v .entries) b φ q)) hs z;
         lacking-head = λ i gs hs l z.
             let q : Lacks P (r .part + 4) W (r .target) true = subst (Lacks P (r .part + 4) W (r .target)) i n in
@@ -195,10 +195,13 @@ module _ (P W : List ℕ) (s : Agenda) (a : List Entry) where
             (q .0, q′ .0, q′ .1)) hs z;
       }
 
-      pub depths-room : DepthSource W (r .target) 0 valueRecords 0
-      depths-room = from (DepthSource W (r .target) 0 valueRecords 0) (λ gs hs l f b t z.
+      pub target-place : r .target ≤ length W
+      target-place = omega (arith, numbers .target .least)
+
+      pub depths-room : DepthSource (slice W (r .target)) 0 valueRecords 0
+      depths-room = from (DepthSource (slice W (r .target)) 0 valueRecords 0) (λ gs hs l f b t z.
           let v = site r gs hs l f b t y z .target in
-          depth-source W (r .target) 0 valueRecords 0 t (v .part) (omega (arith, v .short)) (omega (arith, v .short)))
+          depths-at W (r .target) 0 valueRecords 0 t (v .part) (omega (arith, v .short)) (omega (arith, v .short)))
 
       pub argument-ends : (w : Ways) → Counted P W s a w → Ends P (r .part + 4) (w .argument)
       argument-ends w c = subst (λ (i : ℕ). Ends P (i + 4) (w .argument)) (sym (y .part)) (c .argument)
@@ -389,10 +392,10 @@ constant-lacking P W s a w x c e = died P W s a (Way 1) W (record {
 -- the abstraction over the target, moved in below its binder
 module _ (P W : List ℕ) (s : Agenda) (a : List Entry) (x : ApplicationDeferred P W s a) (r : StoredGoal)
     (y : StoredAt W (s .deferred) r) where
-  pub raises : (room : ℕ) → room ≡ targetBytes → Source (shift 1) W (r .target) 0 room 0
-  raises room h = from P W s a x (Source (shift 1) W (r .target) 0 room 0) (λ gs hs l f b t z.
+  pub raises : (room : ℕ) → room ≡ targetBytes → Source (shift 1) (slice W (r .target)) 0 0 room 0
+  raises room h = from P W s a x (Source (shift 1) (slice W (r .target)) 0 0 room 0) (λ gs hs l f b t z.
       let u = site P W s a r gs hs l f b t y z .target in
-      source (shift 1) W (r .target) 0 room 0 t (u .part)
+      source (shift 1) (slice W (r .target)) 0 0 room 0 t (part-slice W (r .target) t (u .part))
       (closed-fits (33 - size (app f b)) (shift 1 0 t)
       (closed-shift 1 0 (32 - size (app f b)) (33 - size (app f b)) t (omega (arith, u .few)) (u .closed))
       (omega (arith, u .short, size-shift 1 0 t)))
@@ -402,23 +405,29 @@ module _ (P W : List ℕ) (s : Agenda) (a : List Entry) (x : ApplicationDeferred
     pub short : length c ≤ targetBytes
     pub is : (f b t : Term) → ApplicationSite P W s r f b t → c ≡ encode (shift 1 0 t)
 
-  module _ (out after : List ℕ) (next n : ℕ) (h : length out ≡ targetBytes) (w : Wrote (shift 1) W (r .target) 0 out 0 after next n) where
-    raised-end : (f b t : Term) → ApplicationSite P W s r f b t → (n ≡ 4 * size (shift 1 0 t)) × (n ≤ targetBytes)
-    raised-end f b t v =
-        let p : n ≡ 0 + 4 * size (shift 1 0 t) = w .exact t (v .target .part) in
-        (omega arith, omega (arith, size-shift 1 0 t, v .target .short))
+  module _ (out after : List ℕ) (next n : ℕ) (h : length out ≡ targetBytes)
+      (v : Wrote (shift 1) (slice W (r .target)) 0 0 out 0 after next n)
+    where
+      w : Wrote (shift 1) W (r .target) 0 out 0 after (r .target + next) n
+      w = slice-wrote (shift 1) W (r .target) 0 out 0 after next n v
 
-    pub raised-within : n ≤ targetBytes
-    raised-within = from P W s a x (n ≤ targetBytes) (λ gs hs l f b t z. raised-end f b t (site P W s a r gs hs l f b t y z) .1)
+      raised-end : (f b t : Term) → ApplicationSite P W s r f b t → (n ≡ 4 * size (shift 1 0 t)) × (n ≤ targetBytes)
+      raised-end f b t v =
+          let p : n ≡ 0 + 4 * size (shift 1 0 t) = w .exact t (v .target .part) in
+          (omega arith, omega (arith, size-shift 1 0 t, v .target .short))
 
-    pub raised : Raised (take (n - 0) (drop 0 after))
-    raised = record {
-      short = omega (arith, raised-within, length-take (n - 0) (drop 0 after));
-      is = λ f b t v.
-          let p = raised-end f b t v in
-          Stores.stored out after (encode (shift 1 0 t)) n (w .bytes t (v .target .part)) (omega (arith, p .0, encode-length (shift 1 0 t)))
-          (omega (arith, p .1));
-    }
+      pub raised-within : n ≤ targetBytes
+      raised-within = from P W s a x (n ≤ targetBytes) (λ gs hs l f b t z. raised-end f b t (site P W s a r gs hs l f b t y z) .1)
+
+      pub raised : Raised (take (n - 0) (drop 0 after))
+      raised = record {
+        short = omega (arith, raised-within, length-take (n - 0) (drop 0 after));
+        is = λ f b t v.
+            let p = raised-end f b t v in
+            Stores.stored out after (encode (shift 1 0 t)) n (w .bytes t (v .target .part))
+            (omega (arith, p .0, encode-length (shift 1 0 t)))
+            (omega (arith, p .1));
+      }
 
   module _ (c : List ℕ) (w : Raised c) (i : StoredGoal) (ei : i ≡ storedMatch (r .part + 4) (r .target) (r .next)) where
     pub constant-pushes : Pushes W s i c

@@ -23,18 +23,22 @@ use Rattle.matching.proofs.Occurrences.{each-part, first-lowered, first-movable
 use Rattle.matching.proofs.Prune.{build-local}
 use Rattle.matching.proofs.Alternatives.{alternative-argument, listable-argument}
 use Rattle.matching.proofs.Targets.{closed-more, part-closed, part-normal, part-ground, part-size}
-use Rattle.records.specs.Parts.{Part, Whole, Ends}
+use Rattle.records.specs.Parts.{slice, Part, Whole, Ends}
 use Rattle.records.specs.Tests.{Walked}
 use Rattle.records.specs.declared.Walk.{Walk}
 use Rattle.records.specs.declared.Walk.the-variants.{Upto, No}
+use Rattle.records.proofs.Slices.{slice-upto, slice-no}
 use Rattle.records.proofs.Parts.{whole}
-use Rattle.sweeping.specs.Writers.{Wrote}
+use Rattle.substitution.specs.Writers.{Wrote}
 use Rattle.copying.proofs.Stores as Stores
 use Rattle.assignments.specs.declared.Entry.{Entry}
 use Rattle.skeletons.specs.Skeleton.{MayBe}
-use Rattle.shifting.specs.Lowering.{Lowers, Lowered, Leaves, Movable}
+use Rattle.skeletons.proofs.Comparison.{may-be-at}
+use Rattle.shifting.specs.Lowering.{Lowers, Lowered, Movable}
+use Rattle.shifting.proofs.Lowering.{lowers-at, lowered-wrote-at}
 use Rattle.abstractions.specs.Occurrences.{DepthOf, Looks, Earlier}
-use Rattle.abstractions.proofs.Occurrences.{part-at}
+use Rattle.shifting.proofs.Locals.{marks-at}
+use Rattle.abstractions.proofs.Occurrences.{part-at, looks-at, earlier-yes-at, earlier-no-at}
 use Rattle.agenda.specs.declared.Agenda.{Agenda}
 use Rattle.agenda.specs.declared.Branch.{Branch}
 use Rattle.agenda.specs.declared.StoredGoal.{StoredGoal}
@@ -67,27 +71,25 @@ module _ (W : List ℕ) (top at j : ℕ) where
         let e : t ≡ x .tree = encode-inj t (x .tree) (p .rest) (x .part .rest) (sym (p .bytes) ∙ x .part .bytes) .0 in
         subst (λ (u : Term). j < size u) (sym e) (x .within)
 
-    pub lowers : (room : ℕ) → room ≡ targetBytes → Lowers W (at + 4 * j) 0 d room 0
+    pub part-within : at + 4 * j ≤ length W
+    part-within =
+        let q = part-at W at 0 (x .tree) j (x .part) (number-within (x .tree) (x .part)) in
+        omega (arith, q .within)
+
+    pub lowers : (room : ℕ) → room ≡ targetBytes → Lowers (slice W (at + 4 * j)) 0 d room 0
     lowers room r =
         let t = x .tree in
         let m = number-within t (x .part) in
         let n = part-most t j m in
         let q = part-at W at 0 t j (x .part) m in
-        record {
-          tree = partAt 0 t j .1;
-          part = q;
-          enough = omega (arith, n, x .few);
-          shallow = omega (arith, n, x .few);
-          few = omega (arith, n, x .few, k t (x .part) m);
-          least = omega (arith, q .some, q .within);
-          first = omega arith;
-        }
+        lowers-at W (at + 4 * j) 0 d 0 room (partAt 0 t j .1) q (omega (arith, n, x .few)) (omega (arith, n, x .few))
+        (omega (arith, n, x .few, k t (x .part) m))
 
-    module _ (out after : List ℕ) (w : Walk) (y : Lowered W (at + 4 * j) 0 d out 0 after w) where
+    module _ (out after : List ℕ) (w : Walk) (y : Lowered (slice W (at + 4 * j)) 0 d out 0 after w) where
       pub stuck : w ≡ No → Placed W top at j W No
       unfolding Placed Walked
       stuck c =
-          let n : Walked W (at + 4 * j) (Movable d 0) No = subst (Walked W (at + 4 * j) (Movable d 0)) c (y .walked) in (
+          let n : Walked W (at + 4 * j) (Movable d 0) No = slice-no W (at + 4 * j) (Movable d 0) w c (y .walked) in (
             refl,
             λ t u p f.
                 let m = number-within t p in
@@ -95,42 +97,38 @@ module _ (W : List ℕ) (top at j : ℕ) where
                 (subst (λ (i : ℕ). partAt 0 t j .1 ≡ shift i 0 (unshift i 0 (partAt 0 t j .1))) (sym (k t p m)) (first-movable t j u f)),
           )
 
-      module _ (end : ℕ) (c : w ≡ Upto end) where
-        walked-upto : Ends W (at + 4 * j) end × ((t : Term) → Part W (at + 4 * j) t → Movable d 0 t)
+      module _ (n : ℕ) (c : w ≡ Upto n) where
+        walked-upto : Ends W (at + 4 * j) (at + 4 * j + n) × ((t : Term) → Part W (at + 4 * j) t → Movable d 0 t)
         unfolding Walked
-        walked-upto = subst (Walked W (at + 4 * j) (Movable d 0)) c (y .walked)
+        walked-upto = slice-upto W (at + 4 * j) (Movable d 0) n w c (y .walked)
 
-        leaves-upto : Wrote (unshift d) W (at + 4 * j) 0 out 0 after end (0 + (end - (at + 4 * j)))
-        unfolding Leaves
-        leaves-upto = subst (Leaves W (at + 4 * j) 0 d out 0 after) c (y .leaves)
+        leaves-upto : Wrote (unshift d) W (at + 4 * j) 0 out 0 after (at + 4 * j + n) (0 + n)
+        leaves-upto = lowered-wrote-at W (at + 4 * j) 0 d 0 out after w y n c
 
-        pub moved-more : at + 4 * j ≤ end
-        moved-more = omega (arith, walked-upto .0 .more)
-
-        pub moved-end : end - (at + 4 * j) ≤ targetBytes
+        pub moved-end : n ≤ targetBytes
         moved-end =
             let t = x .tree in
             let m = number-within t (x .part) in
             omega (arith, walked-upto .0 .exact (partAt 0 t j .1) (part-at W at 0 t j (x .part) m), part-most t j m, x .few)
 
-        pub copied-room : length out ≡ targetBytes → top + length (take (end - (at + 4 * j) - 0) (drop 0 after)) ≤ length W
-        copied-room o = omega (arith, moved-end, x .room, length-take (end - (at + 4 * j) - 0) (drop 0 after))
+        pub copied-room : length out ≡ targetBytes → top + length (take (n - 0) (drop 0 after)) ≤ length W
+        copied-room o = omega (arith, moved-end, x .room, length-take (n - 0) (drop 0 after))
 
-        pub placed : length out ≡ targetBytes → (X : List ℕ) → X ≡ sets W top (take (end - (at + 4 * j) - 0) (drop 0 after))
-            → Placed W top at j X (Upto (top + (end - (at + 4 * j))))
+        pub placed : length out ≡ targetBytes → (X : List ℕ) → X ≡ sets W top (take (n - 0) (drop 0 after))
+            → Placed W top at j X (Upto (top + n))
         unfolding Placed
         placed o X q t p =
             let m = number-within t p in
             let u = partAt 0 t j .1 in
             let v = part-at W at 0 t j p m in
             let i : d ≡ partAt 0 t j .0 = k t p m in
-            let z : 0 + (end - (at + 4 * j)) ≡ 0 + 4 * size (unshift d 0 u) = leaves-upto .exact u v in
-            let b : take (end - (at + 4 * j) - 0) (drop 0 after) ≡ encode (unshift d 0 u) =
-            Stores.stored out after (encode (unshift d 0 u)) (end - (at + 4 * j)) (leaves-upto .bytes u v)
+            let z : 0 + n ≡ 0 + 4 * size (unshift d 0 u) = leaves-upto .exact u v in
+            let b : take (n - 0) (drop 0 after) ≡ encode (unshift d 0 u) =
+            Stores.stored out after (encode (unshift d 0 u)) n (leaves-upto .bytes u v)
             (omega (arith, encode-length (unshift d 0 u))) (omega (arith, moved-end)) in
-            subst (λ (n : ℕ). (u ≡ shift n 0 (unshift n 0 u)) → (X ≡ sets W top (encode (unshift n 0 u)))
-            → (top + (end - (at + 4 * j)) ≡ top + 4 * size (unshift n 0 u)) → n ≡ partAt 0 t j .0
-            → Argument W top t j X (top + (end - (at + 4 * j)))) (sym i)
+            subst (λ (b : ℕ). (u ≡ shift b 0 (unshift b 0 u)) → (X ≡ sets W top (encode (unshift b 0 u)))
+            → (top + n ≡ top + 4 * size (unshift b 0 u)) → b ≡ partAt 0 t j .0
+            → Argument W top t j X (top + n)) (sym i)
             (λ c₁ c₂ c₃ _. record { within = m; copy = c₁; bytes = c₂; end = c₃ })
             (walked-upto .1 u v) (q ∙ ap (sets W top) b) (omega arith) i
 
@@ -241,18 +239,22 @@ module _ (P W : List ℕ) (s : Agenda) (a : List Entry) (x : ApplicationDeferred
           same = o .kept .same;
         })
 
-    pub looks : Looks X (r .target) (s .top) 0
-    looks = from P W s a x (Looks X (r .target) (s .top) 0) (λ gs hs l f b t z.
-        let v = site P W s a r gs hs l f b t y z in
-        let o = standing f b t v in
-        record {
-          first = whole X (r .target) t (o .target);
-          second = whole X (s .top) (argumentOf t j) (o .part);
-          least = omega (arith, o .target .some, o .target .within);
-          second-least = omega (arith, o .part .some, o .part .within);
-          most = omega (arith, ending .whole);
-          shallow = omega (arith, ending .whole);
-        })
+    target-whole : Whole X (r .target)
+    target-whole = from P W s a x (Whole X (r .target)) (λ gs hs l f b t z.
+        whole X (r .target) t (standing f b t (site P W s a r gs hs l f b t y z) .target))
+
+    pub top-whole : Whole X (s .top)
+    top-whole = from P W s a x (Whole X (s .top)) (λ gs hs l f b t z.
+        whole X (s .top) (argumentOf t j) (standing f b t (site P W s a r gs hs l f b t y z) .part))
+
+    pub target-within : r .target ≤ length X
+    target-within = omega (arith, target-whole .least)
+
+    pub top-within : s .top ≤ length X
+    top-within = omega (arith, top-whole .least)
+
+    pub looks : Looks (slice X (r .target)) (slice X (s .top)) 0
+    looks = looks-at X X (r .target) (s .top) 0 target-whole top-whole (omega (arith, ending .whole))
 
     pub comparable : ArgumentComparable P (r .part + 4) X (r .target) (s .top)
     comparable = from P W s a x (ArgumentComparable P (r .part + 4) X (r .target) (s .top)) (λ gs hs l f b t z.
@@ -261,43 +263,35 @@ module _ (P W : List ℕ) (s : Agenda) (a : List Entry) (x : ApplicationDeferred
         record {
           part = numbers P W s a x r y .head;
           short = x .ready .bounds .short;
-          target = record {
-            tree = t;
-            part = o .target;
-            closed = closed-more (patternRecords - size (app f b)) (0 + patternRecords) t (omega arith) (v .target .closed);
-            shallow = omega (arith, v .target .short);
-            least = omega (arith, o .target .some, o .target .within);
-          };
-          argument = record {
-            tree = argumentOf t j;
-            part = o .part;
-            closed = closed-more (patternRecords - size (app f b)) (0 + patternRecords) (argumentOf t j) (omega arith)
-                (part-closed t j (argumentOf t j) (o .found .within) (o .found .copy) (patternRecords - size (app f b))
-                (v .target .closed));
-            shallow = omega (arith, v .target .short, o .few);
-            least = omega (arith, o .part .some, o .part .within);
-          };
+          target = marks-at X (r .target) 0 patternRecords t (o .target)
+              (closed-more (patternRecords - size (app f b)) (0 + patternRecords) t (omega arith) (v .target .closed))
+              (omega (arith, v .target .short));
+          argument = marks-at X (s .top) 0 patternRecords (argumentOf t j) (o .part)
+              (closed-more (patternRecords - size (app f b)) (0 + patternRecords) (argumentOf t j) (omega arith)
+              (part-closed t j (argumentOf t j) (o .found .within) (o .found .copy) (patternRecords - size (app f b))
+              (v .target .closed)))
+              (omega (arith, v .target .short, o .few));
+          target-place = target-within;
+          argument-place = top-within;
         })
 
     -- an earlier part gives the same argument
-    pub again : (b : Bool) → Earlier X (r .target) j (s .top) b → b ≡ true → Branched P W s a (Way (suc (suc j))) X Branch.Failed
-    unfolding Earlier
-    again b e c =
-        let q : Earlier X (r .target) j (s .top) true = subst (Earlier X (r .target) j (s .top)) c e in
+    pub again : (b : Bool) → Earlier (slice X (r .target)) j (slice X (s .top)) b → b ≡ true
+        → Branched P W s a (Way (suc (suc j))) X Branch.Failed
+    again k e c =
         died P W s a (Way (suc (suc j))) X (dead P W s a x r y (suc (suc j)) X (ending .same) (λ f b t gs hs l φ v u o.
         let n = standing f b t v in
-        let m = q t (argumentOf t j) (n .target) (n .part) in
+        let m = earlier-yes-at X X (r .target) (s .top) j k e t (argumentOf t j) (n .target) (n .part) c in
         first-not-again t (m .0) j (o .1 .0 .0) (m .1) (m .3) (o .1 .0 .1)))
 
     -- no assignment sweeps the argument to what doesn't fit its skeleton
     pub unfitting :
         (w : Ways) (c : Counted P W s a w) (b : Bool)
-        → MayBe (take (w .skeleton .length - 0) (drop 0 (w .skeleton .bytes))) X (s .top) b → b ≡ false
+        → MayBe (take (w .skeleton .length - 0) (drop 0 (w .skeleton .bytes))) (slice X (s .top)) b → b ≡ false
         → Branched P W s a (Way (suc (suc j))) X Branch.Failed
-    unfolding MayBe
     unfitting w c b e i =
         let k = c .skeleton-table in
-        let q : MayBe (take (w .skeleton .length - 0) (drop 0 (w .skeleton .bytes))) X (s .top) false = subst (MayBe _ X (s .top)) i e in
+        let q = may-be-at (take (w .skeleton .length - 0) (drop 0 (w .skeleton .bytes))) X (s .top) b i e in
         died P W s a (Way (suc (suc j))) X (record {
           none = λ gs hs l z φ v. opened P W s a x gs l (λ us. Fitting (k .tree) l us → ¬ Way (suc (suc j)) gs us l φ) (λ f b t us o m p.
               let n = standing f b t (site P W s a r gs us l f b t y o) in
@@ -321,16 +315,18 @@ module _ (P W : List ℕ) (s : Agenda) (a : List Entry) (x : ApplicationDeferred
         let w : o .1 .0 .0 ≡ argumentOf t j = first-lowered t j (o .1 .0 .0) (o .1 .0 .1) in
         subst T (sym (build-local φ u f t (o .1 .0 .0) (q .0) (o .1 .0 .3) (m .0) (m .1)) ∙ ap (uses (q .0)) w ∙ m .2) tt))
 
-    module _ (h : ℕ) (eh : Ends P (r .part + 4) h) (earlier : Earlier X (r .target) j (s .top) false) (Y Z : List ℕ)
+    module _ (h : ℕ) (eh : Ends P (r .part + 4) h) (earlier : Earlier (slice X (r .target)) j (slice X (s .top)) false)
+        (Y Z : List ℕ)
         (first : Y ≡ sets X end (storedBytes (storedBuild (r .part + 4) (r .target) (r .next) (s .top))))
         (second : Z ≡ sets Y (end + 8) (storedBytes (storedMatch h (s .top) (s .easy))))
       where
         first-found : (f b t : Term) → ApplicationSite P W s r f b t → FirstCopy t j (argumentOf t j)
-        unfolding Earlier
         first-found f b t v =
             let n = standing f b t v in
             first-from t j (argumentOf t j) (n .found .within) (n .found .copy)
-            (λ i l. earlier t (argumentOf t j) (n .target) (n .part) i l (omega (arith, n .found .within)))
+            (λ i l.
+            earlier-no-at X X (r .target) (s .top) j false earlier t (argumentOf t j) (n .target) (n .part) refl i l
+            (omega (arith, n .found .within)))
 
         length-Y : length Y ≡ tableBytes
         length-Y = length-stored (storedBytes (storedBuild (r .part + 4) (r .target) (r .next) (s .top))) X Y end first ∙ ending .whole
@@ -453,13 +449,14 @@ module _ (P W : List ℕ) (s : Agenda) (a : List Entry) (x : ApplicationDeferred
         }
 
     -- the same, with the goals as they were made
-    pub found : (h : ℕ) (e : Bool) (i k : StoredGoal) (Y Z : List ℕ) → Ends P (r .part + 4) h → Earlier X (r .target) j (s .top) e
+    pub found : (h : ℕ) (e : Bool) (i k : StoredGoal) (Y Z : List ℕ) → Ends P (r .part + 4) h
+        → Earlier (slice X (r .target)) j (slice X (s .top)) e
         → e ≡ false
         → i ≡ storedBuild (r .part + 4) (r .target) (r .next) (s .top) → k ≡ storedMatch h (s .top) (s .easy)
         → Y ≡ sets X end (storedBytes i) → Z ≡ sets Y (end + 8) (storedBytes k)
         → Branched P W s a (Way (suc (suc j))) Z (Branch.Next (record { top = end + 2 * 8; easy = end + 8; deferred = end }))
     found h e i k Y Z eh b c p q first second =
         live P W s a (Way (suc (suc j))) Z (record { top = end + 2 * 8; easy = end + 8; deferred = end })
-        (argument-move h eh (subst (Earlier X (r .target) j (s .top)) c b) Y Z
+        (argument-move h eh (subst (Earlier (slice X (r .target)) j (slice X (s .top))) c b) Y Z
         (stored-as X Y end i (storedBuild (r .part + 4) (r .target) (r .next) (s .top)) p first)
         (stored-as Y Z (end + 8) k (storedMatch h (s .top) (s .easy)) q second))

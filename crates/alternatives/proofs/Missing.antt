@@ -8,9 +8,9 @@ use native.Mathlib.Omega.{arith}
 use lib.ListN.{getD, replicate, length-replicate}
 use Rattle.terms.specs.Figures.{patternRecords}
 use Rattle.terms.specs.Term.{Term, uses}
-use Rattle.records.specs.Parts.{Part}
+use Rattle.records.specs.Parts.{slice, Part}
 use Rattle.shifting.specs.Locals.{Marks, Marked}
-use Rattle.shifting.proofs.Locals.{marking, mark-true, mark-false}
+use Rattle.shifting.proofs.Locals.{marking-at, mark-true, mark-false}
 use Rattle.agenda.specs.Locals.{Unused}
 use Rattle.alternatives.specs.Applications.{Missing, Misses}
 
@@ -33,10 +33,11 @@ getD-zeros (suc n) zero = refl
 getD-zeros (suc n) (suc j) = getD-zeros n j
 
 -- what the marks of a part say of local k
-module _ (W : List ℕ) (at r : ℕ) (after : List ℕ) (x : Marked W at 0 (replicate patternRecords 0) after r) (k : ℕ) (h : k < patternRecords)
+module _ (W : List ℕ) (at r : ℕ) (after : List ℕ) (x : Marked (slice W at) 0 (replicate patternRecords 0) after r) (k : ℕ)
+    (h : k < patternRecords)
     (t : Term) (p : Part W at t) where
   mark : getD after k 0 ≡ cond (uses k t) 1 0
-  mark = marking W at (replicate patternRecords 0) after r t (getD-zeros patternRecords) x p k
+  mark = marking-at W at (replicate patternRecords 0) after r t (getD-zeros patternRecords) x p k
       (omega (arith, length-replicate {A = ℕ} patternRecords 0))
 
   uses-marked : getD after k 0 ≡ 1 → uses k t ≡ true
@@ -45,12 +46,12 @@ module _ (W : List ℕ) (at r : ℕ) (after : List ℕ) (x : Marked W at 0 (repl
   unused-unmarked : ¬ (getD after k 0 ≡ 1) → uses k t ≡ false
   unused-unmarked n = mark-false (uses k t) (λ e. n (mark ∙ e))
 
-pub marks-in : (W : List ℕ) (at n : ℕ) → n ≡ patternRecords → Marks W at 0 patternRecords → Marks W at 0 n
-marks-in W at n e x = subst (λ (i : ℕ). Marks W at 0 i) (sym e) x
+pub marks-in : (W : List ℕ) (n : ℕ) → n ≡ patternRecords → Marks W 0 patternRecords → Marks W 0 n
+marks-in W n e x = subst (λ (i : ℕ). Marks W 0 i) (sym e) x
 
 pub misses-found :
     (P : List ℕ) (i : ℕ) (W : List ℕ) (j e k r q : ℕ) (after other : List ℕ) (b : Bool) → k < patternRecords
-    → Marked W j 0 (replicate patternRecords 0) after r → Marked W e 0 (replicate patternRecords 0) other q
+    → Marked (slice W j) 0 (replicate patternRecords 0) after r → Marked (slice W e) 0 (replicate patternRecords 0) other q
     → b ≡ true → Missing P i k (getD after k 0) (getD other k 0) b → Misses P i W j e true
 unfolding Missing Misses
 misses-found P i W j e k r q after other b h x y g m =

@@ -24,7 +24,7 @@ use Rattle.terms.specs.Listing.{Line}
 use Rattle.terms.specs.Heads.{rigid}
 use Rattle.matching.specs.Goals.{Goal}
 use Rattle.matching.specs.Occurrences.{partAt, Copy, FirstCopy}
-use Rattle.records.specs.Parts.{Part, Whole, Ends}
+use Rattle.records.specs.Parts.{slice, Part, Whole, Ends}
 use Rattle.records.specs.declared.Walk.{Walk}
 use Rattle.records.specs.declared.Walk.the-variants.{Upto, No}
 use Rattle.shifting.specs.Locals.{Marks}
@@ -77,8 +77,10 @@ Missing P i k m n false = Unit {0}
 pub record ArgumentComparable (P : List ℕ) (i : ℕ) (W : List ℕ) (j e : ℕ) : Type 0 where
   pub part : Whole P i
   pub short : length P ≤ 4 * patternRecords
-  pub target : Marks W j 0 patternRecords
-  pub argument : Marks W e 0 patternRecords
+  pub target : Marks (slice W j) 0 patternRecords
+  pub argument : Marks (slice W e) 0 patternRecords
+  pub target-place : j ≤ length W
+  pub argument-place : e ≤ length W
 
 unfoldable pub Misses : List ℕ → ℕ → List ℕ → ℕ → ℕ → Bool → Type 0
 Misses P i W j e true =

@@ -44,12 +44,13 @@ pub fn ways(pattern: &[u8], work: &[u8], agenda: Agenda, entries: [Entry; VARIAB
     let target = goal.target;
     let end = records::end_at(work, target);
     let argument = records::end_at(pattern, head);
-    let rigid = shifting::is_rigid(pattern, argument);
-    let walk = records::ask_at(pattern, argument, Ask::Below, PATTERN_RECORDS);
-    let skeleton = builds::refuting::skeleton_at(pattern, argument, walk, work, entries);
+    let part = &pattern[argument..];
+    let rigid = shifting::is_rigid(part);
+    let walk = records::ask_part(part, Ask::Below, PATTERN_RECORDS);
+    let skeleton = builds::refuting::skeleton_of(part, walk, work, entries);
     let lacking = agenda::locals::lacks_local(pattern, head, work, target);
     let mut depths = [0u8; VALUE_RECORDS];
-    abstractions::depths_into(work, target, 0, &mut depths, 0);
+    abstractions::depths_into(&work[target..], 0, &mut depths, 0);
     Ways {
         count: (end - target) / RECORD + 2,
         argument,
@@ -106,7 +107,8 @@ fn constant_head(
     }
     let goal = agenda::goal_at(work, agenda.deferred);
     let mut b = [0u8; TARGET_BYTES];
-    let moved = sweeping::shift_into(work, goal.target, 1, 0, &mut b, 0);
+    let target = goal.target;
+    let moved = substitution::shift_into(&work[target..], 1, 0, &mut b, 0);
     let n = moved.end;
     let head = agenda::match_goal(goal.part + RECORD, goal.target, goal.next);
     Branch::Next(builds::push_abstraction(work, agenda, head, &b[0..n]))
@@ -130,9 +132,9 @@ fn misses_local(pattern: &[u8], i: usize, work: &[u8], j: usize, e: usize) -> bo
     ensures { λ r. ⌜ Misses (now (pattern .entry)) i (now (work .entry)) j e r ⌝ }
 {
     let mut target = [0u8; PATTERN_RECORDS];
-    shifting::loose_locals(work, j, 0, &mut target);
+    shifting::loose_locals(&work[j..], 0, &mut target);
     let mut argument = [0u8; PATTERN_RECORDS];
-    shifting::loose_locals(work, e, 0, &mut argument);
+    shifting::loose_locals(&work[e..], 0, &mut argument);
     let mut k = 0;
     while k < PATTERN_RECORDS {
         if is_missing(pattern, i, k, target[k], argument[k]) {
@@ -151,11 +153,10 @@ fn place_argument(work: &mut [u8], top: usize, at: usize, j: usize, depth: usize
 {
     let part = at + RECORD * j;
     let mut e = [0u8; TARGET_BYTES];
-    let moved = shifting::lower_into(work, part, 0, depth, &mut e, 0);
-    let Walk::Upto(end) = moved else {
+    let moved = shifting::lower_into(&work[part..], 0, depth, &mut e, 0);
+    let Walk::Upto(n) = moved else {
         return Walk::No;
     };
-    let n = end - part;
     copying::copy_into(&e[0..n], work, top);
     Walk::Upto(top + n)
 }
@@ -190,10 +191,12 @@ fn find_argument(
     let skeleton = ways.skeleton;
     let bytes = skeleton.bytes;
     let n = skeleton.length;
-    if !skeletons::may_be(&bytes[0..n], work, agenda.top) {
+    let target = goal.target;
+    let top = agenda.top;
+    if !skeletons::may_be(&bytes[0..n], &work[top..]) {
         return Branch::Failed;
     }
-    if abstractions::occurs_before(work, goal.target, j, agenda.top) {
+    if abstractions::occurs_before(&work[target..], j, &work[top..]) {
         return Branch::Failed;
     }
     let head = goal.part + RECORD;

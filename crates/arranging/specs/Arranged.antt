@@ -1,8 +1,8 @@
 -- The lines of a listing in order.
---   Sorted ls ms              ms are the lines ls in order
---   Arranges L X n k s        what arranging a listing needs
---   InLineOrder L X ls M Y    M and Y are the tables L and X with the lines ls in order; the bytes behind stay
---   Arranged L X n k M Y      so it is for all n lines that L and X begin with, with k records of values
+--   Sorted ls ms             ms are the lines ls in order
+--   Arranges L X n k s       what arranging a listing needs
+--   InLineOrder L X ls M Y   M and Y are the tables L and X with the lines ls in order; the bytes behind stay
+--   Arranged L X n k M Y     so it is for all n lines that L and X begin with, with k records of values
 use mathlib.Core.Path.{_≡_}
 use mathlib.Core.List.{List, _++_}
 use mathlib.Core.Logic.{_↔_}

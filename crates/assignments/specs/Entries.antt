@@ -1,12 +1,12 @@
 -- Entries of an assignment, as the code holds them, and the values that they give.
---   entryAt l i        variable i's entry in the bytes l of a line
---   Read l a n         the entries a are those of the line l, for variables below n
---   Given s a i v      the entries a, with the value table s, give variable i the value v
---   Gives s a φ p      they give each variable i of p the value φ i
---   VariableAt l at i  the record of l at byte `at` is the variable i
---   Mentions l i       a record of the table l is the variable i
---   Lacking l s a i b  b says whether the table l mentions the variable i and the entries a give it no value
---   AllGiven l s a b   b says whether the entries a give each variable of the table l a value
+--   entryAt l i         variable i's entry in the bytes l of a line
+--   Read l a n          the entries a are those of the line l, for variables below n
+--   Given s a i v       the entries a, with the value table s, give variable i the value v
+--   Gives s a φ p       they give each variable i of p the value φ i
+--   VariableAt l at i   the record of l at byte `at` is the variable i
+--   Mentions l i        a record of the table l is the variable i
+--   Lacking l s a i b   b says whether the table l mentions the variable i and the entries a give it no value
+--   AllGiven l s a b    b says whether the entries a give each variable of the table l a value
 use mathlib.Core.Path.{_≡_}
 use mathlib.Core.Bool.{Bool, true, false, cond}
 use mathlib.Core.List.{List}
@@ -15,7 +15,7 @@ use lib.Dec.{eqb}
 use lib.ListN.{length, getD, take, drop}
 use Rattle.terms.specs.Figures.{variables, valueRecords}
 use Rattle.terms.specs.Term.{Term, Occurs, Value}
-use Rattle.terms.specs.Table.{encode}
+use Rattle.terms.specs.Table.{encode, variableKind}
 use Rattle.terms.specs.Layout.{wordAt}
 use Rattle.records.specs.Record.{numberAt}
 use Rattle.assignments.specs.declared.Span.{Span}
@@ -41,7 +41,7 @@ abbrev pub Gives : List ℕ → List Entry → (ℕ → Term) → Term → Type 
 Gives s a φ p = (i : ℕ) → Occurs i p → Given s a i (φ i)
 
 pub record VariableAt (l : List ℕ) (at i : ℕ) : Type 0 where
-  pub kind : getD l at 0 ≡ 4
+  pub kind : getD l at 0 ≡ variableKind
   pub number : numberAt l at ≡ i
 
 pub record Mentions (l : List ℕ) (i : ℕ) : Type 0 where

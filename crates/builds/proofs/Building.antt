@@ -28,13 +28,14 @@ use Rattle.matching.specs.Bodies.{copies, body, Some}
 use Rattle.matching.proofs.Bodies.{copies-size, body-uses, body-size, body-closed, body-ground, body-normal, body-eta}
 use Rattle.matching.proofs.Targets.{closed-more, closed-shift}
 use Rattle.matching.proofs.Choices.{listable-chosen}
-use Rattle.records.specs.Parts.{Part, Tree}
+use Rattle.records.specs.Parts.{slice, Part, Tree}
 use Rattle.records.specs.Tests.{Says, Equals}
 use Rattle.records.proofs.Parts.{tree, whole}
 use Rattle.sweeping.proofs.Contraction.{closed-fits}
 use Rattle.copying.proofs.Stores as Stores
 use Rattle.assignments.specs.declared.Entry.{Entry}
 use Rattle.abstractions.specs.Bodies.{BodySource, Body, chosenIn}
+use Rattle.abstractions.proofs.Bodies.{choosing-at, body-exact-at, body-bytes-at, body-number-at}
 use Rattle.agenda.specs.declared.Agenda.{Agenda}
 use Rattle.agenda.specs.declared.Branch.{Branch}
 use Rattle.agenda.specs.declared.StoredGoal.{StoredGoal}
@@ -108,32 +109,31 @@ module _ (P W : List ℕ) (s : Agenda) (a : List Entry) where
     from A h = opened (ready .gs) (ready .line) (λ _. A) (λ f t e hs y. h (ready .gs) hs (ready .line) f t e y) (ready .hs) (ready .state)
 
     module _ (r : StoredGoal) (y : StoredAt W (s .deferred) r) where
-      pub choosing : (last room : ℕ) → 160 ≤ last → targetBytes ≤ room → BodySource W (r .target) 0 (r .argument) last 0 room 0
-      choosing last room h k = from (BodySource W (r .target) 0 (r .argument) last 0 room 0) (λ gs hs l f t e z.
+      pub choosing : (last room : ℕ) → 160 ≤ last → targetBytes ≤ room
+          → BodySource (slice W (r .target)) 0 (slice W (r .argument)) last 0 room 0
+      choosing last room h k = from (BodySource (slice W (r .target)) 0 (slice W (r .argument)) last 0 room 0) (λ gs hs l f t e z.
           let v = site r gs hs l f t e y z in
           let u = v .target in
-          record {
-            source = record {
-              tree = t;
-              part = u .part;
-              fits = closed-fits (33 - suc (size f)) (shift 1 0 t)
-                  (closed-shift 1 0 (32 - suc (size f)) (33 - suc (size f)) t (omega (arith, u .few)) (u .closed))
-                  (omega (arith, u .short, size-shift 1 0 t));
-              shallow = omega (arith, u .short);
-              enough = omega (arith, u .short, size-shift 1 0 t);
-              least = omega (arith, u .part .some, u .part .within);
-              first = omega arith;
-            };
-            argument = whole W (r .argument) e (v .argument .part);
-            most = omega (arith, ready .bounds .whole);
-            choices = omega (arith, u .short);
-          })
+          choosing-at W W (r .target) (r .argument) 0 last 0 room 0 t (u .part) (whole W (r .argument) e (v .argument .part))
+          (omega (arith, ready .bounds .whole))
+          (closed-fits (33 - suc (size f)) (shift 1 0 t)
+          (closed-shift 1 0 (32 - suc (size f)) (33 - suc (size f)) t (omega (arith, u .few)) (u .closed))
+          (omega (arith, u .short, size-shift 1 0 t)))
+          (omega (arith, u .short)) (omega (arith, u .short)) (omega (arith, u .short)))
+
+      -- the places of the target and of the argument lie in the work area
+      pub target-within : r .target ≤ length W
+      target-within = from (r .target ≤ length W) (λ gs hs l f t e z. omega (arith, site r gs hs l f t e y z .target .part .within))
+
+      pub argument-within : r .argument ≤ length W
+      argument-within = from (r .argument ≤ length W) (λ gs hs l f t e z. omega (arith, site r gs hs l f t e y z .argument .part .within))
 
       module _ (m b c : List ℕ) (next n k : ℕ) (h : length b ≡ targetBytes)
-          (w : Body W (r .target) 0 (r .argument) m 0 b 0 c next n k) where
+          (w : Body (slice W (r .target)) 0 (slice W (r .argument)) m 0 b 0 c next n k) where
         size-end : (f t e : Term) → BuildSite P W s r f t e → (n ≡ 4 * size (body e 0 t (chosenIn m) 0)) × (n ≤ targetBytes)
         size-end f t e v =
-            let p : n ≡ 0 + 4 * size (body e 0 t (chosenIn m) 0) = w .exact t e (v .target .part) (v .argument .part) in
+            let p : n ≡ 0 + 4 * size (body e 0 t (chosenIn m) 0) = body-exact-at W W (r .target) (r .argument) 0 m 0 b 0 c next n k w t e
+            (v .target .part) (v .argument .part) in
             (omega arith, omega (arith, body-size e 0 t (chosenIn m) 0, v .target .short))
 
         pub end-within : n ≤ length c
@@ -142,20 +142,23 @@ module _ (P W : List ℕ) (s : Agenda) (a : List Entry) where
             omega (
               arith,
               size-end f t e v .1,
-              length-stored (encode (body e 0 t (chosenIn m) 0)) b c 0 (w .bytes t e (v .target .part) (v .argument .part)),
+              length-stored (encode (body e 0 t (chosenIn m) 0)) b c 0
+                  (body-bytes-at W W (r .target) (r .argument) 0 m 0 b 0 c next n k w t e (v .target .part) (v .argument .part)),
             ))
 
         pub bodied : Bodied P W s r m (take (n - 0) (drop 0 c))
         bodied = record {
           is = λ f t e v.
               let p = size-end f t e v in
-              let q : c ≡ sets b 0 (encode (body e 0 t (chosenIn m) 0)) = w .bytes t e (v .target .part) (v .argument .part) in
+              let q : c ≡ sets b 0 (encode (body e 0 t (chosenIn m) 0)) =
+              body-bytes-at W W (r .target) (r .argument) 0 m 0 b 0 c next n k w t e (v .target .part) (v .argument .part) in
               Stores.stored b c (encode (body e 0 t (chosenIn m) 0)) n q (omega (arith, p .0, encode-length (body e 0 t (chosenIn m) 0)))
               (omega (arith, p .1));
         }
 
         number : (f t e : Term) → BuildSite P W s r f t e → k ≡ copies e 0 t
-        number f t e v = omega (arith, w .number t e (v .target .part) (v .argument .part))
+        number f t e v =
+            omega (arith, body-number-at W W (r .target) (r .argument) 0 m 0 b 0 c next n k w t e (v .target .part) (v .argument .part))
 
         pub choices-within : k ≤ 160
         choices-within = from (k ≤ 160) (λ gs hs l f t e z.

@@ -25,9 +25,10 @@ use Rattle.matching.specs.Lists.{Values, Extends}
 use Rattle.matching.specs.Goals.{Goal, Goal.match, Goal.build, Meets}
 use Rattle.matching.proofs.Known.{known-match, known-build}
 use Rattle.records.specs.Record.{numberAt}
-use Rattle.records.specs.Parts.{Part, Whole, Ends}
+use Rattle.records.specs.Parts.{slice, Part, Whole, Ends}
 use Rattle.records.specs.Tests.{Says, Tells}
 use Rattle.records.proofs.Parts.{part-bytes, whole, size-some}
+use Rattle.records.proofs.Slices.{whole-slice, slice-length}
 use Rattle.assignments.specs.declared.Span.{Span}
 use Rattle.assignments.specs.declared.Entry.{Entry}
 use Rattle.assignments.specs.declared.Entry.the-variants.{Open, Assigned}
@@ -124,9 +125,6 @@ module _ (W : List ℕ) (s : Agenda) (r : StoredGoal) (b : List ℕ) (x : Compar
           value = whole X (s .top) (x .tree) v;
           argument = whole X (r .argument) (x .argument n .0) p;
           target = whole X (r .target) (x .target .0) q;
-          value-least = omega (arith, v .some, v .within);
-          argument-least = omega (arith, p .some, p .within);
-          target-least = omega (arith, q .some, q .within);
           most = omega (arith, same-length, x .whole);
         }
 
@@ -181,11 +179,14 @@ module _ (P W : List ℕ) (s : Agenda) (a : List Entry) (ready : Ready relinking
   put (match p t) x = record { part = subst (λ (i : ℕ). Part P i p) (sym (y .part)) (x .part); below = x .suits .0 .0 }
   put (build f t e) x = record { part = subst (λ (i : ℕ). Part P i f) (sym (y .part)) (x .part); below = x .suits .0 .0 }
 
-  pub walkable : Whole P (r .part) × (patternRecords + length P ≤ r .part + tableBytes)
-  walkable = (
-    from (Whole P (r .part)) (λ gs hs l g x. whole P (r .part) (partOf g) (put g (x .deferred .0 .goal) .part)),
-    omega (arith, ready .bounds .short),
-  )
+  part-whole : Whole P (r .part)
+  part-whole = from (Whole P (r .part)) (λ gs hs l g x. whole P (r .part) (partOf g) (put g (x .deferred .0 .goal) .part))
+
+  pub part-place : r .part ≤ length P
+  part-place = omega (arith, part-whole .least)
+
+  pub walkable : Whole (slice P (r .part)) 0 × (patternRecords + length (slice P (r .part)) ≤ tableBytes)
+  walkable = (whole-slice P (r .part) part-whole, omega (arith, ready .bounds .short, slice-length P (r .part)))
 
   pub record SweptForm (b : List ℕ) : Type 0 where
     pub tree : Term

@@ -17,9 +17,12 @@ use Rattle.matching.specs.Bodies.{body}
 use Rattle.matching.proofs.Targets.{closed-more}
 use Rattle.matching.proofs.Prune.{replaceAll, one-body}
 use Rattle.matching.proofs.Bodies.{body-all, body-same, body-substitute, copies-size}
+use Rattle.records.specs.Parts.{slice}
 use Rattle.records.proofs.Parts.{whole}
 use Rattle.assignments.specs.declared.Entry.{Entry}
+use Rattle.shifting.proofs.Locals.{marks-at}
 use Rattle.abstractions.specs.Bodies.{Counting, CopiesCounted, chosenIn}
+use Rattle.abstractions.proofs.Bodies.{counting-at, counted-at}
 use Rattle.agenda.specs.declared.Agenda.{Agenda}
 use Rattle.agenda.specs.declared.Branch.{Branch}
 use Rattle.agenda.specs.declared.StoredGoal.{StoredGoal}
@@ -42,13 +45,9 @@ module _ (P W : List ℕ) (s : Agenda) (a : List Entry) (ready : Ready relinking
       record {
         part = whole P (r .part) f (v .part);
         short = ready .bounds .short;
-        target = record {
-          tree = e;
-          part = u .part;
-          closed = closed-more (32 - suc (size f)) 32 e (omega arith) (u .closed);
-          shallow = omega (arith, u .short);
-          least = omega (arith, u .part .some, u .part .within);
-        };
+        target = marks-at W (r .argument) 0 32 e (u .part) (closed-more (32 - suc (size f)) 32 e (omega arith) (u .closed))
+            (omega (arith, u .short));
+        place = omega (arith, u .part .within);
       })
 
   module _ (b : Bool) (h : Lacks P (r .part) W (r .argument) b) (yes : b ≡ true) (m : List ℕ)
@@ -111,27 +110,27 @@ module _ (P W : List ℕ) (s : Agenda) (a : List Entry) (ready : Ready relinking
           }
 
   -- the bodies are to be gone through
-  pub counting : Counting W (r .target) 0 (r .argument)
-  counting = from P W s a ready x (Counting W (r .target) 0 (r .argument)) (λ gs hs l f t e z.
+  pub counting : Counting (slice W (r .target)) 0 (slice W (r .argument))
+  counting = from P W s a ready x (Counting (slice W (r .target)) 0 (slice W (r .argument))) (λ gs hs l f t e z.
       let v = site P W s a r gs hs l f t e y z in
-      let u = v .target .part in
-      record {
-        target = whole W (r .target) t u;
-        argument = whole W (r .argument) e (v .argument .part);
-        least = omega (arith, u .some, u .within);
-        most = omega (arith, ready .bounds .whole);
-        shallow = omega (arith, ready .bounds .whole);
-      })
+      counting-at W W (r .target) (r .argument) 0 (whole W (r .target) t (v .target .part)) (whole W (r .argument) e (v .argument .part))
+      (omega (arith, ready .bounds .whole)))
 
-  pub bodies : (W′ : List ℕ) (end n : ℕ) → W′ ≡ W → CopiesCounted W (r .target) 0 (r .argument) end n → Planned P W s a W′ (Plan.Bodies n)
+  pub bodies : (W′ : List ℕ) (end n : ℕ) → W′ ≡ W → CopiesCounted (slice W (r .target)) 0 (slice W (r .argument)) end n
+      → Planned P W s a W′ (Plan.Bodies n)
   unfolding Planned
   bodies W′ end n same c = (
     same,
     from P W s a ready x (n ≤ valueRecords) (λ gs hs l f t e z.
         let v = site P W s a r gs hs l f t e y z in
-        omega (arith, c .exact t e (v .target .part) (v .argument .part), copies-size e 0 t, v .target .short)),
+        omega (
+          arith,
+          counted-at W W (r .target) (r .argument) 0 end n c t e (v .target .part) (v .argument .part),
+          copies-size e 0 t,
+          v .target .short,
+        )),
     λ gs hs l z.
         opened P W s a ready x gs l (λ us. CopiesAre n us) (λ f t e us u.
         let v = site P W s a r gs us l f t e y u in
-        c .exact t e (v .target .part) (v .argument .part)) hs z,
+        counted-at W W (r .target) (r .argument) 0 end n c t e (v .target .part) (v .argument .part)) hs z,
   )

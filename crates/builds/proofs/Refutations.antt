@@ -8,8 +8,8 @@ use Prim.Native.Nat.{ℕ, suc, _-_, _*_, _<_, _≤_}
 use native.Mathlib.Omega.{arith}
 use lib.ListN.{length, getD, take, drop}
 use lib.Seq.{sets, length-sets, length-take-le}
-use Rattle.terms.specs.Figures.{patternRecords, tableBytes}
-use Rattle.terms.specs.Term.{Term, con, var, size}
+use Rattle.terms.specs.Figures.{variables, patternRecords, tableBytes}
+use Rattle.terms.specs.Term.{Term, con, var, size, Below}
 use Rattle.terms.specs.Sweep.{sweep, fill}
 use Rattle.terms.specs.Table.{encode}
 use Rattle.terms.specs.Assignment.{valueOr}
@@ -23,12 +23,13 @@ use Rattle.matching.proofs.Partial.{totalOf}
 use Rattle.matching.proofs.Targets.{closed-more}
 use Rattle.matching.proofs.Skeletons.{fits-exact}
 use Rattle.matching.proofs.Prune.{fits-abstraction}
-use Rattle.records.specs.Parts.{Part, Whole, Ends, Tree}
+use Rattle.records.specs.Parts.{slice, Part, Whole, Ends, Tree}
 use Rattle.records.specs.Tests.{Says, Tells, Asks, Walked}
 use Rattle.records.specs.declared.Ask.the-variants.{Below as BelowAsk}
 use Rattle.records.specs.declared.Walk.{Walk}
 use Rattle.records.specs.declared.Walk.the-variants.{Upto}
 use Rattle.records.proofs.Parts.{part-bytes, whole, at-start, kind-at}
+use Rattle.records.proofs.Slices.{part-slice, whole-slice, slice-length}
 use Rattle.assignments.specs.declared.Entry.{Entry}
 use Rattle.assignments.specs.Entries.{Given}
 use Rattle.sweeping.specs.Swept.{sweptBytes}
@@ -37,6 +38,8 @@ use Rattle.assignments.specs.Held.{Holds}
 use Rattle.skeletons.specs.Skeleton.{GivenValues, SkeletonInput, IsSkeleton, WritesSkeleton, SkeletonComparable, MayBe, SkeletonApplicable}
 use Rattle.skeletons.specs.Skeleton.{MayBuild}
 use Rattle.skeletons.specs.Contracted.{Exact}
+use Rattle.skeletons.proofs.Comparison.{comparable-at, may-be-at}
+use Rattle.skeletons.proofs.Applying.{may-build-at}
 use Rattle.agenda.specs.declared.Agenda.{Agenda}
 use Rattle.agenda.specs.declared.Decision.{Decision}
 use Rattle.agenda.specs.declared.StoredGoal.{StoredGoal}
@@ -57,8 +60,8 @@ module _ (P W : List ℕ) (s : Agenda) (a : List Entry) (l : Line) (bounds : Bou
   line-values i n o q = let v = held-given P W s a l bounds h i n q in subst (Given W a i) (sym (ap (valueOr (con 0)) (v .1))) (v .2)
 
 -- the skeleton of a part
-module _ (P : List ℕ) (i : ℕ) (W : List ℕ) (a : List Entry) (x : SkeletonSource P i W a) where
-  pub hole-sketch : (out after : List ℕ) → length out ≡ sweptBytes → after ≡ sets out 0 (encode (var 0)) → PartSkeleton P i W a after 4
+module _ (l W : List ℕ) (a : List Entry) (x : SkeletonSource l W a) where
+  pub hole-sketch : (out after : List ℕ) → length out ≡ sweptBytes → after ≡ sets out 0 (encode (var 0)) → PartSkeleton l W a after 4
   hole-sketch out after h e = record {
     table = record {
       tree = var 0;
@@ -71,19 +74,19 @@ module _ (P : List ℕ) (i : ℕ) (W : List ℕ) (a : List Entry) (x : SkeletonS
     is-skeleton = λ t p φ v g. tt;
   }
 
-  module _ (w : Walk) (k : Walked P i (Asks BelowAsk patternRecords) w) (end : ℕ) (e : w ≡ Upto end) where
-    walked-upto : Ends P i end × ((t : Term) → Part P i t → Asks BelowAsk patternRecords t)
+  module _ (w : Walk) (k : Walked l 0 (Asks BelowAsk patternRecords) w) (end : ℕ) (e : w ≡ Upto end) where
+    walked-upto : Ends l 0 end × ((t : Term) → Part l 0 t → Asks BelowAsk patternRecords t)
     unfolding Walked
-    walked-upto = subst (Walked P i (Asks BelowAsk patternRecords)) e k
+    walked-upto = subst (Walked l 0 (Asks BelowAsk patternRecords)) e k
 
-    pub part-ends : Ends P i end
+    pub part-ends : Ends l 0 end
     part-ends = walked-upto .0
 
     abbrev table : List ℕ
-    table = take (end - i) (drop i P)
+    table = take (end - 0) (drop 0 l)
 
-    table-of : (t : Term) → Part P i t → table ≡ encode t
-    table-of t p = part-bytes P i (end - i) t p (omega (arith, part-ends .exact t p))
+    table-of : (t : Term) → Part l 0 t → table ≡ encode t
+    table-of t p = part-bytes l 0 (end - 0) t p (omega (arith, part-ends .exact t p))
 
     pub skeleton-input : SkeletonInput table W a
     skeleton-input =
@@ -103,7 +106,7 @@ module _ (P : List ℕ) (i : ℕ) (W : List ℕ) (a : List Entry) (x : SkeletonS
         }
 
     pub part-sketch : (out after : List ℕ) (n : ℕ) → WritesSkeleton table W a out n after → length out ≡ sweptBytes
-        → PartSkeleton P i W a after (n * 4)
+        → PartSkeleton l W a after (n * 4)
     part-sketch out after n o h =
         let b = table-of (x .tree) (x .part) in
         let v = o .written (x .tree) b in
@@ -121,6 +124,22 @@ module _ (P : List ℕ) (i : ℕ) (W : List ℕ) (a : List Entry) (x : SkeletonS
               ∙ table-of t p)) (v .is-skeleton);
         }
 
+-- a part of a pattern, handed on as a slice
+module _ (P : List ℕ) (i : ℕ) (W : List ℕ) (a : List Entry) where
+  pub source-at : (t : Term) → Part P i t → length P ≤ 4 * patternRecords → Below variables t → (φ : ℕ → Term) → GivenValues W a φ t
+      → SkeletonSource (slice P i) W a
+  source-at t p m b φ g = record {
+    tree = t;
+    part = part-slice P i t p;
+    short = omega (arith, slice-length P i);
+    below = b;
+    φ = φ;
+    gives = g;
+  }
+
+  pub skeleton-at : (c : List ℕ) (n : ℕ) (k : PartSkeleton (slice P i) W a c n) (t : Term) → Part P i t → IsSkeleton W a t (k .table .tree)
+  skeleton-at c n k t p = k .is-skeleton t (part-slice P i t p)
+
 -- what stands in the first n bytes of c
 module _ (c : List ℕ) (n : ℕ) (k : Prefix c n) where
   pub skeleton-part : Part (take (n - 0) (drop 0 c)) 0 (k .tree)
@@ -129,14 +148,14 @@ module _ (c : List ℕ) (n : ℕ) (k : Prefix c n) where
   pub skeleton-tree : Tree (take (n - 0) (drop 0 c))
   skeleton-tree = record { tree = k .tree; bytes = k .bytes; least = omega (arith, skeleton-part .some, skeleton-part .within) }
 
-  pub skeleton-comparable : (X : List ℕ) (at : ℕ) → Whole X at → length X ≤ tableBytes → SkeletonComparable (take (n - 0) (drop 0 c)) X at
-  skeleton-comparable X at w m = record {
-    skeleton = whole (take (n - 0) (drop 0 c)) 0 (k .tree) skeleton-part;
-    least = skeleton-tree .least;
-    term = w;
-    within = w .least;
-    most = m;
-  }
+  skeleton-length : length (take (n - 0) (drop 0 c)) ≤ sweptBytes
+  skeleton-length = omega (arith, length-take-le (n - 0) c (omega (arith, k .within)), k .most)
+
+  pub skeleton-comparable : (X : List ℕ) (at : ℕ) → Whole X at → length X ≤ tableBytes
+      → SkeletonComparable (take (n - 0) (drop 0 c)) (slice X at)
+  skeleton-comparable X at w m =
+      comparable-at (take (n - 0) (drop 0 c)) X at (whole (take (n - 0) (drop 0 c)) 0 (k .tree) skeleton-part) w
+      (omega (arith, skeleton-length)) (omega (arith, m))
 
 -- whether a goal is possible
 module _ (c W : List ℕ) (r : StoredGoal) where
@@ -148,10 +167,12 @@ module _ (c W : List ℕ) (r : StoredGoal) where
   unfolding Possible
   refused x = x
 
-  pub possible-match : r .kind ≡ 0 → (b : Bool) → MayBe c W (r .target) b → Possible c W r b
-  unfolding MayBe
+  pub target-place : Judges c W r → r .target ≤ length W
+  target-place x = omega (arith, x .target .term .least, slice-length W (r .target))
+
+  pub possible-match : r .kind ≡ 0 → (b : Bool) → MayBe c (slice W (r .target)) b → Possible c W r b
   possible-match z true m = possible
-  possible-match z false m = refused (record { matches = λ _. m; builds = λ d. absurd (d z) })
+  possible-match z false m = refused (record { matches = λ _. may-be-at c W (r .target) false refl m; builds = λ d. absurd (d z) })
 
   module _ (d : ¬ (r .kind ≡ 0)) where
     pub possible-other : ¬ (getD c 0 0 ≡ 4) → ¬ (getD c 0 0 ≡ 1) → Possible c W r false
@@ -160,25 +181,24 @@ module _ (c W : List ℕ) (r : StoredGoal) where
       builds = λ _ x e t b p _ _ f. absurd (let k = kind-at c 0 x p in o (k ∙ fits-abstraction x b f (λ q. h (k ∙ q))));
     })
 
-    pub possible-build : (b : Bool) → MayBuild c W (r .argument) (r .target) b → Possible c W r b
-    unfolding MayBuild
+    pub argument-place : Judges c W r → r .argument ≤ length W
+    argument-place x = let p = x .both d .part in omega (arith, p .some, p .within, slice-length W (r .argument))
+
+    pub possible-build : (b : Bool) → MayBuild c (slice W (r .argument)) (slice W (r .target)) b → Possible c W r b
     possible-build true m = possible
-    possible-build false m = refused (record { matches = λ z. absurd (d z); builds = λ _ x e t b p i j. m x e t b p i j })
+    possible-build false m = refused (record {
+      matches = λ z. absurd (d z);
+      builds = λ _. may-build-at c W (r .argument) (r .target) false refl m;
+    })
 
 -- the first deferred goal
 module _ (P W : List ℕ) (s : Agenda) (a : List Entry) (ready : Ready relinking P W s a) (deferred : 0 < s .deferred) (r : StoredGoal)
     (y : StoredAt W (s .deferred) r) where
-  pub part-source : SkeletonSource P (r .part) W a
-  part-source = from P W s a ready deferred r y (SkeletonSource P (r .part) W a) (λ gs hs l g x.
+  pub part-source : SkeletonSource (slice P (r .part)) W a
+  part-source = from P W s a ready deferred r y (SkeletonSource (slice P (r .part)) W a) (λ gs hs l g x.
       let v = put P W s a ready deferred r y g (x .deferred .0 .goal) in
-      record {
-        tree = partOf g;
-        part = v .part;
-        short = ready .bounds .short;
-        below = v .below;
-        φ = totalOf l;
-        gives = line-values P W s a l (ready .bounds) (x .entries) (partOf g);
-      })
+      source-at P (r .part) W a (partOf g) (v .part) (ready .bounds .short) (v .below) (totalOf l)
+      (line-values P W s a l (ready .bounds) (x .entries) (partOf g)))
 
   pub goal-target : Whole W (r .target)
   goal-target = from P W s a ready deferred r y (Whole W (r .target)) (λ gs hs l g x. go g (x .deferred .0 .goal))
@@ -187,39 +207,39 @@ module _ (P W : List ℕ) (s : Agenda) (a : List Entry) (ready : Ready relinking
       go (match p t) x = whole W (r .target) t (subst (λ (i : ℕ). Part W i t) (sym (y .target)) (x .target .part))
       go (build f t e) x = whole W (r .target) t (subst (λ (i : ℕ). Part W i t) (sym (y .target)) (x .target .part))
 
-  module _ (c : List ℕ) (n : ℕ) (k : PartSkeleton P (r .part) W a c n) where
+  module _ (c : List ℕ) (n : ℕ) (k : PartSkeleton (slice P (r .part)) W a c n) where
     pub judges : Judges (take (n - 0) (drop 0 c)) W r
     judges = record {
       target = skeleton-comparable c n (k .table) W (r .target) goal-target (omega (arith, ready .bounds .whole));
-      both = λ d. from P W s a ready deferred r y (SkeletonApplicable (take (n - 0) (drop 0 c)) W (r .argument) (r .target))
-          (λ gs hs l g x. go d g (x .deferred .0 .goal));
+      both = λ d. from P W s a ready deferred r y Applicable (λ gs hs l g x. go d g (x .deferred .0 .goal));
     }
       where
-        go : ¬ (r .kind ≡ 0) → (g : Goal) → GoalAt P W (s .top) (s .deferred) g
-            → SkeletonApplicable (take (n - 0) (drop 0 c)) W (r .argument) (r .target)
+        Applicable : Type 0
+        Applicable = SkeletonApplicable (take (n - 0) (drop 0 c)) (slice W (r .argument)) (slice W (r .target))
+
+        go : ¬ (r .kind ≡ 0) → (g : Goal) → GoalAt P W (s .top) (s .deferred) g → Applicable
         go d (match p t) x = absurd (d (y .kind ∙ x .kind))
         go d (build f t e) x = record {
           skeleton = k .table .tree;
           argument = e;
           bytes = k .table .bytes;
-          part = subst (λ (i : ℕ). Part W i e) (sym (y .argument)) (x .argument .part);
+          part = part-slice W (r .argument) e (subst (λ (i : ℕ). Part W i e) (sym (y .argument)) (x .argument .part));
           least = skeleton-tree c n (k .table) .least;
-          few = omega
-              (arith, skeleton-part c n (k .table) .within, length-take-le (n - 0) c (omega (arith, k .table .within)), k .table .most);
+          few = omega (arith, skeleton-part c n (k .table) .within, skeleton-length c n (k .table));
           argument-few = omega (arith, x .argument .short);
           depth = patternRecords;
           shallow = omega arith;
           closed = k .closed;
           argument-closed = closed-more (patternRecords - suc (size f)) patternRecords e (omega arith) (x .argument .closed);
-          target = goal-target;
-          most = omega (arith, ready .bounds .whole);
+          target = whole-slice W (r .target) goal-target;
+          most = omega (arith, ready .bounds .whole, slice-length W (r .target));
         }
 
     fits-part :
         (gs hs : List Goal) (l : Line) (g : Goal) → GoalOpened P W s a ready deferred r y gs l g hs
         → (φ : ℕ → Term) → Values φ → Extends φ l → Fits (k .table .tree) (sweep (fill φ (partOf g)))
     fits-part gs hs l g x φ v e =
-        k .is-skeleton (partOf g) (put P W s a ready deferred r y g (x .deferred .0 .goal) .part) φ v
+        skeleton-at P (r .part) W a c n k (partOf g) (put P W s a ready deferred r y g (x .deferred .0 .goal) .part) φ v
         (extended-values P W s a l (ready .bounds) (x .entries) (partOf g) φ e)
 
     unmet : SkeletonRefuses (take (n - 0) (drop 0 c)) W r → (gs hs : List Goal) (l : Line) (g : Goal)
@@ -253,6 +273,6 @@ module _ (P W : List ℕ) (s : Agenda) (a : List Entry) (ready : Ready relinking
         record {
           tree = k .table .tree;
           bytes = k .table .bytes;
-          most = omega (arith, length-take-le (n - 0) c (omega (arith, k .table .within)), k .table .most);
+          most = skeleton-length c n (k .table);
           is = λ gs hs l g x φ v o. sym (fits-exact (k .table .tree) (sweep (fill φ (partOf g))) e (fits-part gs hs l g x φ v o));
         }

@@ -56,9 +56,6 @@ pub record Solving (W : List ℕ) (v e t : ℕ) : Type 0 where
   pub value : Whole W v
   pub argument : Whole W e
   pub target : Whole W t
-  pub value-least : v + 4 ≤ length W
-  pub argument-least : e + 4 ≤ length W
-  pub target-least : t + 4 ≤ length W
   pub most : length W ≤ tableBytes
 
 pub record Solved (W : List ℕ) (v e t : ℕ) (r : Bool) : Type 0 where

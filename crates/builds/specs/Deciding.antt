@@ -12,7 +12,7 @@ use Prim.Native.Nat.{ℕ, _+_, _*_, _≤_}
 use lib.ListN.{length, getD, take}
 use Rattle.terms.specs.Figures.{variables, tableBytes}
 use Rattle.terms.specs.Term.{Term, size, Occurs, Below}
-use Rattle.terms.specs.Table.{encode}
+use Rattle.terms.specs.Table.{encode, variableKind}
 use Rattle.records.specs.Record.{numberAt}
 use Rattle.records.specs.Parts.{Part}
 use Rattle.records.specs.Tests.{Says}
@@ -29,7 +29,7 @@ pub record HasEntries (l : List ℕ) : Type 0 where
   pub below : Below variables tree
 
 pub record OpenAt (l : List ℕ) (a : List Entry) (k : ℕ) : Type 0 where
-  pub kind : getD l (4 * k) 0 ≡ 4
+  pub kind : getD l (4 * k) 0 ≡ variableKind
   pub is : getD a (numberAt l (4 * k)) Open ≡ Open
 
 abbrev pub AllAssigned : List Entry → Term → Type 0

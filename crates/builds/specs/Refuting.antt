@@ -1,10 +1,10 @@
 -- Goals that are refused by the skeletons of their parts.
---   SkeletonSource P i W a     a part of the pattern P stands at byte i, and the values of its assigned variables stand in W
---   Prefix c n                 the first n bytes of c are the table of a term
---   PartSkeleton P i W a c n   that term is a skeleton of the part of P at byte i
---   Judges c W r               c is the table of a skeleton, which the targets of the goal r can be compared with
---   SkeletonRefuses c W r      what fits the skeleton with the table c isn't what the goal r asks for
---   Possible c W r b           unless b, the goal r is refused so
+--   SkeletonSource l W a     l begins with a part of a pattern, and the values of its assigned variables stand in W
+--   Prefix c n               the first n bytes of c are the table of a term
+--   PartSkeleton l W a c n   that term is a skeleton of the part that l begins with
+--   Judges c W r             c is the table of a skeleton, which the targets of the goal r can be compared with
+--   SkeletonRefuses c W r    what fits the skeleton with the table c isn't what the goal r asks for
+--   Possible c W r b         unless b, the goal r is refused so
 use mathlib.Core.Path.{_≡_}
 use mathlib.Core.Bool.{Bool, true, false}
 use mathlib.Core.List.{List}
@@ -14,16 +14,16 @@ use Rattle.terms.specs.Figures.{variables, patternRecords}
 use Rattle.terms.specs.Term.{Term, lam, substitute, Closed, Below}
 use Rattle.terms.specs.Table.{encode}
 use Rattle.matching.specs.Skeletons.{Fits}
-use Rattle.records.specs.Parts.{Part}
+use Rattle.records.specs.Parts.{slice, Part}
 use Rattle.assignments.specs.declared.Entry.{Entry}
 use Rattle.sweeping.specs.Swept.{sweptBytes}
 use Rattle.skeletons.specs.Skeleton.{GivenValues, IsSkeleton, SkeletonComparable, SkeletonApplicable}
 use Rattle.agenda.specs.declared.StoredGoal.{StoredGoal}
 
-pub record SkeletonSource (P : List ℕ) (i : ℕ) (W : List ℕ) (a : List Entry) : Type 0 where
+pub record SkeletonSource (l W : List ℕ) (a : List Entry) : Type 0 where
   pub tree : Term
-  pub part : Part P i tree
-  pub short : length P ≤ 4 * patternRecords
+  pub part : Part l 0 tree
+  pub short : length l ≤ 4 * patternRecords
   pub below : Below variables tree
   pub φ : ℕ → Term
   pub gives : GivenValues W a φ tree
@@ -35,14 +35,14 @@ pub record Prefix (c : List ℕ) (n : ℕ) : Type 0 where
   pub within : n ≤ length c
   pub most : n ≤ sweptBytes
 
-pub record PartSkeleton (P : List ℕ) (i : ℕ) (W : List ℕ) (a : List Entry) (c : List ℕ) (n : ℕ) : Type 0 where
+pub record PartSkeleton (l W : List ℕ) (a : List Entry) (c : List ℕ) (n : ℕ) : Type 0 where
   pub table : Prefix c n
   pub closed : Closed patternRecords (table .tree)
-  pub is-skeleton : (t : Term) → Part P i t → IsSkeleton W a t (table .tree)
+  pub is-skeleton : (t : Term) → Part l 0 t → IsSkeleton W a t (table .tree)
 
 pub record Judges (c W : List ℕ) (r : StoredGoal) : Type 0 where
-  pub target : SkeletonComparable c W (r .target)
-  pub both : ¬ (r .kind ≡ 0) → SkeletonApplicable c W (r .argument) (r .target)
+  pub target : SkeletonComparable c (slice W (r .target))
+  pub both : ¬ (r .kind ≡ 0) → SkeletonApplicable c (slice W (r .argument)) (slice W (r .target))
 
 pub record SkeletonRefuses (c W : List ℕ) (r : StoredGoal) : Type 0 where
   pub matches : r .kind ≡ 0 → (x t : Term) → Part c 0 x → Part W (r .target) t → ¬ Fits x t

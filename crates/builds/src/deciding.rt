@@ -78,8 +78,10 @@ pub fn decide(
     ensures { λ r. ⌜ Decided relinking (now (pattern .entry)) (now (work .entry)) agenda entries (now (work .exit)) r ⌝ }
 {
     let goal = agenda::goal_at(work, agenda.deferred);
-    let walk = records::ask_at(pattern, goal.part, Ask::Below, PATTERN_RECORDS);
-    let skeleton = crate::refuting::skeleton_at(pattern, goal.part, walk, work, entries);
+    let i = goal.part;
+    let part = &pattern[i..];
+    let walk = records::ask_part(part, Ask::Below, PATTERN_RECORDS);
+    let skeleton = crate::refuting::skeleton_of(part, walk, work, entries);
     let c = skeleton.bytes;
     let n = skeleton.length;
     if !skeletons::is_exact(&c[0..n]) {

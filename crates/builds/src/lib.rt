@@ -85,8 +85,18 @@ pub fn body(
     ensures { λ r. ⌜ Branched (now (pattern .entry)) (now (work .entry)) agenda entries (ChosenBody chosen) (now (work .exit)) r ⌝ }
 {
     let goal = agenda::goal_at(work, agenda.deferred);
+    let target = goal.target;
+    let argument = goal.argument;
     let mut b = [0u8; TARGET_BYTES];
-    let built = abstractions::body_into(work, goal.target, 0, goal.argument, &chosen, 0, &mut b, 0);
+    let built = abstractions::body_into(
+        &work[target..],
+        0,
+        &work[argument..],
+        &chosen,
+        0,
+        &mut b,
+        0,
+    );
     let n = built.end;
     if !any_chosen(&chosen, built.k) {
         return Branch::Failed;
@@ -105,11 +115,12 @@ pub fn is_solved(work: &[u8], v: usize, argument: usize, target: usize) -> bool
     if work[v] != Kind::ABSTRACTION.code {
         return false;
     }
-    let unused = records::ask_at(work, v + RECORD, Ask::Other, 0);
+    let body = &work[v + RECORD..];
+    let unused = records::ask_part(body, Ask::Other, 0);
     if let Walk::Upto(_) = unused {
         return false;
     }
-    let pairing = shifting::is_substituted(work, v + RECORD, 0, argument, target);
+    let pairing = shifting::is_substituted(body, 0, &work[argument..], &work[target..]);
     match pairing {
         Pairing::Upto(_) => true,
         Pairing::No => false,
@@ -131,6 +142,8 @@ pub fn plan(pattern: &[u8], work: &mut [u8], agenda: Agenda, entries: [Entry; VA
             Branch::Next(next) => return Plan::Next(next),
         }
     }
-    let counted = abstractions::copies(work, goal.target, 0, goal.argument);
+    let target = goal.target;
+    let argument = goal.argument;
+    let counted = abstractions::copies(&work[target..], 0, &work[argument..]);
     Plan::Bodies(counted.count)
 }

@@ -14,30 +14,24 @@ ghost use Rattle.records.specs.Tests.{Asks, Walked};
 ghost use Rattle.records.specs.declared.Ask.the-variants.{Below};
 ghost use Rattle.builds.specs.Refuting.{SkeletonSource, PartSkeleton, Judges, Possible};
 
-// The skeleton of the part of p at byte i. The locals of a part are few, so that those of its skeleton have numbers that a record holds;
-// `walk` says whether that is so, and if it weren't, the skeleton would be a hole.
-pub fn skeleton_at(
-    pattern: &[u8],
-    i: usize,
-    walk: Walk,
-    work: &[u8],
-    entries: [Entry; VARIABLES],
-) -> Skeleton
-    requires { ⌜ SkeletonSource (now pattern) i (now work) entries × Walked (now pattern) i (Asks Below patternRecords) walk ⌝ }
-    ensures { λ r. ⌜ PartSkeleton (now (pattern .entry)) i (now (work .entry)) entries (r .bytes) (r .length) ⌝ }
+// The skeleton of the part that `part` begins with. The locals of a part are few, so that those of its skeleton have numbers that a record
+// holds; `walk` says so with the part's length, and if it weren't so, the skeleton would be a hole.
+pub fn skeleton_of(part: &[u8], walk: Walk, work: &[u8], entries: [Entry; VARIABLES]) -> Skeleton
+    requires { ⌜ SkeletonSource (now part) (now work) entries × Walked (now part) 0 (Asks Below patternRecords) walk ⌝ }
+    ensures { λ r. ⌜ PartSkeleton (now (part .entry)) (now (work .entry)) entries (r .bytes) (r .length) ⌝ }
 {
     let mut bytes = [0u8; SWEPT_BYTES];
-    let Walk::Upto(end) = walk else {
+    let Walk::Upto(n) = walk else {
         records::put_record(&mut bytes, 0, Kind::VARIABLE, 0);
         return Skeleton {
             bytes,
             length: RECORD,
         };
     };
-    let n = skeletons::skeleton(&pattern[i..end], work, entries, &mut bytes);
+    let count = skeletons::skeleton(&part[0..n], work, entries, &mut bytes);
     Skeleton {
         bytes,
-        length: n * RECORD,
+        length: count * RECORD,
     }
 }
 
@@ -47,8 +41,10 @@ pub fn is_possible(c: &[u8], work: &[u8], goal: StoredGoal) -> bool
     requires { ⌜ Judges (now c) (now work) goal ⌝ }
     ensures { λ r. ⌜ Possible (now (c .entry)) (now (work .entry)) goal r ⌝ }
 {
+    let at = goal.target;
+    let target = &work[at..];
     if goal.kind == StoredGoal::MATCH {
-        return skeletons::may_be(c, work, goal.target);
+        return skeletons::may_be(c, target);
     }
     if c[0] == Kind::VARIABLE.code {
         return true;
@@ -56,5 +52,6 @@ pub fn is_possible(c: &[u8], work: &[u8], goal: StoredGoal) -> bool
     if c[0] != Kind::ABSTRACTION.code {
         return false;
     }
-    skeletons::may_build(c, work, goal.argument, goal.target)
+    let at = goal.argument;
+    skeletons::may_build(c, &work[at..], target)
 }

@@ -1,8 +1,8 @@
 -- A full listing written to the lent tables, or one that has no room there. Document 01, section "Operations".
 --   lentLines l, lentRecords s   how many lines and records the tables l and s have room for
---   ListingOf p r ls   ls is a full listing of the pattern of the table p and the recipe of the table r
---   WrittenLines, NoRoom   a full listing is written, or doesn't fit
---   Enumerated ..      one of the two, by the answer
+--   ListingOf p r ls             ls is a full listing of the pattern of the table p and the recipe of the table r
+--   WrittenLines, NoRoom         a full listing is written, or doesn't fit
+--   Enumerated ..                one of the two, by the answer
 use mathlib.Core.Path.{_≡_}
 use mathlib.Core.List.{List}
 use Prim.Native.Nat.{ℕ, _*_, _/_}

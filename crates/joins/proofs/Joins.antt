@@ -26,12 +26,12 @@ use Rattle.records.specs.declared.Walk.{Walk}
 use Rattle.records.specs.declared.Walk.the-variants.{Upto, No}
 use Rattle.records.proofs.Parts.{size-some, whole, whole-head, whole-body, kind-at, number-at, application, abstraction, Application}
 use Rattle.records.proofs.Parts.{argument-part, ends-app, ends-lam, ends-leaf}
-use Rattle.sweeping.specs.Writers.{NumbersFit, Source, Single, Wrote}
+use Rattle.substitution.specs.Writers.{NumbersFit, Source, Single, Wrote}
 use Rattle.sweeping.specs.Swept.{sweptBytes, WrittenForm, SweptBody, ContractsAbstraction}
 use Rattle.sweeping.specs.declared.Length.{Length}
 use Rattle.sweeping.specs.declared.Length.the-variants.{Records, TooLong}
 use Rattle.copying.proofs.Stores.{written-then, stored}
-use Rattle.sweeping.proofs.Writers.{source}
+use Rattle.substitution.proofs.Writers.{source}
 use Rattle.sweeping.proofs.Contraction.{table-length}
 use Rattle.joins.specs.declared.pairs.Pairs.{Pairs}
 use Rattle.joins.specs.declared.pairs.Found.{Found}

@@ -25,7 +25,7 @@ use Rattle.records.specs.Record.{numberAt}
 use Rattle.records.specs.Parts.{Part, Whole, Ends}
 use Rattle.records.specs.declared.Walk.{Walk}
 use Rattle.records.specs.declared.Walk.the-variants.{Upto, No}
-use Rattle.sweeping.specs.Writers.{NumbersFit}
+use Rattle.substitution.specs.Writers.{NumbersFit}
 use Rattle.joins.specs.declared.pairs.Pairs.{Pairs}
 use Rattle.joins.specs.Pairs.{pairsOf, Reads}
 

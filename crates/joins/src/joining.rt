@@ -9,7 +9,8 @@ use sweeping::Length;
 use sweeping::SWEPT_BYTES;
 ghost use mathlib.Core.Path.{_≡_};
 ghost use lib.ListN.{length, getD};
-ghost use Rattle.sweeping.specs.Writers.{Single};
+ghost use Rattle.terms.specs.Table.{constantKind};
+ghost use Rattle.substitution.specs.Writers.{Single};
 ghost use Rattle.joins.specs.Joins.{Joins, Alike, Joined, Encloses, Enclosed};
 
 // Writes the record at byte t, if the record at byte u has the same number. Locals above the d binders make room for those of the pairs.
@@ -29,7 +30,7 @@ fn same_leaf_into(
     if records::number_at(work, t) != records::number_at(work, u) {
         return Walk::No;
     }
-    sweeping::shift_leaf_into(work, t, q.count, d, out, o);
+    substitution::shift_leaf_into(&work[t..], q.count, d, out, o);
     Walk::Upto(t + RECORD)
 }
 
@@ -44,7 +45,8 @@ fn join_constants_into(
     out: &mut [u8],
     o: usize,
 ) -> Walk
-    requires { ⌜ Joins (now p) q (now work) t u d (length (now out)) o × (getD (now work) t 0 ≡ 3) × (getD (now work) u 0 ≡ 3) ⌝ }
+    requires { ⌜ Joins (now p) q (now work) t u d (length (now out)) o × (getD (now work) t 0 ≡ constantKind)
+        × (getD (now work) u 0 ≡ constantKind) ⌝ }
     ensures { λ r. ⌜ Joined (now (p .entry)) q (now (work .entry)) t u d (now (out .entry)) o (now (out .exit)) r ⌝ }
 {
     let m = records::number_at(work, t);

@@ -1,8 +1,8 @@
 -- What list answers, and what it leaves in the tables it was lent. Document 01, section "Operations".
---   lentForList ..     the rows of refusal that its tables decide, in document 01's order
---   TooMany ..         no earlier cause holds, and every full listing has more lines than were lent
---   NineExactly ..     9 is answered exactly then
---   Listed             what an answer says, by its cases
+--   lentForList ..   the rows of refusal that its tables decide, in document 01's order
+--   TooMany ..       no earlier cause holds, and every full listing has more lines than were lent
+--   NineExactly ..   9 is answered exactly then
+--   Listed           what an answer says, by its cases
 use mathlib.Core.Path.{_≡_}
 use mathlib.Core.List.{List, _++_}
 use mathlib.Core.Logic.{_⊎_, _↔_}

@@ -11,10 +11,11 @@ use Rattle.terms.specs.Figures.{variables, patternRecords, tableBytes}
 use Rattle.terms.specs.Term.{Term, app, lam, loc, con, var, size, Below}
 use Rattle.matching.specs.Goals.{Goal, Goal.match, Goal.build, Meets, All}
 use Rattle.matching.specs.Occurrences.{partAt}
-use Rattle.records.specs.Parts.{Part, Whole, Ends}
+use Rattle.records.specs.Parts.{slice, Part, Whole, Ends}
 use Rattle.records.proofs.Parts.{part-bytes, whole, kind-at, whole-head, whole-argument}
 use Rattle.assignments.specs.declared.Entry.{Entry}
 use Rattle.abstractions.specs.Bodies.{Counting}
+use Rattle.abstractions.proofs.Bodies.{counting-at}
 use Rattle.abstractions.proofs.Occurrences.{part-at}
 use Rattle.agenda.specs.declared.Agenda.{Agenda}
 use Rattle.agenda.specs.declared.StoredGoal.{StoredGoal}
@@ -22,6 +23,7 @@ use Rattle.agenda.specs.Stored.{storedBytes, StoredAt, StoredFits}
 use Rattle.agenda.specs.State.{patternAt, nextAt, GoalAt, Easy, Deferred, Node, Chain, weight, weights, Ready}
 use Rattle.ordering.specs.Forwarding.{Forwarded}
 use Rattle.builds.specs.Deciding.{HasEntries}
+use Rattle.shifting.proofs.Locals.{marks-at}
 use Rattle.agenda.specs.Locals.{Locals}
 use Rattle.ordering.specs.Ordering.{Reaches, Reaches.here, Reaches.further, linked, Branches, Weighs, Ranks, Drops, Dropped}
 use Rattle.matching.proofs.Targets.{closed-more}
@@ -253,18 +255,21 @@ module _ {P W : List ℕ} {at : ℕ} {r : StoredGoal} (x : Weighs P W at) (y : S
       cases (match (var i) t) z h = absurd h
       cases (build f t e) z h = absurd (omega (arith, y .kind, z .kind))
 
-  pub weighs-copies : ¬ (r .kind ≡ 0) → Counting W (r .target) 0 (r .argument)
-  weighs-copies n = cases (x .goal) (x .stands)
+  pub weighs-argument : ¬ (r .kind ≡ 0) → Whole W (r .argument)
+  weighs-argument n = cases (x .goal) (x .stands)
     where
-      cases : (g : Goal) → GoalAt P W (x .top) at g → Counting W (r .target) 0 (r .argument)
+      cases : (g : Goal) → GoalAt P W (x .top) at g → Whole W (r .argument)
       cases (match p t) z = absurd (n (y .kind ∙ z .kind))
-      cases (build f t e) z = record {
-        target = weighs-target;
-        argument = rw (y .argument) (whole W _ e (z .argument .part));
-        least = weighs-target .least;
-        most = x .most;
-        shallow = omega (arith, x .most);
-      }
+      cases (build f t e) z = rw (y .argument) (whole W _ e (z .argument .part))
+
+  pub weighs-target-within : r .target ≤ length W
+  weighs-target-within = omega (arith, weighs-target .least)
+
+  pub weighs-argument-within : ¬ (r .kind ≡ 0) → r .argument ≤ length W
+  weighs-argument-within n = omega (arith, weighs-argument n .least)
+
+  pub weighs-copies : ¬ (r .kind ≡ 0) → Counting (slice W (r .target)) 0 (slice W (r .argument))
+  weighs-copies n = counting-at W W (r .target) (r .argument) 0 weighs-target (weighs-argument n) (omega (arith, x .most))
 
   pub weighs-locals : ¬ (r .kind ≡ 0) → Locals P (r .part) W (r .argument)
   weighs-locals n = cases (x .goal) (x .stands)
@@ -276,13 +281,9 @@ module _ {P W : List ℕ} {at : ℕ} {r : StoredGoal} (x : Weighs P W at) (y : S
           record {
             part = rw (y .part) (whole P _ f (z .part));
             short = x .short;
-            target = record {
-              tree = e;
-              part = rw (y .argument) (u .part);
-              closed = closed-more (patternRecords - suc (size f)) patternRecords e (omega arith) (u .closed);
-              shallow = omega (arith, u .short);
-              least = omega (arith, y .argument, u .part .within, u .part .some);
-            };
+            target = marks-at W (r .argument) 0 patternRecords e (rw (y .argument) (u .part))
+                (closed-more (patternRecords - suc (size f)) patternRecords e (omega arith) (u .closed)) (omega (arith, u .short));
+            place = omega (arith, y .argument, u .part .within, u .part .some);
           }
 
 -- the candidates of an application

@@ -12,6 +12,7 @@ use mathlib.Core.Logic.{_↔_}
 use mathlib.Core.List.{List}
 use Prim.Native.Nat.{ℕ, _+_, _*_, _%_, _<_, _≤_}
 use lib.ListN.{length, getD, take}
+use Rattle.terms.specs.Table.{applicationKind}
 use Rattle.terms.specs.Figures.{patternRecords, tableBytes}
 use Rattle.terms.specs.Term.{Term}
 use Rattle.matching.specs.Goals.{Goal, Meets, All}
@@ -28,7 +29,7 @@ linked x n = record { part = x .part; kind = x .kind; target = x .target; next =
 
 pub record Branches (P : List ℕ) (i : ℕ) (W : List ℕ) (j : ℕ) : Type 0 where
   pub part : Whole P i
-  pub kind : getD P i 0 ≡ 0
+  pub kind : getD P i 0 ≡ applicationKind
   pub target : Whole W j
   pub most : length W ≤ tableBytes
 

@@ -54,7 +54,7 @@ fn candidates(pattern: &[u8], part: usize, work: &[u8], target: usize) -> usize
     let argument = records::end_at(pattern, part + RECORD);
     let end = records::end_at(work, target);
     let n = (end - target) / RECORD;
-    if !shifting::is_rigid(pattern, argument) {
+    if !shifting::is_rigid(&pattern[argument..]) {
         return 2 + n;
     }
     let mut count = 2;
@@ -83,7 +83,9 @@ fn cost(pattern: &[u8], work: &[u8], at: usize, entries: [Entry; VARIABLES]) -> 
     if agenda::locals::lacks_local(pattern, part, work, goal.argument) {
         return 1;
     }
-    let copies = abstractions::copies(work, goal.target, 0, goal.argument);
+    let target = goal.target;
+    let argument = goal.argument;
+    let copies = abstractions::copies(&work[target..], 0, &work[argument..]);
     bodies(copies.count)
 }
 

@@ -10,7 +10,7 @@ use Rattle.terms.specs.Term.{Term, app, lam, loc, con, var, size}
 use Rattle.terms.specs.Table.{bytes, encode}
 use Rattle.terms.proofs.Table.{kind, numberOf, encode-length, encode-inj}
 use Rattle.records.specs.Record.{parts, numberAt}
-use Rattle.records.specs.Parts.{Part, Whole, Ends, Tree, Divided, Lies}
+use Rattle.records.specs.Parts.{slice, Part, Whole, Ends, Tree, Divided, Lies}
 use Rattle.records.proofs.Record.{kind-read, number-read, rest-read}
 
 -- the parts of a term, and the tables of terms one behind another
@@ -174,7 +174,7 @@ pub tree-whole : (l : List ℕ) → Tree l → Whole l 0
 tree-whole l x = whole l 0 (x .tree) (at-start l (x .tree) (x .bytes))
 
 -- the rest of a list from h on, as a part of a slice has it
-pub rest-part : (l : List ℕ) (h : ℕ) → take (length l - h) (drop h l) ≡ drop h l
+pub rest-part : (l : List ℕ) (h : ℕ) → slice l h ≡ drop h l
 rest-part l h = take-all (length l - h) (drop h l) (omega (arith, length-drop h l))
 
 -- the two parts of a table of an application

@@ -17,7 +17,7 @@ use Rattle.terms.proofs.Tests.{and-true}
 use Rattle.records.specs.declared.Kind.{Kind}
 use Rattle.records.specs.declared.KindRead.{KindRead}
 use Rattle.records.specs.declared.KindRead.the-variants.{Known, Unknown}
-use Rattle.records.specs.Record.{kindOf, parts, numberAt, recordAt}
+use Rattle.records.specs.Record.{kindOf, parts, readParts, numberAt, recordAt}
 
 -- the first four bytes
 four : (l : List ℕ) → 4 ≤ length l → l ≡ getD l 0 0 ∷ getD l 1 0 ∷ getD l 2 0 ∷ getD l 3 0 ∷ drop 4 l
@@ -117,6 +117,14 @@ pub parts-none : (k : ℕ) → ¬ (k ≡ 0) → ¬ (k ≡ 1) → 0 ≡ parts k
 parts-none zero n m = absurd (n refl)
 parts-none (suc zero) n m = absurd (m refl)
 parts-none (suc (suc k)) n m = refl
+
+-- a byte that is no kind has no parts either
+pub read-parts : (b : ℕ) → readParts (kindOf b) ≡ parts b
+read-parts b = go (leb b 4) refl
+  where
+    go : (t : Bool) → leb b 4 ≡ t → readParts (cond t (Known (record { code = b })) Unknown) ≡ parts b
+    go true e = refl
+    go false e = let h = leb-false b 4 e in parts-none b (λ p. omega arith) (λ p. omega arith)
 
 -- a byte that is read as a kind
 abbrev codeOf : KindRead → ℕ

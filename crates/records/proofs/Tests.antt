@@ -4,14 +4,15 @@ use mathlib.Core.Path.{_≡_, refl, sym, ap, ap₂, _∙_, subst}
 use mathlib.Core.Bool.{Bool, true, false, not, _&&_}
 use mathlib.Core.Logic.{_↔_}
 use mathlib.Core.List.{List}
-use Prim.Native.Nat.{ℕ, suc, _+_, _-_, _*_}
+use Prim.Native.Nat.{ℕ, suc, _+_, _-_, _*_, _≤_}
 use native.Mathlib.Omega.{arith}
 use lib.Dec.{T, eqb}
-use lib.ListN.{getD}
+use lib.ListN.{length, getD}
 use borrow.Author.Tests.{ltb-true, ltb-false, not-true, not-false, eq-eqb, ne-eqb}
+use Rattle.terms.specs.Figures.{numbers}
 use Rattle.terms.specs.Term.{Term, app, lam, loc, con, var, size, uses, isInnermost, isEta, isAbstraction, Normal}
 use Rattle.terms.specs.Table.{encode}
-use Rattle.terms.proofs.Table.{kind, numberOf}
+use Rattle.terms.proofs.Table.{kind, numberOf, encode-length}
 use Rattle.terms.proofs.Tests.{or-false, and-true}
 use Rattle.records.specs.declared.Ask.{Ask}
 use Rattle.records.specs.declared.Ask.the-variants.{Below, Other}
@@ -19,7 +20,7 @@ use Rattle.records.specs.declared.Walk.{Walk}
 use Rattle.records.specs.declared.Walk.the-variants.{Upto, No}
 use Rattle.records.specs.Record.{numberAt, innermostAt}
 use Rattle.records.specs.Parts.{Part, Whole, Ends}
-use Rattle.records.specs.Tests.{Says, EqualsAt, Head, asked, Asks, Walked}
+use Rattle.records.specs.Tests.{Says, Equals, Head, asked, Asks, Walked, Near, further}
 use Rattle.records.proofs.Parts.{at-start, size-some, application, abstraction, argument-part, kind-at, number-at, ends-app}
 use Rattle.records.proofs.Parts.{ends-lam, ends-leaf}
 
@@ -113,6 +114,14 @@ pub walked-table-no : (l : List ℕ) (P : Term → Type 0) (w : Walk) → w ≡ 
 unfolding Walked
 walked-table-no l P w e x t q = let y : Walked l 0 P No = subst (Walked l 0 P) e x in y t (at-start l t q)
 
+-- a walk that came to an end, begun n bytes further on
+module _ (n m : ℕ) (w : Walk) (e : w ≡ Upto m) where
+  pub near-upto : Near n w → n + m ≤ 4 * numbers
+  near-upto x = let y : Near n (Upto m) = subst (Near n) e x in y
+
+  pub further-upto : Upto (n + m) ≡ further n w
+  further-upto = sym (ap (further n) e)
+
 -- what is asked of locals goes by the parts
 pub asks-two : (q : Ask) (n : ℕ) (f a : Term) → Asks q n (app f a) ↔ (Asks q n f × Asks q n a)
 asks-two Below n f a = (λ p. p, λ p. p)
@@ -171,49 +180,50 @@ eta-other k n (loc i) e = refl
 eta-other k n (con i) e = refl
 eta-other k n (var i) e = refl
 
-module _ (l : List ℕ) (at end : ℕ) where
-  pub eta-no-application : ¬ (getD l at 0 ≡ 0) → EqualsAt l at end isEta false
-  eta-no-application n t x e = eta-other (getD l at 0) n t (kind-at l at t x)
+module _ (l : List ℕ) where
+  pub eta-no-application : ¬ (getD l 0 0 ≡ 0) → Equals l isEta false
+  eta-no-application n t e = eta-other (getD l 0 0) n t (kind-at l 0 t (at-start l t e))
 
-  module _ (k : getD l at 0 ≡ 0) where
+  module _ (k : getD l 0 0 ≡ 0) where
     by-last : (G : Bool → Type 0)
-        → ((f : Term) → Part l (at + 4) f → G ((eqb (at + 4 + 4 * size f) (end - 4) && innermostAt l (end - 4)) && not (uses 0 f)))
-        → (t : Term) → Part l at t → end ≡ at + 4 * size t → G (isEta t)
-    by-last G g t x e =
-        let v = application l at t x k in
-        let p = innermost-last l (at + 4 + 4 * size (v .f)) (end - 4) (v .a) (v .argument) (omega (arith, ap size (v .is))) in
+        → ((f : Term) → Part l 4 f → G ((eqb (4 + 4 * size f) (length l - 4) && innermostAt l (length l - 4)) && not (uses 0 f)))
+        → (t : Term) → l ≡ encode t → G (isEta t)
+    by-last G g t e =
+        let v = application l 0 t (at-start l t e) k in
+        let p = innermost-last l (4 + 4 * size (v .f)) (length l - 4) (v .a) (v .argument)
+        (omega (arith, ap size (v .is), ap length e, encode-length t)) in
         subst G (sym (ap isEta (v .is) ∙ ap (_&& not (uses 0 (v .f))) p)) (g (v .f) (v .head))
 
-    pub eta-other-last : innermostAt l (end - 4) ≡ false → EqualsAt l at end isEta false
+    pub eta-other-last : innermostAt l (length l - 4) ≡ false → Equals l isEta false
     eta-other-last p =
         by-last (λ (b : Bool). false ≡ b) λ f x.
-        go (eqb (at + 4 + 4 * size f) (end - 4)) (not (uses 0 f))
-        ∙ ap (λ (b : Bool). (eqb (at + 4 + 4 * size f) (end - 4) && b) && not (uses 0 f)) (sym p)
+        go (eqb (4 + 4 * size f) (length l - 4)) (not (uses 0 f))
+        ∙ ap (λ (b : Bool). (eqb (4 + 4 * size f) (length l - 4) && b) && not (uses 0 f)) (sym p)
       where
         go : (x y : Bool) → false ≡ ((x && false) && y)
         go true y = refl
         go false y = refl
 
-    module _ (w : Walk) (y : Walked l (at + 4) (Asks Other 0) w) where
-      pub eta-used : w ≡ No → EqualsAt l at end isEta false
+    module _ (w : Walk) (y : Walked l 4 (Asks Other 0) w) where
+      pub eta-used : w ≡ No → Equals l isEta false
       unfolding Walked
       eta-used e =
-          let z : Walked l (at + 4) (Asks Other 0) No = subst (Walked l (at + 4) (Asks Other 0)) e y in
+          let z : Walked l 4 (Asks Other 0) No = subst (Walked l 4 (Asks Other 0)) e y in
           by-last (λ (b : Bool). false ≡ b)
-          λ f x. go (eqb (at + 4 + 4 * size f) (end - 4) && innermostAt l (end - 4)) (uses 0 f) (not-false-true (uses 0 f) (z f x))
+          λ f x. go (eqb (4 + 4 * size f) (length l - 4) && innermostAt l (length l - 4)) (uses 0 f) (not-false-true (uses 0 f) (z f x))
         where
           go : (x y : Bool) → true ≡ y → false ≡ (x && not y)
           go true y e = ap not e
           go false y e = refl
 
-      pub eta-ends : (h : ℕ) → innermostAt l (end - 4) ≡ true → w ≡ Upto h → EqualsAt l at end isEta (eqb h (end - 4))
+      pub eta-ends : (h : ℕ) → innermostAt l (length l - 4) ≡ true → w ≡ Upto h → Equals l isEta (eqb h (length l - 4))
       unfolding Walked
       eta-ends h p e =
-          let z : Walked l (at + 4) (Asks Other 0) (Upto h) = subst (Walked l (at + 4) (Asks Other 0)) e y in
-          by-last (λ (b : Bool). eqb h (end - 4) ≡ b) λ f x.
-          ap (λ (i : ℕ). eqb i (end - 4)) (z .0 .exact f x)
-          ∙ sym (and-true (eqb (at + 4 + 4 * size f) (end - 4) && true) ∙ and-true (eqb (at + 4 + 4 * size f) (end - 4)))
-          ∙ ap₂ (λ (b c : Bool). (eqb (at + 4 + 4 * size f) (end - 4) && b) && not c) (sym p) (sym (z .1 f x))
+          let z : Walked l 4 (Asks Other 0) (Upto h) = subst (Walked l 4 (Asks Other 0)) e y in
+          by-last (λ (b : Bool). eqb h (length l - 4) ≡ b) λ f x.
+          ap (λ (i : ℕ). eqb i (length l - 4)) (z .0 .exact f x)
+          ∙ sym (and-true (eqb (4 + 4 * size f) (length l - 4) && true) ∙ and-true (eqb (4 + 4 * size f) (length l - 4)))
+          ∙ ap₂ (λ (b c : Bool). (eqb (4 + 4 * size f) (length l - 4) && b) && not c) (sym p) (sym (z .1 f x))
 
 -- what may be a head: no abstraction, an application whose head may be one and whose argument is normal, a record with no parts
 head-leaf : (k : ℕ) → ¬ (k ≡ 0) → ¬ (k ≡ 1) → (t : Term) → k ≡ kind t → Head t
@@ -233,6 +243,9 @@ no-abstraction k m (var i) e = tt
 pub head-two : (f a : Term) → Head (app f a) ↔ (Head f × Normal a)
 head-two f a = (λ x. ((x .1 .0, x .1 .1), x .1 .2), λ x. (tt, (x .0 .0, x .0 .1, x .1)))
 
+pub normal-two : (f a : Term) → Normal (app f a) ↔ (Head f × Normal a)
+normal-two f a = (λ x. ((x .0, x .1), x .2), λ x. (x .0 .0, x .0 .1, x .1))
+
 module _ (l : List ℕ) (at : ℕ) where
   pub head-abstraction : getD l at 0 ≡ 1 → Walked l at Head No
   head-abstraction k =
@@ -241,31 +254,25 @@ module _ (l : List ℕ) (at : ℕ) where
   pub head-none : Whole l at → ¬ (getD l at 0 ≡ 0) → ¬ (getD l at 0 ≡ 1) → Walked l at Head (Upto (at + 4))
   head-none w n m = walked-leaf l at Head w n m λ t x. head-leaf (getD l at 0) n m t (kind-at l at t x)
 
-  pub normal-head : (r : Walk) → ¬ (getD l at 0 ≡ 1) → Walked l at Head r → Walked l at Normal r
-  normal-head r m x =
-      walked-same l at Normal Head r r (λ t y. (λ p. (no-abstraction (getD l at 0) m t (kind-at l at t y), p), λ p. p .1)) refl x
+  pub normal-none : Whole l at → ¬ (getD l at 0 ≡ 0) → ¬ (getD l at 0 ≡ 1) → Walked l at Normal (Upto (at + 4))
+  normal-none w n m = walked-leaf l at Normal w n m λ t x. head-leaf (getD l at 0) n m t (kind-at l at t x) .1
 
 -- an abstraction is normal as its body is, unless it is itself a redex
-module _ (l : List ℕ) (at : ℕ) (w : Walk) (k : getD l at 0 ≡ 1) (x : Walked l (at + 4) Normal w) where
-  pub normal-stop : w ≡ No → Walked l at Normal No
+module _ (l : List ℕ) (at : ℕ) (k : getD l at 0 ≡ 1) where
+  pub normal-stop : Walked l (at + 4) Normal No → Walked l at Normal No
   unfolding Walked
-  normal-stop e =
-      let z : Walked l (at + 4) Normal No = subst (Walked l (at + 4) Normal) e x in
-      λ t y q. let v = abstraction l at t y k in let p : Normal (lam (v .b)) = subst Normal (v .is) q in z (v .b) (v .body) (p .1)
+  normal-stop z t y q = let v = abstraction l at t y k in let p : Normal (lam (v .b)) = subst Normal (v .is) q in z (v .b) (v .body) (p .1)
 
-  module _ (end : ℕ) (r : Bool) (e : w ≡ Upto end) (g : EqualsAt l (at + 4) end isEta r) where
-    eta-is : (b : Term) → Part l (at + 4) b → r ≡ isEta b
-    eta-is b y = g b y (walked-ends l (at + 4) Normal end w e x .exact b y)
-
+  module _ (end : ℕ) (r : Bool) (g : (b : Term) → Part l (at + 4) b → r ≡ isEta b) where
     pub normal-redex : r ≡ true → Walked l at Normal No
     normal-redex p =
         walked-no l at Normal λ t y q.
         let v = abstraction l at t y k in
         let n : Normal (lam (v .b)) = subst Normal (v .is) q in
-        subst (λ (c : Bool). T (not c)) (sym (eta-is (v .b) (v .body)) ∙ p) (n .0)
+        subst (λ (c : Bool). T (not c)) (sym (g (v .b) (v .body)) ∙ p) (n .0)
 
-    pub normal-body : r ≡ false → Walked l at Normal (Upto end)
-    normal-body p =
+    pub normal-body : r ≡ false → Walked l (at + 4) Normal (Upto end) → Walked l at Normal (Upto end)
+    normal-body p x =
         walked-lam l at Normal (λ b. T (not (isEta b)) × Normal b) (Upto end) k (λ b. (λ n. n, λ n. n))
-        (walked-same l (at + 4) (λ b. T (not (isEta b)) × Normal b) Normal w (Upto end)
-        (λ b y. (λ n. n .1, λ n. (subst (λ (c : Bool). T (not c)) (sym p ∙ eta-is b y) tt, n))) e x)
+        (walked-same l (at + 4) (λ b. T (not (isEta b)) × Normal b) Normal (Upto end) (Upto end)
+        (λ b y. (λ n. n .1, λ n. (subst (λ (c : Bool). T (not c)) (sym p ∙ g b y) tt, n))) refl x)

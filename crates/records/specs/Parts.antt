@@ -1,4 +1,5 @@
 -- Parts of a table: terms that stand in it from some byte on.
+--   slice l n         the bytes of l from byte n on, as a slice of l has them
 --   Part l at t       the term t stands in l from byte `at` on
 --   Whole l at        some term does
 --   Ends l at r       each term that stands in l from byte `at` on ends at byte r
@@ -18,6 +19,9 @@ use Rattle.terms.specs.Term.{Term, app, size}
 use Rattle.terms.specs.Table.{encode, goodRecords}
 use Rattle.records.specs.declared.End.{End}
 use Rattle.records.specs.declared.End.the-variants.{At, Nowhere}
+
+abbrev pub slice : List ℕ → ℕ → List ℕ
+slice l n = take (length l - n) (drop n l)
 
 -- "A part of a term is a run of records that starts anywhere in its table. It is one whole subtree."
 pub record Part (l : List ℕ) (at : ℕ) (t : Term) : Type 0 where

@@ -1,6 +1,7 @@
 -- One record of a table, as the code reads it.
 --   kindOf b           the kind that a byte is
 --   parts k            how many parts follow a record of kind k
+--   readParts r        the same of a byte that was read as a kind
 --   numberAt l at      the number of the record that stands in l from byte `at` on
 --   recordAt l at      that record, if its four bytes are one
 --   innermostAt l at   that record is the innermost local
@@ -10,20 +11,24 @@ use mathlib.Core.List.{List}
 use Prim.Native.Nat.{ℕ, zero, suc, _+_}
 use lib.Dec.{leb, eqb}
 use lib.ListN.{getD}
-use Rattle.terms.specs.Table.{recordOf}
+use Rattle.terms.specs.Table.{recordOf, localKind, variableKind}
 use Rattle.terms.specs.Layout.{wordAt}
 use Rattle.records.specs.declared.KindRead.{KindRead}
 use Rattle.records.specs.declared.KindRead.the-variants.{Known, Unknown}
 
 -- "Five kinds", 0 to 4
 abbrev pub kindOf : ℕ → KindRead
-kindOf b = cond (leb b 4) (Known (record { code = b })) Unknown
+kindOf b = cond (leb b variableKind) (Known (record { code = b })) Unknown
 
 -- "0 application, followed by its head and then its argument", "1 abstraction, followed by its body"
 abbrev pub parts : ℕ → ℕ
 parts zero = 2
 parts (suc zero) = 1
 parts (suc (suc k)) = 0
+
+abbrev pub readParts : KindRead → ℕ
+readParts (Known k) = parts (k .code)
+readParts Unknown = 0
 
 -- "a 16-bit number, high byte first", behind the kind and the zero byte
 abbrev pub numberAt : List ℕ → ℕ → ℕ
@@ -34,4 +39,4 @@ recordAt l at = recordOf (getD l at 0) (getD l (at + 1) 0) (getD l (at + 2) 0) (
 
 -- "local, number = abstractions between it and its binder (0 is innermost)"
 abbrev pub innermostAt : List ℕ → ℕ → Bool
-innermostAt l at = eqb (getD l at 0) 2 && eqb (numberAt l at) 0
+innermostAt l at = eqb (getD l at 0) localKind && eqb (numberAt l at) 0

@@ -20,11 +20,11 @@ ghost use lib.Seq.{sets};
 ghost use Rattle.terms.specs.Figures.{numbers, tableBytes};
 ghost use Rattle.terms.specs.Term.{Term, uses, isEta, Normal, Closed};
 ghost use Rattle.terms.specs.Refusal.{BadLength, pattern, recipe, recipeRows};
-ghost use Rattle.terms.specs.Table.{encode, bytes, allowed, goodRecords};
+ghost use Rattle.terms.specs.Table.{encode, bytes, allowed, goodRecords, applicationKind, abstractionKind, variableKind};
 ghost use Rattle.terms.specs.Layout.{wordAt};
-ghost use Rattle.records.specs.Record.{kindOf, parts as partsOf, numberAt, recordAt, innermostAt};
+ghost use Rattle.records.specs.Record.{kindOf, parts as partsOf, readParts, numberAt, recordAt, innermostAt};
 ghost use Rattle.records.specs.Parts.{Whole, Ends, Reached, Ended, Tree, Divided, Lies};
-ghost use Rattle.records.specs.Tests.{Says, Tells, Equals, Within, EqualsAt, Head, asked, Asks, Walked};
+ghost use Rattle.records.specs.Tests.{Says, Tells, Equals, Head, asked, Asks, Walked, Near, further};
 ghost use Rattle.records.specs.Checks.{patternRefusal, recipeRefusal, Answers, Pattern, NormalTable, Recipe, ValueTable, OneTerm};
 ghost use Rattle.records.specs.Checks.{Good, TableChecked};
 
@@ -80,7 +80,7 @@ impl Kind {
 
     // Whether a record of this kind may have this number, where the variables are those below `variables`.
     fn allows(self, number: usize, variables: usize) -> bool
-        requires { ⌜ self .code ≤ 4 ⌝ }
+        requires { ⌜ self .code ≤ variableKind ⌝ }
         ensures { λ r. ⌜ r ≡ allowed variables (some (self .code, number)) ⌝ }
     {
         let code = self.code;
@@ -91,6 +91,18 @@ impl Kind {
             return number == 0;
         }
         true
+    }
+}
+
+impl KindRead {
+    // How many parts follow a record that begins with the byte; behind a byte that is no kind there is none.
+    fn following(self) -> usize
+        ensures { λ r. ⌜ (r ≡ readParts self) × (r ≤ 2) ⌝ }
+    {
+        match self {
+            KindRead::Known(kind) => kind.parts(),
+            KindRead::Unknown => 0,
+        }
     }
 }
 
@@ -147,8 +159,8 @@ fn pass_part(s: &[u8], from: usize) -> Pass
         if s.len() - at < RECORD {
             return Pass { at, missing };
         }
-        let kind = Kind { code: s[at] };
-        missing = missing - 1 + kind.parts();
+        let read = Kind::from_byte(s[at]);
+        missing = missing - 1 + read.following();
         at += RECORD;
     }
     Pass { at, missing }
@@ -183,7 +195,7 @@ pub fn end_at(s: &[u8], at: usize) -> usize
 
 // Where the head of the application s ends, and its argument begins.
 pub fn head_end(s: &[u8]) -> usize
-    requires { ⌜ Tree (now s) × (getD (now s) 0 0 ≡ 0) ⌝ }
+    requires { ⌜ Tree (now s) × (getD (now s) 0 0 ≡ applicationKind) ⌝ }
     ensures { λ r. ⌜ Divided (now (s .entry)) r ⌝ }
 {
     end_at(s, RECORD)
@@ -191,7 +203,7 @@ pub fn head_end(s: &[u8]) -> usize
 
 // The head of the application s.
 pub fn head_of(s: &[u8]) -> &[u8]
-    requires { ⌜ Tree (now s) × (getD (now s) 0 0 ≡ 0) ⌝ }
+    requires { ⌜ Tree (now s) × (getD (now s) 0 0 ≡ applicationKind) ⌝ }
     ensures lies { λ r. ⌜ Lies (now (s .entry)) (now r) ⌝ }
     ensures is { λ r. ⌜ ((f a : Term) → now (s .entry) ≡ encode (Term.app f a) → now r ≡ encode f) ⌝ }
 {
@@ -201,7 +213,7 @@ pub fn head_of(s: &[u8]) -> &[u8]
 
 // The argument of the application s.
 pub fn argument_of(s: &[u8]) -> &[u8]
-    requires { ⌜ Tree (now s) × (getD (now s) 0 0 ≡ 0) ⌝ }
+    requires { ⌜ Tree (now s) × (getD (now s) 0 0 ≡ applicationKind) ⌝ }
     ensures lies { λ r. ⌜ Lies (now (s .entry)) (now r) ⌝ }
     ensures is { λ r. ⌜ ((f a : Term) → now (s .entry) ≡ encode (Term.app f a) → now r ≡ encode a) ⌝ }
 {
@@ -211,7 +223,7 @@ pub fn argument_of(s: &[u8]) -> &[u8]
 
 // The body of the abstraction s.
 pub fn body_of(s: &[u8]) -> &[u8]
-    requires { ⌜ Tree (now s) × (getD (now s) 0 0 ≡ 1) ⌝ }
+    requires { ⌜ Tree (now s) × (getD (now s) 0 0 ≡ abstractionKind) ⌝ }
     ensures lies { λ r. ⌜ Lies (now (s .entry)) (now r) ⌝ }
     ensures is { λ r. ⌜ ((b : Term) → now (s .entry) ≡ encode (Term.lam b) → now r ≡ encode b) ⌝ }
 {
@@ -268,35 +280,48 @@ impl Ask {
     }
 }
 
-// How a walk over a part ends: at the part's end, or where it finds that what is asked of the part doesn't hold.
+// How a walk over the part that a slice begins with ends: behind so many bytes, which are the part, or where it finds that what is asked of
+// the part doesn't hold.
 pub enum Walk {
     Upto(usize),
     No,
 }
 
-// Asks the locals of the part at byte `at`, each record once: where the head ends the argument is known to begin.
-pub fn ask_at(s: &[u8], at: usize, ask: Ask, n: usize) -> Walk
-    requires { ⌜ Whole (now s) at × (n + length (now s) ≤ at + tableBytes) ⌝ }
-    ensures { λ r. ⌜ Walked (now (s .entry)) at (Asks ask n) r ⌝ }
+// What a walk answers that began n bytes further on, told from here.
+pub fn further(walk: Walk, n: usize) -> Walk
+    requires { ⌜ Near n walk ⌝ }
+    ensures { λ r. ⌜ r ≡ further n walk ⌝ }
 {
-    let k = s[at];
-    if k == Kind::APPLICATION.code {
-        let head = ask_at(s, at + RECORD, ask, n);
+    match walk {
+        Walk::Upto(m) => Walk::Upto(n + m),
+        Walk::No => Walk::No,
+    }
+}
+
+// Asks the locals of the part that s begins with, each record once: where the head ends the argument is known to begin.
+pub fn ask_part(s: &[u8], ask: Ask, n: usize) -> Walk
+    requires { ⌜ Whole (now s) 0 × (n + length (now s) ≤ tableBytes) ⌝ }
+    ensures { λ r. ⌜ Walked (now (s .entry)) 0 (Asks ask n) r ⌝ }
+{
+    let kind = s[0];
+    if kind == Kind::APPLICATION.code {
+        let head = ask_part(&s[RECORD..], ask, n);
         let Walk::Upto(h) = head else {
             return Walk::No;
         };
-        return ask_at(s, h, ask, n);
+        let next = RECORD + h;
+        return further(ask_part(&s[next..], ask, n), next);
     }
-    if k == Kind::ABSTRACTION.code {
-        return ask_at(s, at + RECORD, ask, n + 1);
+    if kind == Kind::ABSTRACTION.code {
+        return further(ask_part(&s[RECORD..], ask, n + 1), RECORD);
     }
-    if k == Kind::LOCAL.code {
-        if ask.holds(number_at(s, at), n) {
-            return Walk::Upto(at + RECORD);
+    if kind == Kind::LOCAL.code {
+        if ask.holds(number_at(s, 0), n) {
+            return Walk::Upto(RECORD);
         }
         return Walk::No;
     }
-    Walk::Upto(at + RECORD)
+    Walk::Upto(RECORD)
 }
 
 // Whether the locals of the term s have their binders within it or among `depth` binders above it.
@@ -304,7 +329,7 @@ pub fn is_closed(s: &[u8], depth: usize) -> bool
     requires { ⌜ Tree (now s) × (depth + length (now s) ≤ tableBytes) ⌝ }
     ensures { λ r. ⌜ Tells (now (s .entry)) (Closed depth) r ⌝ }
 {
-    let walk = ask_at(s, 0, Ask::Below, depth);
+    let walk = ask_part(s, Ask::Below, depth);
     match walk {
         Walk::Upto(_) => true,
         Walk::No => false,
@@ -316,7 +341,7 @@ pub fn uses_local(s: &[u8], n: usize) -> bool
     requires { ⌜ Tree (now s) × (n + length (now s) ≤ tableBytes) ⌝ }
     ensures { λ r. ⌜ Equals (now (s .entry)) (uses n) r ⌝ }
 {
-    let walk = ask_at(s, 0, Ask::Other, n);
+    let walk = ask_part(s, Ask::Other, n);
     match walk {
         Walk::Upto(_) => false,
         Walk::No => true,
@@ -334,72 +359,72 @@ fn innermost_at(s: &[u8], at: usize) -> bool
     false
 }
 
-// Whether the abstraction over the part from byte `at` to byte `end` is a redex: the part is an application to the innermost local, which
-// its head doesn't use. The local is then the last record, and the head ends there; most parts are ruled out by their last record alone.
-fn is_eta_at(s: &[u8], at: usize, end: usize) -> bool
-    requires { ⌜ Within (now s) at end ⌝ }
-    ensures { λ r. ⌜ EqualsAt (now (s .entry)) at end isEta r ⌝ }
-{
-    if s[at] != Kind::APPLICATION.code {
-        return false;
-    }
-    let last = end - RECORD;
-    if !innermost_at(s, last) {
-        return false;
-    }
-    let head = ask_at(s, at + RECORD, Ask::Other, 0);
-    match head {
-        Walk::Upto(h) => h == last,
-        Walk::No => false,
-    }
-}
-
-// Whether the abstraction over s is a redex.
+// Whether the abstraction over the term s is a redex: s is an application to the innermost local, which its head doesn't use. The local is
+// then the last record, and the head ends there; most terms are ruled out by their last record alone.
 pub fn is_eta(s: &[u8]) -> bool
     requires { ⌜ Tree (now s) × (length (now s) ≤ tableBytes) ⌝ }
     ensures { λ r. ⌜ Equals (now (s .entry)) isEta r ⌝ }
 {
-    is_eta_at(s, 0, s.len())
+    if s[0] != Kind::APPLICATION.code {
+        return false;
+    }
+    let last = s.len() - RECORD;
+    if !innermost_at(s, last) {
+        return false;
+    }
+    let head = ask_part(&s[RECORD..], Ask::Other, 0);
+    match head {
+        Walk::Upto(h) => RECORD + h == last,
+        Walk::No => false,
+    }
 }
 
-// Walks over the part at byte `at` if it is normal. The abstraction that is itself a redex is ruled out here, by its body, whose end is
-// then known; the application is ruled out by `head_at`. An argument and a body may be any normal term.
-fn normal_at(s: &[u8], at: usize) -> Walk
-    requires { ⌜ Whole (now s) at × (length (now s) ≤ at + tableBytes) ⌝ }
-    ensures { λ r. ⌜ Walked (now (s .entry)) at Normal r ⌝ }
+// Walks over the part that s begins with if it is normal. The abstraction that is itself a redex is ruled out by its body, whose end is
+// then known; the application by its head. An argument and a body may be any normal term.
+fn normal_part(s: &[u8]) -> Walk
+    requires { ⌜ Whole (now s) 0 × (length (now s) ≤ tableBytes) ⌝ }
+    ensures { λ r. ⌜ Walked (now (s .entry)) 0 Normal r ⌝ }
 {
-    if s[at] == Kind::ABSTRACTION.code {
-        let below = at + RECORD;
-        let body = normal_at(s, below);
-        let Walk::Upto(end) = body else {
+    let kind = s[0];
+    if kind == Kind::ABSTRACTION.code {
+        let body = normal_part(&s[RECORD..]);
+        let Walk::Upto(b) = body else {
             return Walk::No;
         };
-        if is_eta_at(s, below, end) {
+        if is_eta(&s[RECORD..RECORD + b]) {
             return Walk::No;
         }
-        return Walk::Upto(end);
+        return Walk::Upto(RECORD + b);
     }
-    head_at(s, at)
+    if kind == Kind::APPLICATION.code {
+        let head = head_part(&s[RECORD..]);
+        let Walk::Upto(h) = head else {
+            return Walk::No;
+        };
+        let next = RECORD + h;
+        return further(normal_part(&s[next..]), next);
+    }
+    Walk::Upto(RECORD)
 }
 
-// Walks over the part at byte `at` if it is normal and no abstraction, so that it may be a head. Where the head ends the argument is known
-// to begin.
-fn head_at(s: &[u8], at: usize) -> Walk
-    requires { ⌜ Whole (now s) at × (length (now s) ≤ at + tableBytes) ⌝ }
-    ensures { λ r. ⌜ Walked (now (s .entry)) at Head r ⌝ }
+// Walks over the part that s begins with if it is normal and no abstraction, so that it may be a head.
+fn head_part(s: &[u8]) -> Walk
+    requires { ⌜ Whole (now s) 0 × (length (now s) ≤ tableBytes) ⌝ }
+    ensures { λ r. ⌜ Walked (now (s .entry)) 0 Head r ⌝ }
 {
-    let kind = s[at];
+    let kind = s[0];
     if kind == Kind::ABSTRACTION.code {
         return Walk::No;
     }
     if kind == Kind::APPLICATION.code {
-        let head = head_at(s, at + RECORD);
+        let head = head_part(&s[RECORD..]);
         let Walk::Upto(h) = head else {
             return Walk::No;
         };
-        return normal_at(s, h);
+        let next = RECORD + h;
+        return further(normal_part(&s[next..]), next);
     }
-    Walk::Upto(at + RECORD)
+    Walk::Upto(RECORD)
 }
 
 // Whether the term s is normal.
@@ -407,7 +432,7 @@ pub fn is_normal(s: &[u8]) -> bool
     requires { ⌜ Tree (now s) × (length (now s) ≤ tableBytes) ⌝ }
     ensures { λ r. ⌜ Tells (now (s .entry)) Normal r ⌝ }
 {
-    let walk = normal_at(s, 0);
+    let walk = normal_part(s);
     match walk {
         Walk::Upto(_) => true,
         Walk::No => false,

@@ -15,13 +15,13 @@ use Rattle.terms.specs.Heads.{rigid}
 use Rattle.terms.proofs.Table.{encode-length}
 use Rattle.matching.specs.Reducts.{guarded, isPassed, applied, reduct}
 use Rattle.matching.proofs.Reducts.{closed-redex, reduct-closed}
-use Rattle.records.specs.Parts.{Part, Tree}
+use Rattle.records.specs.Parts.{slice, Part, Tree}
 use Rattle.records.specs.Tests.{Equals}
 use Rattle.records.proofs.Parts.{size-some, whole, kind-at, at-start, leaf-size, application-of, abstraction-of}
 use Rattle.sweeping.specs.declared.Length.{Length}
 use Rattle.sweeping.specs.declared.Length.the-variants.{Records, TooLong}
 use Rattle.sweeping.specs.Swept.{SweptParts}
-use Rattle.sweeping.specs.Writers.{substituteFor, Wrote, UsesCounted}
+use Rattle.substitution.specs.Writers.{substituteFor, Wrote, UsesCounted}
 use Rattle.copying.proofs.Stores.{stored, written-then}
 use Rattle.sweeping.proofs.Contraction.{table-length, application-bytes, redex-size, redex-bytes}
 use Rattle.reducts.specs.Reduced.{patternBytes, Reduced, Contracts, ReducesApplication, ReducibleParts, ReducesRedex, Reducible}
@@ -46,10 +46,10 @@ joined f a out p q r h u v w x y e g =
     (application-bytes f a out p q r u v w x y e g)
 
 -- an application whose head is an abstraction, contracted
-module _ (f a : List ℕ) (z : getD f 0 0 ≡ 1) (next n : ℕ) (u : UsesCounted f 4 0 next n) where
+module _ (f a : List ℕ) (z : getD f 0 0 ≡ 1) (next n : ℕ) (u : UsesCounted (slice f 4) 0 next n) where
   pub contracted :
       (out after : List ℕ) (to end : ℕ) → length f - 4 + n * (length a - 4) ≤ patternBytes
-      → ((t : Term) → a ≡ encode t → Wrote (substituteFor t) f 4 0 out 0 after to end)
+      → ((t : Term) → a ≡ encode t → Wrote (substituteFor t) (slice f 4) 0 0 out 0 after to end)
       → Contracts f a out (Records ((length f - 4 + n * (length a - 4)) / 4)) after
   contracted out after to end m w x y e g =
       let s = redex-size f a z next n u x y e g in

@@ -17,7 +17,7 @@ use lib.Seq.{sets}
 use Rattle.terms.specs.Figures.{numbers, patternRecords, sweptRecords}
 use Rattle.terms.specs.Term.{Term, app, size, Closed}
 use Rattle.terms.specs.Sweep.{contract}
-use Rattle.terms.specs.Table.{encode}
+use Rattle.terms.specs.Table.{encode, abstractionKind}
 use Rattle.matching.specs.Reducts.{applied, reduct}
 use Rattle.records.specs.Parts.{Whole}
 use Rattle.sweeping.specs.Swept.{SweptParts}
@@ -42,7 +42,7 @@ pub record ReducibleParts (f a : List ℕ) : Type 0 where
   pub argument : Whole a 0
   pub head-most : length f ≤ patternBytes
   pub argument-most : length a ≤ patternBytes
-  pub redex : getD f 0 0 ≡ 1 → SweptParts f a
+  pub redex : getD f 0 0 ≡ abstractionKind → SweptParts f a
 
 abbrev pub ReducesRedex : List ℕ → List ℕ → List ℕ → Length → List ℕ → Type 0
 ReducesRedex f a out r after = (x y : Term) → f ≡ encode x → a ≡ encode y → Reduced (applied x y) out r after

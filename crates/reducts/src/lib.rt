@@ -20,6 +20,7 @@ use sweeping::Length;
 ghost use mathlib.Core.Path.{_≡_};
 ghost use Prim.Native.Nat.{_+_, _≤_};
 ghost use lib.ListN.{length, getD};
+ghost use Rattle.terms.specs.Table.{applicationKind, abstractionKind};
 ghost use Rattle.sweeping.specs.Swept.{SweptParts};
 ghost use Rattle.reducts.specs.Reduced.{Contracts, ReducesApplication, ReducibleParts, ReducesRedex, Reducible, Reduces};
 
@@ -28,16 +29,17 @@ pub const PATTERN_BYTES: usize = 128;
 
 // Contracts the application of f to a, both reduced, where f is an abstraction.
 fn contract_redex(f: &[u8], a: &[u8], out: &mut [u8; PATTERN_BYTES]) -> Length
-    requires { ⌜ SweptParts (now f) (now a) × (getD (now f) 0 0 ≡ 1) ⌝ }
+    requires { ⌜ SweptParts (now f) (now a) × (getD (now f) 0 0 ≡ abstractionKind) ⌝ }
     ensures { λ r. ⌜ Contracts (now (f .entry)) (now (a .entry)) (now (out .entry)) r (now (out .exit)) ⌝ }
 {
-    let uses = sweeping::count_uses(f, RECORD, 0);
+    let body = &f[RECORD..];
+    let uses = substitution::count_uses(body, 0);
     // each use is one record of the body, and all of the argument's records take its place
     let bytes = f.len() - RECORD + uses.count * (a.len() - RECORD);
     if bytes > PATTERN_BYTES {
         return Length::TooLong;
     }
-    sweeping::substitute_into(f, RECORD, 0, a, out, 0);
+    substitution::substitute_into(body, 0, a, out, 0);
     Length::Records(bytes / RECORD)
 }
 
@@ -64,7 +66,7 @@ fn apply(f: &[u8], a: &[u8], out: &mut [u8; PATTERN_BYTES]) -> Length
     if f[0] != Kind::ABSTRACTION.code {
         return join(f, a, out);
     }
-    if shifting::is_rigid(a, 0) {
+    if shifting::is_rigid(a) {
         return contract_redex(f, a, out);
     }
     if guards::is_guarded(records::body_of(f), 0) {
@@ -75,7 +77,7 @@ fn apply(f: &[u8], a: &[u8], out: &mut [u8; PATTERN_BYTES]) -> Length
 
 // Reduces an application: its head, its argument, and then the two together.
 fn reduce_application(s: &[u8], out: &mut [u8; PATTERN_BYTES]) -> Length
-    requires { ⌜ Reducible (now s) × (getD (now s) 0 0 ≡ 0) ⌝ }
+    requires { ⌜ Reducible (now s) × (getD (now s) 0 0 ≡ applicationKind) ⌝ }
     ensures { λ r. ⌜ Reduces (now (s .entry)) (now (out .entry)) r (now (out .exit)) ⌝ }
 {
     let mut head = [0u8; PATTERN_BYTES];
@@ -95,7 +97,7 @@ fn reduce_application(s: &[u8], out: &mut [u8; PATTERN_BYTES]) -> Length
 
 // Reduces an abstraction: its body, and then the abstraction over it.
 fn reduce_abstraction(s: &[u8], out: &mut [u8; PATTERN_BYTES]) -> Length
-    requires { ⌜ Reducible (now s) × (getD (now s) 0 0 ≡ 1) ⌝ }
+    requires { ⌜ Reducible (now s) × (getD (now s) 0 0 ≡ abstractionKind) ⌝ }
     ensures { λ r. ⌜ Reduces (now (s .entry)) (now (out .entry)) r (now (out .exit)) ⌝ }
 {
     let mut body = [0u8; PATTERN_BYTES];

@@ -1,6 +1,6 @@
 -- What an operation leaves in a table that it was lent. Document 01, section "Operations".
---   cleared w          "it is all zero on return, unless its own length was wrong"
---   overwritten b o    the table o with the bytes b at its start; "Bytes behind it stay."
+--   cleared w         "it is all zero on return, unless its own length was wrong"
+--   overwritten b o   the table o with the bytes b at its start; "Bytes behind it stay."
 use mathlib.Core.Bool.{cond}
 use mathlib.Core.List.{List, _++_}
 use Prim.Native.Nat.{ℕ}

@@ -1,4 +1,5 @@
+pub mod Slices
+pub mod Tests
 pub mod Locals
 pub mod Lowering
 pub mod Substitution
-pub mod Tests

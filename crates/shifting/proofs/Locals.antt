@@ -12,16 +12,17 @@ use borrow.Author.Tests.{ne-eqb, eqb-true, eqb-false}
 use Rattle.terms.specs.Figures.{numbers}
 use Rattle.terms.specs.Term.{Term, app, lam, size, uses, Closed}
 use Rattle.records.specs.Record.{numberAt}
-use Rattle.records.specs.Parts.{Part, Whole, Ends}
-use Rattle.records.proofs.Parts.{whole, application, abstraction, argument-part, ends-app, ends-lam, ends-leaf}
+use Rattle.records.specs.Parts.{slice, Part, Whole, Ends}
+use Rattle.records.proofs.Parts.{whole}
+use Rattle.records.proofs.Slices.{part-slice, slice-ends}
 use Rattle.records.proofs.Tests.{part-other}
-use Rattle.sweeping.proofs.Writers.{Other, local-at}
+use Rattle.substitution.proofs.Writers.{Other, local-at}
 use Rattle.shifting.specs.Locals.{Marks, Marked, Zeros}
+use Rattle.shifting.proofs.Slices.{application-slices, abstraction-slices, argument-slice, ends-app, ends-lam, ends-leaf}
 
-marks-of : (l : List ℕ) (at depth n : ℕ) (t : Term) → Part l at t → Closed (depth + n) t → depth + size t ≤ numbers → Marks l at depth n
-marks-of l at depth n t x c s = record { tree = t; part = x; closed = c; shallow = s; least = omega (arith, x .some, x .within) }
+marks-of : (l : List ℕ) (depth n : ℕ) (t : Term) → Part l 0 t → Closed (depth + n) t → depth + size t ≤ numbers → Marks l depth n
+marks-of l depth n t x c s = record { tree = t; part = x; closed = c; shallow = s; least = omega (arith, x .some, x .within) }
 
--- marked by one, then by the other
 mark-or : (a b : Bool) (n : ℕ) → cond b 1 (cond a 1 n) ≡ cond (a || b) 1 n
 mark-or true true n = refl
 mark-or true false n = refl
@@ -37,81 +38,82 @@ mark-set m n depth j h i = go (eqb n (j + depth)) refl
         ap (λ (k : ℕ). getD (set m k 1) j 0) p ∙ getD-set-same m j 1 0 i
     go false e = getD-set-other m (n - depth) j 1 0 (λ q. eqb-false n (j + depth) e (omega arith))
 
-module _ (l : List ℕ) (at depth : ℕ) where
+module _ (l : List ℕ) (depth : ℕ) where
   -- the parts, and the number of marks, as the length of what was left of them
-  module _ (n k : ℕ) (s : k ≡ n) (x : Marks l at depth n) where
-    pub marks-whole : Whole l at
-    marks-whole = whole l at (x .tree) (x .part)
+  module _ (n k : ℕ) (s : k ≡ n) (x : Marks l depth n) where
+    pub marks-whole : Whole l 0
+    marks-whole = whole l 0 (x .tree) (x .part)
 
-    pub marks-head : getD l at 0 ≡ 0 → Marks l (at + 4) depth k
+    pub marks-head : getD l 0 0 ≡ 0 → Marks (slice l 4) depth k
     marks-head z =
-        let v = application l at (x .tree) (x .part) z in
+        let v = application-slices l (x .tree) (x .part) z in
         let c : Closed (depth + n) (app (v .f) (v .a)) = subst (Closed (depth + n)) (v .is) (x .closed) in
-        marks-of l (at + 4) depth k (v .f) (v .head) (subst (λ (i : ℕ). Closed (depth + i) (v .f)) (sym s) (c .0))
+        marks-of (slice l 4) depth k (v .f) (v .head) (subst (λ (i : ℕ). Closed (depth + i) (v .f)) (sym s) (c .0))
         (omega (arith, ap size (v .is), x .shallow))
 
-    pub marks-argument : (h : ℕ) → getD l at 0 ≡ 0 → Ends l (at + 4) h → Marks l h depth k
+    pub marks-argument : (h : ℕ) → getD l 0 0 ≡ 0 → Ends (slice l 4) 0 h → Marks (slice l (4 + h)) depth k
     marks-argument h z e =
-        let v = application l at (x .tree) (x .part) z in
+        let v = application-slices l (x .tree) (x .part) z in
         let c : Closed (depth + n) (app (v .f) (v .a)) = subst (Closed (depth + n)) (v .is) (x .closed) in
-        marks-of l h depth k (v .a) (argument-part l at h (x .tree) e v) (subst (λ (i : ℕ). Closed (depth + i) (v .a)) (sym s) (c .1))
+        marks-of (slice l (4 + h)) depth k (v .a) (argument-slice l h (x .tree) e v)
+        (subst (λ (i : ℕ). Closed (depth + i) (v .a)) (sym s) (c .1))
         (omega (arith, ap size (v .is), x .shallow))
 
-    pub marks-body : getD l at 0 ≡ 1 → Marks l (at + 4) (depth + 1) k
+    pub marks-body : getD l 0 0 ≡ 1 → Marks (slice l 4) (depth + 1) k
     marks-body z =
-        let v = abstraction l at (x .tree) (x .part) z in
+        let v = abstraction-slices l (x .tree) (x .part) z in
         let c : Closed (depth + n) (lam (v .b)) = subst (Closed (depth + n)) (v .is) (x .closed) in
         let i : suc (depth + n) ≡ depth + 1 + k = omega arith in
-        marks-of l (at + 4) (depth + 1) k (v .b) (v .body) (subst (λ (j : ℕ). Closed j (v .b)) i c)
+        marks-of (slice l 4) (depth + 1) k (v .b) (v .body) (subst (λ (j : ℕ). Closed j (v .b)) i c)
         (omega (arith, ap size (v .is), x .shallow))
 
-    pub marks-local : (i : ℕ) → getD l at 0 ≡ 2 → i ≡ numberAt l at → i < depth + n
-    marks-local i z e = subst (Closed (depth + n)) (local-at l at i (x .tree) (x .part) z e) (x .closed)
+    pub marks-local : (i : ℕ) → getD l 0 0 ≡ 2 → i ≡ numberAt l 0 → i < depth + n
+    marks-local i z e = subst (Closed (depth + n)) (local-at l 0 i (x .tree) (x .part) z e) (x .closed)
 
   -- what was marked
   module _ (m : List ℕ) where
-    pub marked-application : (p q : List ℕ) (h r : ℕ) → getD l at 0 ≡ 0 → length p ≡ length m → Marked l (at + 4) depth m p h
-        → Marked l h depth p q r → Marked l at depth m q r
+    pub marked-application : (p q : List ℕ) (h r : ℕ) → getD l 0 0 ≡ 0 → length p ≡ length m → Marked (slice l 4) depth m p h
+        → Marked (slice l (4 + h)) depth p q r → Marked l depth m q (4 + h + r)
     marked-application p q h r z s x y = record {
-      ends = ends-app l at h r z (x .ends) (y .ends);
+      ends = ends-app l h r z (x .ends) (y .ends);
       marks = λ t w j i.
-          let v = application l at t w z in
-          y .marks (v .a) (argument-part l at h t (x .ends) v) j (omega arith)
+          let v = application-slices l t w z in
+          y .marks (v .a) (argument-slice l h t (x .ends) v) j (omega arith)
           ∙ ap (cond (uses (j + depth) (v .a)) 1) (x .marks (v .f) (v .head) j i)
           ∙ mark-or (uses (j + depth) (v .f)) (uses (j + depth) (v .a)) (getD m j 0)
           ∙ ap (λ (u : Term). cond (uses (j + depth) u) 1 (getD m j 0)) (sym (v .is));
     }
 
-    pub marked-abstraction : (p : List ℕ) (r : ℕ) → getD l at 0 ≡ 1 → Marked l (at + 4) (depth + 1) m p r → Marked l at depth m p r
+    pub marked-abstraction : (p : List ℕ) (r : ℕ) → getD l 0 0 ≡ 1 → Marked (slice l 4) (depth + 1) m p r → Marked l depth m p (4 + r)
     marked-abstraction p r z x = record {
-      ends = ends-lam l at r z (x .ends);
+      ends = ends-lam l r z (x .ends);
       marks = λ t w j i.
-          let v = abstraction l at t w z in
+          let v = abstraction-slices l t w z in
           let e : j + (depth + 1) ≡ suc (j + depth) = omega arith in
           x .marks (v .b) (v .body) j i ∙ ap (λ (k : ℕ). cond (uses k (v .b)) 1 (getD m j 0)) e
           ∙ ap (λ (u : Term). cond (uses (j + depth) u) 1 (getD m j 0)) (sym (v .is));
     }
 
-    module _ (n : ℕ) (a : Whole l at) (z : getD l at 0 ≡ 2) (e : n ≡ numberAt l at) where
-      pub marked-loose : depth ≤ n → Marked l at depth m (set m (n - depth) 1) (at + 4)
+    module _ (n : ℕ) (a : Whole l 0) (z : getD l 0 0 ≡ 2) (e : n ≡ numberAt l 0) where
+      pub marked-loose : depth ≤ n → Marked l depth m (set m (n - depth) 1) 4
       marked-loose h = record {
-        ends = ends-leaf l at (λ q. omega arith) (λ q. omega arith) a;
+        ends = ends-leaf l (λ q. omega arith) (λ q. omega arith) a;
         marks = λ t w j i.
-            mark-set m n depth j h i ∙ ap (λ (u : Term). cond (uses (j + depth) u) 1 (getD m j 0)) (sym (local-at l at n t w z e));
+            mark-set m n depth j h i ∙ ap (λ (u : Term). cond (uses (j + depth) u) 1 (getD m j 0)) (sym (local-at l 0 n t w z e));
       }
 
-      pub marked-bound : n < depth → Marked l at depth m m (at + 4)
+      pub marked-bound : n < depth → Marked l depth m m 4
       marked-bound h = record {
-        ends = ends-leaf l at (λ q. omega arith) (λ q. omega arith) a;
+        ends = ends-leaf l (λ q. omega arith) (λ q. omega arith) a;
         marks = λ t w j i.
             ap (λ (b : Bool). cond b 1 (getD m j 0)) (sym (ne-eqb n (j + depth) (omega arith)))
-            ∙ ap (λ (u : Term). cond (uses (j + depth) u) 1 (getD m j 0)) (sym (local-at l at n t w z e));
+            ∙ ap (λ (u : Term). cond (uses (j + depth) u) 1 (getD m j 0)) (sym (local-at l 0 n t w z e));
       }
 
-    pub marked-other : Whole l at → Other l at → Marked l at depth m m (at + 4)
+    pub marked-other : Whole l 0 → Other l 0 → Marked l depth m m 4
     marked-other a z = record {
-      ends = ends-leaf l at (z .no-application) (z .no-abstraction) a;
-      marks = part-other l at (λ t. (j : ℕ) → j < length m → getD m j 0 ≡ cond (uses (j + depth) t) 1 (getD m j 0))
+      ends = ends-leaf l (z .no-application) (z .no-abstraction) a;
+      marks = part-other l 0 (λ t. (j : ℕ) → j < length m → getD m j 0 ≡ cond (uses (j + depth) t) 1 (getD m j 0))
           (z .no-application) (z .no-abstraction) (z .no-local) (λ k j i. refl) (λ k j i. refl);
     }
 
@@ -119,9 +121,9 @@ module _ (l : List ℕ) (at depth : ℕ) where
 abbrev pub Marking : ℕ → Term → List ℕ → Type 0
 Marking n t m = (j : ℕ) → j < n → getD m j 0 ≡ cond (uses j t) 1 0
 
-pub marking : (l : List ℕ) (at : ℕ) (before after : List ℕ) (r : ℕ) (t : Term) → Zeros before → Marked l at 0 before after r → Part l at t
+pub marking : (l : List ℕ) (before after : List ℕ) (r : ℕ) (t : Term) → Zeros before → Marked l 0 before after r → Part l 0 t
     → Marking (length before) t after
-marking l at before after r t z x w j h =
+marking l before after r t z x w j h =
     let e : j + 0 ≡ j = omega arith in
     x .marks t w j h ∙ ap₂ (λ (i k : ℕ). cond (uses i t) 1 k) e (z j)
 
@@ -132,3 +134,20 @@ mark-true false e = absurd (omega arith)
 pub mark-false : (b : Bool) → ¬ (_≡_ {A = ℕ} (cond b 1 0) 1) → b ≡ false
 mark-false true n = absurd (n refl)
 mark-false false n = refl
+
+-- a part of a table, handed on as a slice
+module _ (l : List ℕ) (at depth : ℕ) where
+  pub marks-at : (n : ℕ) (t : Term) → Part l at t → Closed (depth + n) t → depth + size t ≤ numbers → Marks (slice l at) depth n
+  marks-at n t x c s = marks-of (slice l at) depth n t (part-slice l at t x) c s
+
+  module _ (before after : List ℕ) (r : ℕ) (x : Marked (slice l at) depth before after r) where
+    pub marked-ends-at : Ends l at (at + r)
+    marked-ends-at = slice-ends l at r (x .ends)
+
+    pub marked-at : (t : Term) → Part l at t → (j : ℕ) → j < length before
+        → getD after j 0 ≡ cond (uses (j + depth) t) 1 (getD before j 0)
+    marked-at t w = x .marks t (part-slice l at t w)
+
+pub marking-at : (l : List ℕ) (at : ℕ) (before after : List ℕ) (r : ℕ) (t : Term) → Zeros before → Marked (slice l at) 0 before after r
+    → Part l at t → Marking (length before) t after
+marking-at l at before after r t z x w = marking (slice l at) before after r t z x (part-slice l at t w)

@@ -1,4 +1,4 @@
+pub mod Tests
 pub mod Locals
 pub mod Lowering
 pub mod Substitution
-pub mod Tests

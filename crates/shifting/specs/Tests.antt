@@ -1,7 +1,7 @@
--- What tests of two parts of a table say of the terms there.
---   PartsComparable l at e c d   terms stand in l from byte `at` and from byte e on, and the numbers of their locals can be compared
---   Shifted d c x y              the term x is y shifted by d from local c on
---   PartsCompared l at e P r     a walk over the parts at bytes `at` and e came to the first one's end exactly if P holds of the two terms
+-- What tests of two parts say of the terms there. A part is given by a list that begins with it; bytes may follow behind it.
+--   PartsComparable s e c d   s and e begin with terms, and the numbers of their locals can be compared
+--   Shifted d c x y           the term x is y shifted by d from local c on
+--   PartsCompared s e P r     a walk over the parts that s and e begin with came to the first one's end exactly if P holds of the two terms
 use mathlib.Core.Path.{_≡_}
 use mathlib.Core.List.{List}
 use Prim.Native.Nat.{ℕ, _+_, _≤_}
@@ -13,18 +13,15 @@ use Rattle.records.specs.declared.Walk.{Walk}
 use Rattle.records.specs.declared.Walk.the-variants.{Upto, No}
 
 -- c grows by one for a binder, whose record has four bytes
-pub record PartsComparable (l : List ℕ) (at e c d : ℕ) : Type 0 where
-  pub first : Whole l at
-  pub second : Whole l e
-  pub least : at + 4 ≤ length l
-  pub second-least : e + 4 ≤ length l
-  pub most : length l ≤ tableBytes
-  pub shallow : c + length l ≤ at + tableBytes
+pub record PartsComparable (s e : List ℕ) (c d : ℕ) : Type 0 where
+  pub first : Whole s 0
+  pub second : Whole e 0
+  pub shallow : c + length s ≤ tableBytes
   pub few : d ≤ numbers
 
 abbrev pub Shifted : ℕ → ℕ → Term → Term → Type 0
 Shifted d c x y = x ≡ shift d c y
 
-unfoldable pub PartsCompared : List ℕ → ℕ → ℕ → (Term → Term → Type 0) → Walk → Type 0
-PartsCompared l at e P (Upto r) = Ends l at r × ((x y : Term) → Part l at x → Part l e y → P x y)
-PartsCompared l at e P No = (x y : Term) → Part l at x → Part l e y → ¬ P x y
+unfoldable pub PartsCompared : List ℕ → List ℕ → (Term → Term → Type 0) → Walk → Type 0
+PartsCompared s e P (Upto r) = Ends s 0 r × ((x y : Term) → Part s 0 x → Part e 0 y → P x y)
+PartsCompared s e P No = (x y : Term) → Part s 0 x → Part e 0 y → ¬ P x y

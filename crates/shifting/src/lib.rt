@@ -1,9 +1,9 @@
 // Terms compared and moved under binders.
 //
 // The search asks of the parts of a target whether one is another shifted, or another with a term put for a local, whether it can be moved
-// out of the binders above it, which loose locals it has, and whether its head is rigid. Each function walks over parts by their positions
-// and promises its answer for the very terms that stand there. It rests on `records` for single records and parts, and on `sweeping` for
-// what a writer leaves.
+// out of the binders above it, which loose locals it has, and whether its head is rigid. Each function is lent a part as a slice that
+// begins with it, whatever follows behind, and promises its answer for the very terms that stand there. It rests on `records` for single
+// records and parts, on `copying` for a record that stays as it is, and on `substitution` for what a writer leaves.
 
 use records::Kind;
 use records::RECORD;
@@ -11,6 +11,7 @@ use records::Walk;
 ghost use mathlib.Core.Path.{_≡_};
 ghost use Prim.Native.Nat.{_+_, _≤_, _<_};
 ghost use lib.ListN.{length, getD};
+ghost use Rattle.terms.specs.Table.{localKind};
 ghost use Rattle.terms.specs.Figures.{numbers};
 ghost use Rattle.terms.specs.Term.{Term, loc, shift, unshift};
 ghost use Rattle.terms.specs.Heads.{rigid};
@@ -19,16 +20,16 @@ ghost use Rattle.records.specs.Tests.{Says};
 ghost use Rattle.shifting.specs.Tests.{PartsComparable, Shifted, PartsCompared};
 ghost use Rattle.shifting.specs.Lowering.{Inside, Lowers, Lowered};
 ghost use Rattle.shifting.specs.Locals.{Marks, Marked};
-ghost use Rattle.shifting.specs.Substitution.{Substitutes, Substituted};
+ghost use Rattle.shifting.specs.Substitution.{bothFurther, NearBoth, Substitutes, Substituted};
 
-// Whether the part of s at byte `at` has a rigid head: its first record that is no application is a local or a constant.
-pub fn is_rigid(s: &[u8], at: usize) -> bool
-    requires { ⌜ Whole (now s) at ⌝ }
-    ensures { λ r. ⌜ ((t : Term) → Part (now (s .entry)) at t → r ≡ rigid t) ⌝ }
+// Whether the part that s begins with has a rigid head: its first record that is no application is a local or a constant.
+pub fn is_rigid(s: &[u8]) -> bool
+    requires { ⌜ Whole (now s) 0 ⌝ }
+    ensures { λ r. ⌜ ((t : Term) → Part (now (s .entry)) 0 t → r ≡ rigid t) ⌝ }
 {
-    let k = s[at];
+    let k = s[0];
     if k == Kind::APPLICATION.code {
-        return is_rigid(s, at + RECORD);
+        return is_rigid(&s[RECORD..]);
     }
     if k == Kind::LOCAL.code {
         return true;
@@ -47,50 +48,51 @@ fn is_shifted_local(m: usize, n: usize, d: usize, c: usize) -> bool
     m == n + d
 }
 
-// Whether the part of s at byte `at` is the part at byte e shifted by d from local c on. As far as the two agree they have records of the
-// same kinds, so that one distance leads from each record to its fellow.
-pub fn is_shifted(s: &[u8], at: usize, e: usize, c: usize, d: usize) -> Walk
-    requires { ⌜ PartsComparable (now s) at e c d ⌝ }
-    ensures { λ r. ⌜ PartsCompared (now (s .entry)) at e (Shifted d c) r ⌝ }
+// Whether the part that s begins with is the part that e begins with, shifted by d from local c on; and how many bytes it takes. As far as
+// the two agree they have records of the same kinds, so that one length leads from each head to its argument.
+pub fn is_shifted(s: &[u8], e: &[u8], c: usize, d: usize) -> Walk
+    requires { ⌜ PartsComparable (now s) (now e) c d ⌝ }
+    ensures { λ r. ⌜ PartsCompared (now (s .entry)) (now (e .entry)) (Shifted d c) r ⌝ }
 {
-    let k = s[at];
-    if k != s[e] {
+    let k = s[0];
+    if k != e[0] {
         return Walk::No;
     }
     if k == Kind::APPLICATION.code {
-        let head = is_shifted(s, at + RECORD, e + RECORD, c, d);
+        let head = is_shifted(&s[RECORD..], &e[RECORD..], c, d);
         let Walk::Upto(h) = head else {
             return Walk::No;
         };
-        return is_shifted(s, h, e + (h - at), c, d);
+        let next = RECORD + h;
+        return records::further(is_shifted(&s[next..], &e[next..], c, d), next);
     }
     if k == Kind::ABSTRACTION.code {
-        return is_shifted(s, at + RECORD, e + RECORD, c + 1, d);
+        return records::further(is_shifted(&s[RECORD..], &e[RECORD..], c + 1, d), RECORD);
     }
-    let m = records::number_at(s, at);
-    let n = records::number_at(s, e);
+    let m = records::number_at(s, 0);
+    let n = records::number_at(e, 0);
     if k == Kind::LOCAL.code {
         if is_shifted_local(m, n, d, c) {
-            return Walk::Upto(at + RECORD);
+            return Walk::Upto(RECORD);
         }
         return Walk::No;
     }
     if m == n {
-        return Walk::Upto(at + RECORD);
+        return Walk::Upto(RECORD);
     }
     Walk::No
 }
 
-// Where the part of s at byte `at` ends, if it is a copy of the part at byte e: that part, shifted by the d binders above it. Nearly always
-// their first records are of different kinds, which is told here, without a call of the recursive walk.
-pub fn copy_end(s: &[u8], at: usize, e: usize, d: usize) -> Walk
-    requires { ⌜ PartsComparable (now s) at e 0 d ⌝ }
-    ensures { λ r. ⌜ PartsCompared (now (s .entry)) at e (Shifted d 0) r ⌝ }
+// How many bytes the part that s begins with takes, if it is a copy of the part that e begins with: that part, shifted by the d binders
+// above it. Nearly always their first records are of different kinds, which is told here, without a call of the recursive walk.
+pub fn copy_length(s: &[u8], e: &[u8], d: usize) -> Walk
+    requires { ⌜ PartsComparable (now s) (now e) 0 d ⌝ }
+    ensures { λ r. ⌜ PartsCompared (now (s .entry)) (now (e .entry)) (Shifted d 0) r ⌝ }
 {
-    if s[at] != s[e] {
+    if s[0] != e[0] {
         return Walk::No;
     }
-    is_shifted(s, at, e, 0, d)
+    is_shifted(s, e, 0, d)
 }
 
 // Whether local n belongs to one of d binders, the first of which local c belongs to.
@@ -115,131 +117,148 @@ pub fn lowered(n: usize, c: usize, d: usize) -> usize
     n - d
 }
 
-// Writes the part of s at byte `at`, moved out of d binders, into out from byte o on. Local c of the part belongs to the innermost of them.
-// It stops at the first local that belongs to one.
-pub fn lower_into(s: &[u8], at: usize, c: usize, d: usize, out: &mut [u8], o: usize) -> Walk
-    requires { ⌜ Lowers (now s) at c d (length (now out)) o ⌝ }
-    ensures { λ r. ⌜ Lowered (now (s .entry)) at c d (now (out .entry)) o (now (out .exit)) r ⌝ }
+// Writes the part that s begins with, moved out of d binders, into out from byte o on, and tells how many bytes it takes. Local c of the
+// part belongs to the innermost of them. It stops at the first local that belongs to one.
+pub fn lower_into(s: &[u8], c: usize, d: usize, out: &mut [u8], o: usize) -> Walk
+    requires { ⌜ Lowers (now s) c d (length (now out)) o ⌝ }
+    ensures { λ r. ⌜ Lowered (now (s .entry)) c d (now (out .entry)) o (now (out .exit)) r ⌝ }
 {
-    let kind = s[at];
+    let kind = s[0];
     if kind == Kind::APPLICATION.code {
         records::put_record(out, o, Kind::APPLICATION, 0);
-        let head = lower_into(s, at + RECORD, c, d, out, o + RECORD);
+        let head = lower_into(&s[RECORD..], c, d, out, o + RECORD);
         let Walk::Upto(h) = head else {
             return Walk::No;
         };
-        return lower_into(s, h, c, d, out, o + (h - at));
+        let next = RECORD + h;
+        return records::further(lower_into(&s[next..], c, d, out, o + next), next);
     }
     if kind == Kind::ABSTRACTION.code {
         records::put_record(out, o, Kind::ABSTRACTION, 0);
-        return lower_into(s, at + RECORD, c + 1, d, out, o + RECORD);
+        return records::further(lower_into(&s[RECORD..], c + 1, d, out, o + RECORD), RECORD);
     }
-    let n = records::number_at(s, at);
     if kind == Kind::LOCAL.code {
+        let n = records::number_at(s, 0);
         if is_inside(n, c, d) {
             return Walk::No;
         }
         records::put_record(out, o, Kind::LOCAL, lowered(n, c, d));
-        return Walk::Upto(at + RECORD);
+        return Walk::Upto(RECORD);
     }
-    records::put_record(out, o, Kind { code: kind }, n);
-    Walk::Upto(at + RECORD)
+    copying::copy_into(&s[0..RECORD], out, o);
+    Walk::Upto(RECORD)
 }
 
-// Marks each local that the part of s at byte `at` uses and whose binder stands above it and above `depth` more binders. Gives where the
-// part ends.
-pub fn loose_locals(s: &[u8], at: usize, depth: usize, marks: &mut [u8]) -> usize
-    requires { ⌜ Marks (now s) at depth (length (now marks)) ⌝ }
-    ensures { λ r. ⌜ Marked (now (s .entry)) at depth (now (marks .entry)) (now (marks .exit)) r ⌝ }
+// Marks each local that the part that s begins with uses and whose binder stands above it and above `depth` more binders. Gives how many
+// bytes the part takes.
+pub fn loose_locals(s: &[u8], depth: usize, marks: &mut [u8]) -> usize
+    requires { ⌜ Marks (now s) depth (length (now marks)) ⌝ }
+    ensures { λ r. ⌜ Marked (now (s .entry)) depth (now (marks .entry)) (now (marks .exit)) r ⌝ }
 {
-    let k = s[at];
+    let k = s[0];
     if k == Kind::APPLICATION.code {
-        let h = loose_locals(s, at + RECORD, depth, marks);
-        return loose_locals(s, h, depth, marks);
+        let next = RECORD + loose_locals(&s[RECORD..], depth, marks);
+        return next + loose_locals(&s[next..], depth, marks);
     }
     if k == Kind::ABSTRACTION.code {
-        return loose_locals(s, at + RECORD, depth + 1, marks);
+        return RECORD + loose_locals(&s[RECORD..], depth + 1, marks);
     }
     if k == Kind::LOCAL.code {
-        let n = records::number_at(s, at);
+        let n = records::number_at(s, 0);
         if n < depth {
-            return at + RECORD;
+            return RECORD;
         }
         let j = n - depth;
         marks[j] = 1;
-        return at + RECORD;
     }
-    at + RECORD
+    RECORD
 }
 
-// Where two parts end.
+// How many bytes two parts take.
 pub struct Places {
     pub first: usize,
     pub second: usize,
 }
 
-// How a walk over two parts ends: at the ends of both, or where they differ.
+// How a walk over two parts ends: behind both, or where they differ.
 pub enum Pairing {
     Upto(Places),
     No,
 }
 
-// Whether the part of s at byte t is the local at byte b, with the part at byte e put for local k.
-fn is_substituted_local(s: &[u8], b: usize, k: usize, e: usize, t: usize) -> Pairing
-    requires { ⌜ Substitutes (now s) b k e t × (getD (now s) b 0 ≡ 2) ⌝ }
-    ensures { λ r. ⌜ Substituted (now (s .entry)) b k e t r ⌝ }
+// What a walk over two parts answers that began n bytes further on in the first and m in the second, told from here.
+pub fn both_further(pairing: Pairing, n: usize, m: usize) -> Pairing
+    requires { ⌜ NearBoth n m pairing ⌝ }
+    ensures { λ r. ⌜ r ≡ bothFurther n m pairing ⌝ }
 {
-    let n = records::number_at(s, b);
+    match pairing {
+        Pairing::Upto(p) => Pairing::Upto(Places {
+            first: n + p.first,
+            second: m + p.second,
+        }),
+        Pairing::No => Pairing::No,
+    }
+}
+
+// Whether the part that t begins with is the local that b begins with, with the part that e begins with put for local k.
+fn is_substituted_local(b: &[u8], k: usize, e: &[u8], t: &[u8]) -> Pairing
+    requires { ⌜ Substitutes (now b) k (now e) (now t) × (getD (now b) 0 0 ≡ localKind) ⌝ }
+    ensures { λ r. ⌜ Substituted (now (b .entry)) k (now (e .entry)) (now (t .entry)) r ⌝ }
+{
+    let n = records::number_at(b, 0);
     if n == k {
-        let copy = is_shifted(s, t, e, 0, k);
+        let copy = is_shifted(t, e, 0, k);
         let Walk::Upto(h) = copy else {
             return Pairing::No;
         };
         return Pairing::Upto(Places {
-            first: b + RECORD,
+            first: RECORD,
             second: h,
         });
     }
     let m = lowered(n, k, 1);
-    if s[t] != Kind::LOCAL.code {
+    if t[0] != Kind::LOCAL.code {
         return Pairing::No;
     }
-    if records::number_at(s, t) == m {
+    if records::number_at(t, 0) == m {
         return Pairing::Upto(Places {
-            first: b + RECORD,
-            second: t + RECORD,
+            first: RECORD,
+            second: RECORD,
         });
     }
     Pairing::No
 }
 
-// Whether the part of s at byte t is the part at byte b with the part at byte e put for local k. It goes over the two together, and over
-// the argument at each use of the local.
-pub fn is_substituted(s: &[u8], b: usize, k: usize, e: usize, t: usize) -> Pairing
-    requires { ⌜ Substitutes (now s) b k e t ⌝ }
-    ensures { λ r. ⌜ Substituted (now (s .entry)) b k e t r ⌝ }
+// Whether the part that t begins with is the part that b begins with, with the part that e begins with put for local k. It goes over the
+// first two together, and over the argument at each use of the local.
+pub fn is_substituted(b: &[u8], k: usize, e: &[u8], t: &[u8]) -> Pairing
+    requires { ⌜ Substitutes (now b) k (now e) (now t) ⌝ }
+    ensures { λ r. ⌜ Substituted (now (b .entry)) k (now (e .entry)) (now (t .entry)) r ⌝ }
 {
-    let kind = s[b];
+    let kind = b[0];
     if kind == Kind::LOCAL.code {
-        return is_substituted_local(s, b, k, e, t);
+        return is_substituted_local(b, k, e, t);
     }
-    if kind != s[t] {
+    if kind != t[0] {
         return Pairing::No;
     }
     if kind == Kind::APPLICATION.code {
-        let head = is_substituted(s, b + RECORD, k, e, t + RECORD);
+        let head = is_substituted(&b[RECORD..], k, e, &t[RECORD..]);
         let Pairing::Upto(p) = head else {
             return Pairing::No;
         };
-        return is_substituted(s, p.first, k, e, p.second);
+        let n = RECORD + p.first;
+        let m = RECORD + p.second;
+        return both_further(is_substituted(&b[n..], k, e, &t[m..]), n, m);
     }
     if kind == Kind::ABSTRACTION.code {
-        return is_substituted(s, b + RECORD, k + 1, e, t + RECORD);
+        let body = is_substituted(&b[RECORD..], k + 1, e, &t[RECORD..]);
+        return both_further(body, RECORD, RECORD);
     }
-    if records::number_at(s, b) == records::number_at(s, t) {
+    if records::number_at(b, 0) == records::number_at(t, 0) {
         return Pairing::Upto(Places {
-            first: b + RECORD,
-            second: t + RECORD,
+            first: RECORD,
+            second: RECORD,
         });
     }
     Pairing::No

@@ -7,29 +7,30 @@ use Prim.Native.Nat.{ℕ, _-_, _*_, _≤_}
 use native.Mathlib.Omega.{arith}
 use lib.ListN.{length, take, drop}
 use lib.Seq.{length-sets}
-use Rattle.terms.specs.Term.{Term, lam}
+use Rattle.terms.specs.Term.{Term, lam, substitute}
 use Rattle.terms.specs.Table.{encode}
 use Rattle.terms.proofs.Table.{encode-length}
 use Rattle.matching.specs.Skeletons.{Fits}
 use Rattle.matching.proofs.Skeletons.{fits-refl, closed-apply}
-use Rattle.records.specs.Parts.{Part, Whole, Ends}
+use Rattle.records.specs.Parts.{slice, Part, Whole, Ends}
 use Rattle.records.proofs.Parts.{size-some, part-one, part-bytes, whole, at-start}
+use Rattle.records.proofs.Slices.{part-slice}
 use Rattle.sweeping.specs.Swept.{sweptBytes, SweptParts}
 use Rattle.copying.proofs.Stores.{stored}
 use Rattle.sweeping.proofs.Contraction.{table-length}
 use Rattle.skeletons.specs.Skeleton.{SkeletonComparable, MayBe, SkeletonApplicable, MayBuild}
 use Rattle.skeletons.specs.Contracted.{ApplicationSkeleton, Writes, WritesApplication}
 
-module _ (c s : List ℕ) (e t : ℕ) (x : SkeletonApplicable c s e t) where
-  pub argument-whole : Whole s e
-  argument-whole = whole s e (x .argument) (x .part)
+module _ (c e t : List ℕ) (x : SkeletonApplicable c e t) where
+  pub argument-whole : Whole e 0
+  argument-whole = whole e 0 (x .argument) (x .part)
 
-  module _ (end : ℕ) (m : Ends s e end) where
+  module _ (end : ℕ) (m : Ends e 0 end) where
     abbrev table : List ℕ
-    table = take (end - e) (drop e s)
+    table = take (end - 0) (drop 0 e)
 
     argument-bytes : table ≡ encode (x .argument)
-    argument-bytes = part-bytes s e (end - e) (x .argument) (x .part) (omega (arith, m .exact (x .argument) (x .part)))
+    argument-bytes = part-bytes e 0 (end - 0) (x .argument) (x .part) (omega (arith, m .exact (x .argument) (x .part)))
 
     pub applied : SweptParts c table
     applied =
@@ -64,21 +65,28 @@ module _ (c s : List ℕ) (e t : ℕ) (x : SkeletonApplicable c s e t) where
       built-part : Part (take (n * 4 - 0) (drop 0 after)) 0 (built .skeleton)
       built-part = at-start (take (n * 4 - 0) (drop 0 after)) (built .skeleton) built-bytes
 
-      pub built-comparable : SkeletonComparable (take (n * 4 - 0) (drop 0 after)) s t
+      pub built-comparable : SkeletonComparable (take (n * 4 - 0) (drop 0 after)) t
       built-comparable = record {
         skeleton = whole (take (n * 4 - 0) (drop 0 after)) 0 (built .skeleton) built-part;
-        least = omega (arith, built-part .some, built-part .within);
         term = x .target;
-        within = x .target .least;
-        most = x .most;
+        skeleton-most = omega (arith, w .few, built .sized, table-length (take (n * 4 - 0) (drop 0 after)) (built .skeleton) built-bytes);
+        term-most = x .most;
       }
 
-      pub built-answer : (r : Bool) → MayBe (take (n * 4 - 0) (drop 0 after)) s t r → MayBuild c s e t r
+      pub built-answer : (r : Bool) → MayBe (take (n * 4 - 0) (drop 0 after)) t r → MayBuild c e t r
       unfolding MayBe MayBuild
       built-answer true q = tt
       built-answer false q = λ y u z b i j k f g.
           let p : x .skeleton ≡ y = part-one c 0 (x .skeleton) y (at-start c (x .skeleton) (x .bytes)) i in
-          let o : x .argument ≡ u = part-one s e (x .argument) u (x .part) j in
+          let o : x .argument ≡ u = part-one e 0 (x .argument) u (x .part) j in
           let v = built .holds .fits (lam b) u (subst (λ (d : Term). Fits d (lam b)) (sym p) f)
           (subst (Fits (x .argument)) o (fits-refl (x .argument))) in
           q (built .skeleton) z built-part k (subst (Fits (built .skeleton)) g v)
+
+-- parts of a table, handed on as slices
+pub may-build-at : (c s : List ℕ) (e t : ℕ) (r : Bool) → r ≡ false → MayBuild c (slice s e) (slice s t) r → (x y z b : Term) → Part c 0 x
+    → Part s e y → Part s t z → Fits x (lam b) → ¬ (substitute 0 y b ≡ z)
+unfolding MayBuild
+may-build-at c s e t r i q x y z b p j k =
+    let m : MayBuild c (slice s e) (slice s t) false = subst (MayBuild c (slice s e) (slice s t)) i q in
+    m x y z b p (part-slice s e y j) (part-slice s t z k)

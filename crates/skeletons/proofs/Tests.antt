@@ -4,7 +4,7 @@ use mathlib.Core.Path.{_≡_, refl, sym, ap, _∙_, subst}
 use mathlib.Core.Bool.{Bool, true, false, _&&_, _||_}
 use mathlib.Core.Logic.{_↔_}
 use mathlib.Core.List.{List}
-use Prim.Native.Nat.{ℕ}
+use Prim.Native.Nat.{ℕ, _-_}
 use native.Mathlib.Omega.{arith}
 use lib.Dec.{T, eqb}
 use lib.ListN.{getD}
@@ -16,11 +16,12 @@ use Rattle.matching.proofs.Skeletons.{isVariable}
 use Rattle.records.specs.declared.Walk.{Walk}
 use Rattle.records.specs.declared.Walk.the-variants.{Upto, No}
 use Rattle.records.specs.Record.{numberAt}
-use Rattle.records.specs.Parts.{Part, Whole, Ends, Tree}
+use Rattle.records.specs.Parts.{slice, Part, Whole, Ends, Tree}
 use Rattle.records.specs.Tests.{Tells, Equals, Walked}
 use Rattle.records.proofs.Parts.{kind-at, number-at, at-start, application, argument-part, tree-whole, whole-head, whole-argument}
+use Rattle.records.proofs.Slices.{part-slice}
 use Rattle.records.proofs.Tests.{not-false-true}
-use Rattle.sweeping.proofs.Writers.{local-at}
+use Rattle.substitution.proofs.Writers.{local-at}
 use Rattle.skeletons.specs.Contracted.{Exact}
 
 -- a hole, and a record that is none
@@ -122,7 +123,7 @@ module _ (b : List ℕ) where
             let v = application b 0 t (at-start b t e) z in
             rw (v .is, local-at b next m (v .a) (argument-part b 0 next t u v) k i, ne-eqb m 0 h)
 
-        module _ (h : m ≡ 0) (w : Walk) (x : Walked b 4 Exact w) where
+        module _ (h : m ≡ 0) (w : Walk) (x : Walked (slice b 4) 0 Exact w) where
           pub sure-exact : (j : ℕ) → w ≡ Upto j → Equals b isUnsure false
           sure-exact j q t e =
               let v = application b 0 t (at-start b t e) z in
@@ -130,11 +131,11 @@ module _ (b : List ℕ) where
                 v .is,
                 local-at b next m (v .a) (argument-part b 0 next t u v) k i,
                 eq-eqb m 0 h,
-                walked-yes b 4 Exact w x (v .f) (v .head) j q,
+                walked-yes (slice b 4) 0 Exact w x (v .f) (part-slice b 4 (v .f) (v .head)) j q,
               )
 
           pub unsure-inexact : w ≡ No → Equals b isUnsure true
           unsure-inexact q t e =
               let v = application b 0 t (at-start b t e) z in
               rw (v .is, local-at b next m (v .a) (argument-part b 0 next t u v) k i, eq-eqb m 0 h)
-              (not-false-true (hasVariable (v .f)) (walked-not b 4 Exact w x (v .f) (v .head) q))
+              (not-false-true (hasVariable (v .f)) (walked-not (slice b 4) 0 Exact w x (v .f) (part-slice b 4 (v .f) (v .head)) q))

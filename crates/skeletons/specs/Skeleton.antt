@@ -3,11 +3,11 @@
 --   SkeletonInput l s a                a part of a pattern, as a table, with the values of its assigned variables
 --   IsSkeleton s a t x                 every swept form of t, filled with values and so, fits the skeleton x
 --   WritesSkeleton l s a out n after   the skeleton of the part with the table l was written into out from byte 0 on, n records
---   SkeletonComparable c s t           a skeleton, as a table, and a term that stands in s from byte t on
---   MayBe c s t r                      unless r, the term that stands in s from byte t on doesn't fit the skeleton with the table c
---   SkeletonApplicable c s e t         a skeleton, as a table, and two terms that stand in s from bytes e and t on
---   MayBuild c s e t r                 unless r, no abstraction that fits the skeleton with the table c comes to the term at byte t with
---                                      the one at byte e put in
+--   SkeletonComparable c s             c begins with a skeleton, and s with a term
+--   MayBe c s r                        unless r, the term that s begins with doesn't fit the skeleton that c begins with
+--   SkeletonApplicable c e t           a skeleton, as a table, and two terms that e and t begin with
+--   MayBuild c e t r                   unless r, no abstraction that fits the skeleton with the table c comes to the term that t begins
+--                                      with, with the one that e begins with put in
 use mathlib.Core.Path.{_≡_}
 use mathlib.Core.Bool.{Bool, true, false}
 use mathlib.Core.List.{List}
@@ -56,22 +56,21 @@ pub record WritesSkeleton (l s : List ℕ) (a : List Entry) (out : List ℕ) (n 
   pub some : 1 ≤ n
   pub few : n ≤ sweptRecords
 
-pub record SkeletonComparable (c s : List ℕ) (t : ℕ) : Type 0 where
+pub record SkeletonComparable (c s : List ℕ) : Type 0 where
   pub skeleton : Whole c 0
-  pub least : 4 ≤ length c
-  pub term : Whole s t
-  pub within : t + 4 ≤ length s
-  pub most : length s ≤ tableBytes
+  pub term : Whole s 0
+  pub skeleton-most : length c ≤ tableBytes
+  pub term-most : length s ≤ tableBytes
 
-unfoldable pub MayBe : List ℕ → List ℕ → ℕ → Bool → Type 0
-MayBe c s t true = Unit {0}
-MayBe c s t false = (x y : Term) → Part c 0 x → Part s t y → ¬ Fits x y
+unfoldable pub MayBe : List ℕ → List ℕ → Bool → Type 0
+MayBe c s true = Unit {0}
+MayBe c s false = (x y : Term) → Part c 0 x → Part s 0 y → ¬ Fits x y
 
-pub record SkeletonApplicable (c s : List ℕ) (e t : ℕ) : Type 0 where
+pub record SkeletonApplicable (c e t : List ℕ) : Type 0 where
   pub skeleton : Term
   pub argument : Term
   pub bytes : c ≡ encode skeleton
-  pub part : Part s e argument
+  pub part : Part e 0 argument
   pub least : 4 ≤ length c
   pub few : size skeleton ≤ sweptRecords
   pub argument-few : size argument ≤ sweptRecords
@@ -79,9 +78,9 @@ pub record SkeletonApplicable (c s : List ℕ) (e t : ℕ) : Type 0 where
   pub shallow : depth + sweptRecords ≤ numbers
   pub closed : Closed depth skeleton
   pub argument-closed : Closed depth argument
-  pub target : Whole s t
-  pub most : length s ≤ tableBytes
+  pub target : Whole t 0
+  pub most : length t ≤ tableBytes
 
-unfoldable pub MayBuild : List ℕ → List ℕ → ℕ → ℕ → Bool → Type 0
-MayBuild c s e t true = Unit {0}
-MayBuild c s e t false = (x y z b : Term) → Part c 0 x → Part s e y → Part s t z → Fits x (lam b) → ¬ (substitute 0 y b ≡ z)
+unfoldable pub MayBuild : List ℕ → List ℕ → List ℕ → Bool → Type 0
+MayBuild c e t true = Unit {0}
+MayBuild c e t false = (x y z b : Term) → Part c 0 x → Part e 0 y → Part t 0 z → Fits x (lam b) → ¬ (substitute 0 y b ≡ z)

@@ -29,14 +29,14 @@ ghost use lib.ListN.{length, getD};
 ghost use lib.Seq.{sets};
 ghost use Rattle.terms.specs.Figures.{numbers, tableBytes};
 ghost use Rattle.terms.specs.Term.{var};
-ghost use Rattle.terms.specs.Table.{encode};
+ghost use Rattle.terms.specs.Table.{encode, applicationKind, abstractionKind, variableKind};
 ghost use Rattle.matching.specs.Skeletons.{isUnsure};
 ghost use Rattle.records.specs.Parts.{Tree, Whole};
 ghost use Rattle.records.specs.Tests.{Tells, Equals, Walked};
 ghost use Rattle.sweeping.specs.Swept.{SweptParts, SweptBody};
 ghost use Rattle.skeletons.specs.Skeleton.{SkeletonInput, WritesSkeleton, SkeletonComparable, MayBe, SkeletonApplicable, MayBuild};
 ghost use Rattle.skeletons.specs.Contracted.{WritesApplication, WritesAbstraction, Exact, Known, Entered};
-ghost use Rattle.skeletons.specs.Compared.{SkeletonParts, SkeletonCompared};
+ghost use Rattle.skeletons.specs.Compared.{SkeletonCompared};
 
 // The number of a hole that any term may stand in.
 const ANY: usize = 0;
@@ -67,7 +67,7 @@ fn hole_for(s: &[u8], out: &mut [u8; SWEPT_BYTES]) -> usize
 
 // Writes the skeleton of the application of f to x, both skeletons, where f is no hole.
 fn apply(f: &[u8], x: &[u8], out: &mut [u8; SWEPT_BYTES]) -> usize
-    requires { ⌜ SweptParts (now f) (now x) × ¬ (getD (now f) 0 0 ≡ 4) ⌝ }
+    requires { ⌜ SweptParts (now f) (now x) × ¬ (getD (now f) 0 0 ≡ variableKind) ⌝ }
     ensures { λ r. ⌜ WritesApplication (now (f .entry)) (now (x .entry)) (now (out .entry)) r (now (out .exit)) ⌝ }
 {
     let length = sweeping::contract_application(f, x, out);
@@ -77,34 +77,35 @@ fn apply(f: &[u8], x: &[u8], out: &mut [u8; SWEPT_BYTES]) -> usize
     n
 }
 
-// Walks over the part of s at byte `at` if it has no hole.
-fn exact_at(s: &[u8], at: usize) -> Walk
-    requires { ⌜ Whole (now s) at ⌝ }
-    ensures { λ r. ⌜ Walked (now (s .entry)) at Exact r ⌝ }
+// Walks over the part that s begins with if it has no hole.
+fn exact_part(s: &[u8]) -> Walk
+    requires { ⌜ Whole (now s) 0 × (length (now s) ≤ tableBytes) ⌝ }
+    ensures { λ r. ⌜ Walked (now (s .entry)) 0 Exact r ⌝ }
 {
-    let kind = s[at];
+    let kind = s[0];
     if kind == Kind::APPLICATION.code {
-        let head = exact_at(s, at + RECORD);
+        let head = exact_part(&s[RECORD..]);
         let Walk::Upto(h) = head else {
             return Walk::No;
         };
-        return exact_at(s, h);
+        let next = RECORD + h;
+        return records::further(exact_part(&s[next..]), next);
     }
     if kind == Kind::ABSTRACTION.code {
-        return exact_at(s, at + RECORD);
+        return records::further(exact_part(&s[RECORD..]), RECORD);
     }
     if kind == Kind::VARIABLE.code {
         return Walk::No;
     }
-    Walk::Upto(at + RECORD)
+    Walk::Upto(RECORD)
 }
 
 // Whether the skeleton c has no hole, so that whatever fits it is c itself.
 pub fn is_exact(c: &[u8]) -> bool
-    requires { ⌜ Tree (now c) ⌝ }
+    requires { ⌜ Tree (now c) × (length (now c) ≤ tableBytes) ⌝ }
     ensures { λ r. ⌜ Tells (now (c .entry)) Exact r ⌝ }
 {
-    let walk = exact_at(c, 0);
+    let walk = exact_part(c);
     match walk {
         Walk::Upto(_) => true,
         Walk::No => false,
@@ -114,7 +115,7 @@ pub fn is_exact(c: &[u8]) -> bool
 // Whether the abstraction over what the skeleton b stands for may contract or not: b is a hole for any term, an application to such a hole,
 // or an application to the innermost local whose head has a hole, in which that local may be used.
 fn is_unsure(b: &[u8]) -> bool
-    requires { ⌜ Tree (now b) ⌝ }
+    requires { ⌜ Tree (now b) × (length (now b) ≤ tableBytes) ⌝ }
     ensures { λ r. ⌜ Equals (now (b .entry)) isUnsure r ⌝ }
 {
     let kind = b[0];
@@ -134,7 +135,7 @@ fn is_unsure(b: &[u8]) -> bool
     if records::number_at(b, argument) != 0 {
         return false;
     }
-    let head = exact_at(b, RECORD);
+    let head = exact_part(&b[RECORD..]);
     match head {
         Walk::Upto(_) => false,
         Walk::No => true,
@@ -184,7 +185,7 @@ fn skeleton_application(
     entries: [Entry; VARIABLES],
     out: &mut [u8; SWEPT_BYTES],
 ) -> usize
-    requires { ⌜ SkeletonInput (now s) (now values) entries × (getD (now s) 0 0 ≡ 0) ⌝ }
+    requires { ⌜ SkeletonInput (now s) (now values) entries × (getD (now s) 0 0 ≡ applicationKind) ⌝ }
     ensures { λ r. ⌜ WritesSkeleton (now (s .entry)) (now (values .entry)) entries (now (out .entry)) r (now (out .exit)) ⌝ }
 {
     let mut head = [0u8; SWEPT_BYTES];
@@ -206,7 +207,7 @@ fn skeleton_abstraction(
     entries: [Entry; VARIABLES],
     out: &mut [u8; SWEPT_BYTES],
 ) -> usize
-    requires { ⌜ SkeletonInput (now s) (now values) entries × (getD (now s) 0 0 ≡ 1) ⌝ }
+    requires { ⌜ SkeletonInput (now s) (now values) entries × (getD (now s) 0 0 ≡ abstractionKind) ⌝ }
     ensures { λ r. ⌜ WritesSkeleton (now (s .entry)) (now (values .entry)) entries (now (out .entry)) r (now (out .exit)) ⌝ }
 {
     let mut body = [0u8; SWEPT_BYTES];
@@ -240,81 +241,83 @@ pub fn skeleton(
     1
 }
 
-// Passes the term of s at byte t at the hole of c at byte b, if it may stand there.
-fn fits_hole(c: &[u8], b: usize, s: &[u8], t: usize) -> Pairing
-    requires { ⌜ SkeletonParts (now c) b (now s) t × (getD (now c) b 0 ≡ 4) ⌝ }
-    ensures { λ r. ⌜ SkeletonCompared (now (c .entry)) b (now (s .entry)) t r ⌝ }
+// Passes the term that s begins with at the hole that c begins with, if it may stand there.
+fn fits_hole(c: &[u8], s: &[u8]) -> Pairing
+    requires { ⌜ SkeletonComparable (now c) (now s) × (getD (now c) 0 0 ≡ variableKind) ⌝ }
+    ensures { λ r. ⌜ SkeletonCompared (now (c .entry)) (now (s .entry)) r ⌝ }
 {
-    if records::number_at(c, b) == ANY {
-        let end = records::end_at(s, t);
+    if records::number_at(c, 0) == ANY {
+        let n = records::end_at(s, 0);
         return Pairing::Upto(Places {
-            first: b + RECORD,
-            second: end,
+            first: RECORD,
+            second: n,
         });
     }
-    let closed = records::ask_at(s, t, Ask::Below, 0);
+    let closed = records::ask_part(s, Ask::Below, 0);
     match closed {
-        Walk::Upto(next) => Pairing::Upto(Places {
-            first: b + RECORD,
-            second: next,
+        Walk::Upto(n) => Pairing::Upto(Places {
+            first: RECORD,
+            second: n,
         }),
         Walk::No => Pairing::No,
     }
 }
 
-// Walks over the skeleton of c at byte b and the term of s at byte t together, as far as the term fits. At a hole it passes a whole part of
-// the term.
-fn fits(c: &[u8], b: usize, s: &[u8], t: usize) -> Pairing
-    requires { ⌜ SkeletonParts (now c) b (now s) t ⌝ }
-    ensures { λ r. ⌜ SkeletonCompared (now (c .entry)) b (now (s .entry)) t r ⌝ }
+// Walks over the skeleton that c begins with and the term that s begins with together, as far as the term fits. At a hole it passes a whole
+// part of the term.
+fn fits(c: &[u8], s: &[u8]) -> Pairing
+    requires { ⌜ SkeletonComparable (now c) (now s) ⌝ }
+    ensures { λ r. ⌜ SkeletonCompared (now (c .entry)) (now (s .entry)) r ⌝ }
 {
-    let kind = c[b];
+    let kind = c[0];
     if kind == Kind::VARIABLE.code {
-        return fits_hole(c, b, s, t);
+        return fits_hole(c, s);
     }
-    if kind != s[t] {
+    if kind != s[0] {
         return Pairing::No;
     }
     if kind == Kind::APPLICATION.code {
-        let head = fits(c, b + RECORD, s, t + RECORD);
+        let head = fits(&c[RECORD..], &s[RECORD..]);
         let Pairing::Upto(p) = head else {
             return Pairing::No;
         };
-        return fits(c, p.first, s, p.second);
+        let n = RECORD + p.first;
+        let m = RECORD + p.second;
+        return shifting::both_further(fits(&c[n..], &s[m..]), n, m);
     }
     if kind == Kind::ABSTRACTION.code {
-        return fits(c, b + RECORD, s, t + RECORD);
+        return shifting::both_further(fits(&c[RECORD..], &s[RECORD..]), RECORD, RECORD);
     }
-    if records::number_at(c, b) == records::number_at(s, t) {
+    if records::number_at(c, 0) == records::number_at(s, 0) {
         return Pairing::Upto(Places {
-            first: b + RECORD,
-            second: t + RECORD,
+            first: RECORD,
+            second: RECORD,
         });
     }
     Pairing::No
 }
 
-// Whether the term of s at byte t may be the swept form of a part with the skeleton c.
-pub fn may_be(c: &[u8], s: &[u8], t: usize) -> bool
-    requires { ⌜ SkeletonComparable (now c) (now s) t ⌝ }
-    ensures { λ r. ⌜ MayBe (now (c .entry)) (now (s .entry)) t r ⌝ }
+// Whether the term that s begins with may be the swept form of a part with the skeleton c.
+pub fn may_be(c: &[u8], s: &[u8]) -> bool
+    requires { ⌜ SkeletonComparable (now c) (now s) ⌝ }
+    ensures { λ r. ⌜ MayBe (now (c .entry)) (now (s .entry)) r ⌝ }
 {
-    let walk = fits(c, 0, s, t);
+    let walk = fits(c, s);
     match walk {
         Pairing::Upto(_) => true,
         Pairing::No => false,
     }
 }
 
-// Whether a part with the skeleton c, which is no hole, may be an abstraction that comes to the term of s at byte t with the one at byte e
-// put in: the term fits the skeleton applied to that one.
-pub fn may_build(c: &[u8], s: &[u8], e: usize, t: usize) -> bool
-    requires { ⌜ SkeletonApplicable (now c) (now s) e t × ¬ (getD (now c) 0 0 ≡ 4) ⌝ }
-    ensures { λ r. ⌜ MayBuild (now (c .entry)) (now (s .entry)) e t r ⌝ }
+// Whether a part with the skeleton c, which is no hole, may be an abstraction that comes to the term that t begins with, with the one that
+// e begins with put in: the former fits the skeleton applied to the latter.
+pub fn may_build(c: &[u8], e: &[u8], t: &[u8]) -> bool
+    requires { ⌜ SkeletonApplicable (now c) (now e) (now t) × ¬ (getD (now c) 0 0 ≡ variableKind) ⌝ }
+    ensures { λ r. ⌜ MayBuild (now (c .entry)) (now (e .entry)) (now (t .entry)) r ⌝ }
 {
-    let end = records::end_at(s, e);
+    let end = records::end_at(e, 0);
     let mut built = [0u8; SWEPT_BYTES];
-    let n = apply(c, &s[e..end], &mut built);
+    let n = apply(c, &e[0..end], &mut built);
     let n = n * RECORD;
-    may_be(&built[0..n], s, t)
+    may_be(&built[0..n], t)
 }

@@ -20,13 +20,15 @@ use Rattle.matching.specs.Goals.{Sweeps, Goal, Goal.match, All, Listable}
 use Rattle.matching.proofs.Step.{bodyTarget, match-abstraction, bodyTarget-normal}
 use Rattle.matching.proofs.Targets.{closed-more, bodyTarget-closed, bodyTarget-ground, closed-shift}
 use Rattle.matching.proofs.Prune.{rigid-application, no-local}
-use Rattle.records.specs.Parts.{Part, Whole, Ends}
+use Rattle.records.specs.Parts.{slice, Part, Whole, Ends}
+use Rattle.records.proofs.Slices.{part-slice}
 use Rattle.records.proofs.Parts.{kind-at, application, abstraction, argument-part, whole-head}
 use Rattle.assignments.specs.declared.Entry.{Entry}
-use Rattle.sweeping.specs.Writers.{Source, Wrote}
+use Rattle.substitution.specs.Writers.{Source, Wrote}
 use Rattle.sweeping.proofs.Contraction.{closed-fits}
-use Rattle.sweeping.proofs.Writers.{source}
+use Rattle.substitution.proofs.Writers.{source, slice-wrote}
 use Rattle.copying.proofs.Stores.{written-then, stored}
+use Rattle.shifting.proofs.Locals.{marks-at}
 use Rattle.agenda.specs.declared.Agenda.{Agenda}
 use Rattle.agenda.specs.declared.StoredGoal.{StoredGoal}
 use Rattle.agenda.specs.declared.Step.the-variants as step
@@ -68,26 +70,26 @@ module _ (P W : List ℕ) (s : Agenda) (a : List Entry) (r : StoredGoal) (x : Op
       record {
         part = x .part;
         short = x .ready .bounds .short;
-        target = record {
-          tree = o .t;
-          part = o .target .part;
-          closed = closed-more (patternRecords - size (o .p)) (0 + patternRecords) (o .t) (omega arith) (o .target .closed);
-          shallow = omega (arith, o .target .short);
-          least = x .target .least;
-        };
+        target = marks-at W (r .target) 0 patternRecords (o .t) (o .target .part)
+            (closed-more (patternRecords - size (o .p)) (0 + patternRecords) (o .t) (omega arith) (o .target .closed))
+            (omega (arith, o .target .short));
+        place = omega (arith, x .target .least);
       }
 
 -- `@ t #0` is written: the shifted target first into an array of its own
 module _ (W : List ℕ) (at o : ℕ) (x : Expandable W at o) where
-  pub apply-source : (room : ℕ) → room ≡ targetBytes → Source (shift 1) W at 0 room 0
+  pub apply-source : (room : ℕ) → room ≡ targetBytes → Source (shift 1) (slice W at) 0 0 room 0
   apply-source room e =
       let n = size-shift 1 0 (x .tree) in
-      source (shift 1) W at 0 room 0 (x .tree) (x .part)
+      source (shift 1) (slice W at) 0 0 room 0 (x .tree) (part-slice W at (x .tree) (x .part))
       (closed-fits (suc patternRecords) (shift 1 0 (x .tree))
       (closed-shift 1 0 patternRecords (suc patternRecords) (x .tree) (omega arith) (x .closed)) (omega (arith, x .short)))
       (omega (arith, x .short)) (omega (arith, x .short))
 
-  module _ (Z Y : List ℕ) (next n : ℕ) (w : Wrote (shift 1) W at 0 Z 0 Y next n) where
+  module _ (Z Y : List ℕ) (next n : ℕ) (v : Wrote (shift 1) (slice W at) 0 0 Z 0 Y next n) where
+    w : Wrote (shift 1) W at 0 Z 0 Y (at + next) n
+    w = slice-wrote (shift 1) W at 0 Z 0 Y next n v
+
     pub apply-length : n ≡ 4 * size (x .tree)
     apply-length = omega (arith, w .exact (x .tree) (x .part), size-shift 1 0 (x .tree))
 

@@ -20,18 +20,19 @@ use Rattle.matching.specs.Goals.{Sweeps, Goal, Goal.match, All, Listable}
 use Rattle.matching.proofs.Step.{match-variable}
 use Rattle.matching.proofs.Lines.{extends-entry, extends-set, assigns-set}
 use Rattle.records.specs.Record.{numberAt}
-use Rattle.records.specs.Parts.{Part, Ends}
+use Rattle.records.specs.Parts.{slice, Part, Ends}
 use Rattle.records.specs.Tests.{Says, Asks, Walked}
 use Rattle.records.specs.declared.Ask.the-variants.{Below}
 use Rattle.records.specs.declared.Walk.{Walk}
 use Rattle.records.specs.declared.Walk.the-variants.{Upto, No}
+use Rattle.records.proofs.Slices.{slice-upto, slice-no}
 use Rattle.records.proofs.Parts.{part-bytes, kind-at, number-at, constant-at, variable-at}
 use Rattle.records.proofs.Tests.{says}
 use Rattle.assignments.specs.declared.Span.{Span}
 use Rattle.assignments.specs.declared.Entry.{Entry}
 use Rattle.assignments.specs.declared.Entry.the-variants.{Open, Assigned}
 use Rattle.copying.specs.Equality.{Same}
-use Rattle.sweeping.proofs.Writers.{local-at}
+use Rattle.substitution.proofs.Writers.{local-at}
 use Rattle.assignments.specs.Held.{Held}
 use Rattle.assignments.proofs.Held.{holds-open, holds-held, holds-set}
 use Rattle.agenda.specs.declared.Agenda.{Agenda}
@@ -110,31 +111,31 @@ module _ (P W : List ℕ) (s : Agenda) (a : List Entry) (r : StoredGoal) (i : �
   is-value gs hs o φ v z = subst (λ (p : Term). Sweeps p (o .t) φ) (sym (names gs hs o)) (match-variable φ i (o .t) (v i) .1 z)
 
   -- the target isn't closed
-  pub open-missed : (w : Walk) → w ≡ No → Walked W (r .target) (Asks Below 0) w → Stepped P W s a W step.Failed
+  pub open-missed : (w : Walk) → w ≡ No → Walked (slice W (r .target)) 0 (Asks Below 0) w → Stepped P W s a W step.Failed
   unfolding Walked
   open-missed w e k =
-      let n : Walked W (r .target) (Asks Below 0) No = subst (Walked W (r .target) (Asks Below 0)) e k in
+      let n : Walked W (r .target) (Asks Below 0) No = slice-no W (r .target) (Asks Below 0) w e k in
       dead P W s a r (x .opens) (λ gs hs l y o φ v g z. n (o .t) (o .target .part) (subst (Closed 0) (value-is gs hs o φ v z) (v i .0)))
 
   -- it is, and the variable takes it
   pub open-met :
-      (w : Walk) (end : ℕ) → w ≡ Upto end → Walked W (r .target) (Asks Below 0) w → getD a i Open ≡ Open
+      (w : Walk) (n : ℕ) → w ≡ Upto n → Walked (slice W (r .target)) 0 (Asks Below 0) w → getD a i Open ≡ Open
       → Stepped P W s a W (step.Assign (record {
         variable = i;
-        span = record { first = r .target / 4; count = (end - r .target) / 4 };
+        span = record { first = r .target / 4; count = n / 4 };
         agenda = record { top = s .top; easy = r .next; deferred = s .deferred };
       }))
   unfolding Stepped Walked
-  open-met w end e k q = (
+  open-met w n e k q = (
     x .below,
     record {
       go = λ gs hs l y.
           let o = opened P W s a r (x .opens .some) (x .opens .stored-goal) gs hs l y in
-          let m : Walked W (r .target) (Asks Below 0) (Upto end) = subst (Walked W (r .target) (Asks Below 0)) e k in
-          let n = m .0 .exact (o .t) (o .target .part) in
+          let m : Walked W (r .target) (Asks Below 0) (Upto (r .target + n)) = slice-upto W (r .target) (Asks Below 0) n w e k in
+          let ends = m .0 .exact (o .t) (o .target .part) in
           let value : Value (o .t) = (m .1 (o .t) (o .target .part), o .target .normal, o .target .ground) in
           let first : 4 * (r .target / 4) ≡ r .target = omega (arith, x .opens .target-even) in
-          let count : (end - r .target) / 4 ≡ size (o .t) = omega arith in
+          let count : n / 4 ≡ size (o .t) = omega arith in
           let free : entry l i ≡ none = holds-open W (s .top) a l i (y .entries) q in
           let within : i < length l = omega (arith, y .line, x .below) in
           let occurs : OccursIn P i = o .suits .0 .1 i (subst (λ (p : Term). Occurs i p) (sym (names gs hs o)) refl) in
@@ -146,7 +147,7 @@ module _ (P W : List ℕ) (s : Agenda) (a : List Entry) (r : StoredGoal) (i : �
               easy = o .chain;
               deferred = y .deferred;
               entries =
-                  holds-set W (s .top) a l i (Assigned (record { first = r .target / 4; count = (end - r .target) / 4 })) (some (o .t))
+                  holds-set W (s .top) a l i (Assigned (record { first = r .target / 4; count = n / 4 })) (some (o .t))
                   (record {
                     part = subst (λ (j : ℕ). Part W j (o .t)) (sym first) (o .target .part);
                     count = count;

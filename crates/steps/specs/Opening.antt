@@ -12,7 +12,7 @@ use lib.ListN.{length, getD}
 use lib.Seq.{sets}
 use Rattle.terms.specs.Figures.{variables, patternRecords, valueRecords, tableBytes}
 use Rattle.terms.specs.Term.{Term, app, loc, size, shift, Closed}
-use Rattle.terms.specs.Table.{encode}
+use Rattle.terms.specs.Table.{encode, applicationKind, abstractionKind, variableKind}
 use Rattle.records.specs.Record.{numberAt}
 use Rattle.records.specs.Parts.{Part, Whole}
 use Rattle.assignments.specs.declared.Entry.{Entry}
@@ -37,9 +37,9 @@ pub record Opens (P W : List ℕ) (s : Agenda) (a : List Entry) (r : StoredGoal)
   pub room : s .top + 2008 ≤ tableBytes
 
 pub record Plain (P : List ℕ) (i : ℕ) : Type 0 where
-  pub no-application : ¬ (getD P i 0 ≡ 0)
-  pub no-abstraction : ¬ (getD P i 0 ≡ 1)
-  pub no-variable : ¬ (getD P i 0 ≡ 4)
+  pub no-application : ¬ (getD P i 0 ≡ applicationKind)
+  pub no-abstraction : ¬ (getD P i 0 ≡ abstractionKind)
+  pub no-variable : ¬ (getD P i 0 ≡ variableKind)
 
 pub record Names (P W : List ℕ) (s : Agenda) (a : List Entry) (r : StoredGoal) (i : ℕ) : Type 0 where
   pub opens : Opens P W s a r

@@ -22,6 +22,7 @@ ghost use mathlib.Core.Path.{_≡_};
 ghost use mathlib.Core.Bool.{true};
 ghost use Prim.Native.Nat.{_+_, _≤_, _<_};
 ghost use lib.ListN.{length, getD};
+ghost use Rattle.terms.specs.Table.{applicationKind, abstractionKind, variableKind};
 ghost use Rattle.terms.specs.Term.{Term};
 ghost use Rattle.terms.specs.Heads.{rigid};
 ghost use Rattle.records.specs.Parts.{Part};
@@ -75,13 +76,13 @@ fn step_open(
     ensures { λ r. ⌜ Stepped (now (pattern .entry)) (now (work .entry)) agenda entries (now (work .entry)) r ⌝ }
 {
     let target = goal.target;
-    let closed = records::ask_at(work, target, Ask::Below, 0);
-    let Walk::Upto(end) = closed else {
+    let closed = records::ask_part(&work[target..], Ask::Below, 0);
+    let Walk::Upto(n) = closed else {
         return Step::Failed;
     };
     let span = Span {
         first: target / RECORD,
-        count: (end - target) / RECORD,
+        count: n / RECORD,
     };
     let left = Agenda {
         top: agenda.top,
@@ -128,7 +129,7 @@ fn step_variable(
     entries: [Entry; VARIABLES],
     goal: StoredGoal,
 ) -> Step
-    requires { ⌜ Opens (now pattern) (now work) agenda entries goal × (getD (now pattern) (goal .part) 0 ≡ 4) ⌝ }
+    requires { ⌜ Opens (now pattern) (now work) agenda entries goal × (getD (now pattern) (goal .part) 0 ≡ variableKind) ⌝ }
     ensures { λ r. ⌜ Stepped (now (pattern .entry)) (now (work .entry)) agenda entries (now (work .entry)) r ⌝ }
 {
     let i = records::number_at(pattern, goal.part);
@@ -145,7 +146,7 @@ fn apply_into(work: &mut [u8], at: usize, o: usize) -> usize
     ensures { λ r. ⌜ Expanded (now (work .entry)) at o (now (work .exit)) r ⌝ }
 {
     let mut shifted = [0u8; TARGET_BYTES];
-    let copy = sweeping::shift_into(work, at, 1, 0, &mut shifted, 0);
+    let copy = substitution::shift_into(&work[at..], 1, 0, &mut shifted, 0);
     let n = copy.end;
     records::put_record(work, o, Kind::APPLICATION, 0);
     copying::copy_into(&shifted[0..n], work, o + RECORD);
@@ -162,7 +163,7 @@ fn step_abstraction(
     entries: [Entry; VARIABLES],
     goal: StoredGoal,
 ) -> Step
-    requires { ⌜ Opens (now pattern) (now work) agenda entries goal × (getD (now pattern) (goal .part) 0 ≡ 1) ⌝ }
+    requires { ⌜ Opens (now pattern) (now work) agenda entries goal × (getD (now pattern) (goal .part) 0 ≡ abstractionKind) ⌝ }
     ensures { λ r. ⌜ Stepped (now (pattern .entry)) (now (work .entry)) agenda entries (now (work .exit)) r ⌝ }
 {
     let top = agenda.top;
@@ -207,7 +208,7 @@ fn step_rigid(
     entries: [Entry; VARIABLES],
     goal: StoredGoal,
 ) -> Step
-    requires { ⌜ Opens (now pattern) (now work) agenda entries goal × (getD (now pattern) (goal .part) 0 ≡ 0)
+    requires { ⌜ Opens (now pattern) (now work) agenda entries goal × (getD (now pattern) (goal .part) 0 ≡ applicationKind)
         × ((t : Term) → Part (now pattern) (goal .part) t → rigid t ≡ true) ⌝ }
     ensures { λ r. ⌜ Stepped (now (pattern .entry)) (now (work .entry)) agenda entries (now (work .exit)) r ⌝ }
 {
@@ -248,7 +249,7 @@ fn step_flexible(
     entries: [Entry; VARIABLES],
     goal: StoredGoal,
 ) -> Step
-    requires { ⌜ Opens (now pattern) (now work) agenda entries goal × (getD (now pattern) (goal .part) 0 ≡ 0) ⌝ }
+    requires { ⌜ Opens (now pattern) (now work) agenda entries goal × (getD (now pattern) (goal .part) 0 ≡ applicationKind) ⌝ }
     ensures { λ r. ⌜ Stepped (now (pattern .entry)) (now (work .entry)) agenda entries (now (work .exit)) r ⌝ }
 {
     if agenda::locals::lacks_local(pattern, goal.part, work, goal.target) {
@@ -287,7 +288,7 @@ pub fn step(pattern: &[u8], work: &mut [u8], agenda: Agenda, entries: [Entry; VA
     if kind != Kind::APPLICATION.code {
         return step_record(pattern, work, agenda, entries, goal);
     }
-    if shifting::is_rigid(pattern, part) {
+    if shifting::is_rigid(&pattern[part..]) {
         return step_rigid(pattern, work, agenda, entries, goal);
     }
     step_flexible(pattern, work, agenda, entries, goal)

@@ -20,14 +20,15 @@ use Rattle.terms.proofs.Sweep.{contract-app}
 use Rattle.terms.proofs.Contracted.{isProper, Abstracted as Contracting, Abstracted.out as moves, Abstracted.kept as stays, abstracted}
 use Rattle.terms.proofs.Table.{encode-length}
 use Rattle.records.specs.Record.{numberAt}
-use Rattle.records.specs.Parts.{Part, Whole}
-use Rattle.records.proofs.Parts.{size-some, whole, kind-at, at-start, application, abstraction, argument-part}
+use Rattle.records.specs.Parts.{slice, Part, Whole}
+use Rattle.records.proofs.Parts.{size-some, whole, kind-at, at-start, Application, application, abstraction, argument-part}
+use Rattle.records.proofs.Slices.{part-slice, slice-ends, whole-slice}
 use Rattle.sweeping.specs.declared.Length.the-variants.{Records, TooLong}
-use Rattle.sweeping.specs.Writers.{substituteFor, count, NumbersFit, Wrote, Substitution, UsesCounted}
+use Rattle.substitution.specs.Writers.{substituteFor, count, NumbersFit, Wrote, Substitution, UsesCounted}
 use Rattle.sweeping.specs.Swept.{sweptBytes, WrittenForm, SweptParts, ContractsApplication, SweptBody, ContractsAbstraction}
 use Rattle.copying.proofs.Stores.{written-then}
-use Rattle.sweeping.proofs.Writers.{source, local-at}
-use Rattle.sweeping.proofs.Counts.{count-none, count-some, size-replaced}
+use Rattle.substitution.proofs.Writers.{source, local-at}
+use Rattle.substitution.proofs.Counts.{count-none, count-some, size-replaced}
 
 -- the two answers
 pub form-written : (t : Term) (out after : List ℕ) (n : ℕ) → 4 * n ≡ 4 * size t → n ≤ sweptRecords → after ≡ sets out 0 (encode t)
@@ -78,14 +79,14 @@ module _ (f a out : List ℕ) (n : ¬ (getD f 0 0 ≡ 1)) where
       (application-bytes f a out p q r u v w x y e g))
 
 -- an application whose head is an abstraction
-pub uses-bytes : (f a next n : ℕ) → 4 + 4 * n ≤ next → next ≤ f → f ≤ sweptBytes → a ≤ sweptBytes → n * (a - 4) ≤ sweptRecords * sweptBytes
-uses-bytes f a next n h i j k = let p : n ≤ sweptRecords = omega arith in let q : a - 4 ≤ sweptBytes = omega arith in mul-le-mul p q
+pub uses-bytes : (a next n : ℕ) → 4 * n ≤ next → next ≤ sweptBytes → a ≤ sweptBytes → n * (a - 4) ≤ sweptRecords * sweptBytes
+uses-bytes a next n h i j = let p : n ≤ sweptRecords = omega arith in let q : a - 4 ≤ sweptBytes = omega arith in mul-le-mul p q
 
 -- the abstraction's body is a part of its table
-pub redex-whole : (f : List ℕ) (x : Term) → f ≡ encode x → getD f 0 0 ≡ 1 → Whole f 4
-redex-whole f x e z = let v = abstraction f 0 x (at-start f x e) z in whole f 4 (v .b) (v .body)
+pub redex-whole : (f : List ℕ) (x : Term) → f ≡ encode x → getD f 0 0 ≡ 1 → Whole (slice f 4) 0
+redex-whole f x e z = let v = abstraction f 0 x (at-start f x e) z in whole-slice f 4 (whole f 4 (v .b) (v .body))
 
-module _ (f a : List ℕ) (z : getD f 0 0 ≡ 1) (next n : ℕ) (u : UsesCounted f 4 0 next n) where
+module _ (f a : List ℕ) (z : getD f 0 0 ≡ 1) (next n : ℕ) (u : UsesCounted (slice f 4) 0 next n) where
   pub redex-size : (x y : Term) → f ≡ encode x → a ≡ encode y → length f - 4 + n * (length a - 4) ≡ 4 * size (contract (app x y))
   redex-size x y e g = go (size y) refl
     where
@@ -93,7 +94,7 @@ module _ (f a : List ℕ) (z : getD f 0 0 ≡ 1) (next n : ℕ) (u : UsesCounted
       go zero s = absurd (omega (arith, size-some y))
       go (suc m) s =
           let v = abstraction f 0 x (at-start f x e) z in
-          let c : n ≡ count 0 (v .b) = u .exact (v .b) (v .body) in
+          let c : n ≡ count 0 (v .b) = u .exact (v .b) (part-slice f 4 (v .b) (v .body)) in
           let k : size (contract (app x y)) ≡ size (v .b) + n * m =
           ap (λ (t : Term). size (contract (app t y))) (v .is) ∙ size-replaced m 0 y (v .b) s
           ∙ ap (λ (i : ℕ). size (v .b) + i * m) (sym c) in
@@ -105,7 +106,7 @@ module _ (f a : List ℕ) (z : getD f 0 0 ≡ 1) (next n : ℕ) (u : UsesCounted
   redex-too-long out h x y e g = form-too-long (contract (app x y)) out (omega (arith, redex-size x y e g))
 
   pub redex-substitution : (out : List ℕ) → SweptParts f a → length f - 4 + n * (length a - 4) ≤ length out
-      → length f - 4 + n * (length a - 4) ≤ sweptBytes → Substitution f 4 0 a out 0
+      → length f - 4 + n * (length a - 4) ≤ sweptBytes → Substitution (slice f 4) 0 a out 0
   redex-substitution out x h m =
       let e = x .head-bytes in
       let g = x .argument-bytes in
@@ -118,19 +119,20 @@ module _ (f a : List ℕ) (z : getD f 0 0 ≡ 1) (next n : ℕ) (u : UsesCounted
         argument = x .argument;
         table = g;
         few = omega (arith, table-length a (x .argument) g, x .argument-most);
-        source = source (substituteFor (x .argument)) f 4 0 (length out) 0 (v .b) (v .body)
+        source = source (substituteFor (x .argument)) (slice f 4) 0 0 (length out) 0 (v .b) (part-slice f 4 (v .b) (v .body))
             (subst NumbersFit q (closed-fits (x .depth) (contract (app (x .head) (x .argument))) (x .closed) (omega (arith, x .shallow))))
             (omega (arith, table-length f (x .head) e, ap size (v .is), x .head-most)) (omega (arith, ap size q));
       }
 
-  pub redex-bytes : (out after : List ℕ) (to end : ℕ) → ((t : Term) → a ≡ encode t → Wrote (substituteFor t) f 4 0 out 0 after to end)
+  pub redex-bytes : (out after : List ℕ) (to end : ℕ)
+      → ((t : Term) → a ≡ encode t → Wrote (substituteFor t) (slice f 4) 0 0 out 0 after to end)
       → (x y : Term) → f ≡ encode x → a ≡ encode y → after ≡ sets out 0 (encode (contract (app x y)))
   redex-bytes out after to end w x y e g =
       let v = abstraction f 0 x (at-start f x e) z in
-      w y g .bytes (v .b) (v .body) ∙ ap (λ (t : Term). sets out 0 (encode (contract (app t y)))) (sym (v .is))
+      w y g .bytes (v .b) (part-slice f 4 (v .b) (v .body)) ∙ ap (λ (t : Term). sets out 0 (encode (contract (app t y)))) (sym (v .is))
 
   pub redex-written : (out after : List ℕ) (to end : ℕ) → length f - 4 + n * (length a - 4) ≤ sweptBytes
-      → ((t : Term) → a ≡ encode t → Wrote (substituteFor t) f 4 0 out 0 after to end)
+      → ((t : Term) → a ≡ encode t → Wrote (substituteFor t) (slice f 4) 0 0 out 0 after to end)
       → ContractsApplication f a out (Records ((length f - 4 + n * (length a - 4)) / 4)) after
   redex-written out after to end m w x y e g =
       let s = redex-size x y e g in
@@ -167,36 +169,42 @@ no-innermost l at (con m) x n = refl
 no-innermost l at (var m) x n = refl
 
 module _ (b : List ℕ) (z : getD b 0 0 ≡ 0) where
-  pub body-whole : (x : SweptBody b) → Whole b 4
-  body-whole x = let v = application b 0 (x .body) (at-start b (x .body) (x .bytes)) z in whole b 4 (v .f) (v .head)
-
-  pub argument-whole : (next n : ℕ) → UsesCounted b 4 0 next n → (x : SweptBody b) → Whole b next
-  argument-whole next n u x =
-      let v = application b 0 (x .body) (at-start b (x .body) (x .bytes)) z in
-      whole b next (v .a) (argument-part b 0 next (x .body) (u .ends) v)
+  pub body-whole : (x : SweptBody b) → Whole (slice b 4) 0
+  body-whole x = let v = application b 0 (x .body) (at-start b (x .body) (x .bytes)) z in whole-slice b 4 (whole b 4 (v .f) (v .head))
 
   pub head-abstraction : getD b 4 0 ≡ 1 → (t : Term) → b ≡ encode t → false ≡ isProper t
   head-abstraction k t e =
       let v = application b 0 t (at-start b t e) z in
       rw (v .is, is-abstraction b 4 (v .f) (v .head) k) (and-false (isEta (app (v .f) (v .a))))
 
-  module _ (next n : ℕ) (u : UsesCounted b 4 0 next n) where
-    pub argument-no-local : ¬ (getD b next 0 ≡ 2) → (t : Term) → b ≡ encode t → false ≡ isProper t
+  module _ (h n : ℕ) (u : UsesCounted (slice b 4) 0 h n) where
+    argument : (t : Term) (v : Application b 0 t) → Part (slice b (4 + h)) 0 (v .a)
+    argument t v = part-slice b (4 + h) (v .a) (argument-part b 0 (4 + h) t (slice-ends b 4 h (u .ends)) v)
+
+    pub argument-whole : (x : SweptBody b) → Whole (slice b (4 + h)) 0
+    argument-whole x =
+        let v = application b 0 (x .body) (at-start b (x .body) (x .bytes)) z in
+        whole (slice b (4 + h)) 0 (v .a) (argument (x .body) v)
+
+    pub argument-no-local : ¬ (getD (slice b (4 + h)) 0 0 ≡ 2) → (t : Term) → b ≡ encode t → false ≡ isProper t
     argument-no-local k t e =
         let v = application b 0 t (at-start b t e) z in
-        rw (v .is, no-innermost b next (v .a) (argument-part b 0 next t (u .ends) v) k)
+        rw (v .is, no-innermost (slice b (4 + h)) 0 (v .a) (argument t v) k)
 
-    module _ (k : getD b next 0 ≡ 2) (m : ℕ) (i : m ≡ numberAt b next) where
+    module _ (k : getD (slice b (4 + h)) 0 0 ≡ 2) (m : ℕ) (i : m ≡ numberAt (slice b (4 + h)) 0) where
+      is-local : (t : Term) (v : Application b 0 t) → v .a ≡ loc m
+      is-local t v = local-at (slice b (4 + h)) 0 m (v .a) (argument t v) k i
+
       pub argument-outer : ¬ (m ≡ 0) → (t : Term) → b ≡ encode t → false ≡ isProper t
-      argument-outer h t e =
+      argument-outer o t e =
           let v = application b 0 t (at-start b t e) z in
-          rw (v .is, local-at b next m (v .a) (argument-part b 0 next t (u .ends) v) k i, ne-eqb m 0 h)
+          rw (v .is, is-local t v, ne-eqb m 0 o)
 
       pub counted-uses : m ≡ 0 → ¬ (getD b 4 0 ≡ 1) → (t : Term) → b ≡ encode t → eqb n 0 ≡ isProper t
-      counted-uses h j t e =
+      counted-uses o j t e =
           let v = application b 0 t (at-start b t e) z in
-          rw (v .is, local-at b next m (v .a) (argument-part b 0 next t (u .ends) v) k i, eq-eqb m 0 h, is-none b 4 (v .f) (v .head) j)
-          (go (v .f) n (u .exact (v .f) (v .head)))
+          rw (v .is, is-local t v, eq-eqb m 0 o, is-none b 4 (v .f) (v .head) j)
+          (go (v .f) n (u .exact (v .f) (part-slice b 4 (v .f) (v .head))))
         where
           go : (s : Term) (l : ℕ) → l ≡ count 0 s → eqb l 0 ≡ (not (uses 0 s) && true)
           go s zero q = rw (count-none 0 s (sym q))
@@ -232,14 +240,14 @@ module _ (b : List ℕ) (r : Bool) (test : (t : Term) → b ≡ encode t → r �
     at-term t e = proper t (sym (test t e) ∙ yes)
 
     -- M is a part of the body's table
-    part : (t : Term) (e : b ≡ encode t) → Part b 4 (at-term t e .m)
+    part : (t : Term) (e : b ≡ encode t) → Part (slice b 4) 0 (at-term t e .m)
     part t e =
         let x = at-term t e in
         let v = application b 0 (app (x .m) (loc 0)) (at-start b (app (x .m) (loc 0)) (e ∙ ap encode (x .is)))
         (ap (λ (l : List ℕ). getD l 0 0) (e ∙ ap encode (x .is))) in
-        subst (Part b 4) (ap headOf (sym (v .is))) (v .head)
+        part-slice b 4 (x .m) (subst (Part b 4) (ap headOf (sym (v .is))) (v .head))
 
-    pub eta-substitution : (out : List ℕ) → SweptBody b → length out ≡ sweptBytes → Substitution b 4 0 b out 0
+    pub eta-substitution : (out : List ℕ) → SweptBody b → length out ≡ sweptBytes → Substitution (slice b 4) 0 b out 0
     eta-substitution out x h =
         let y = at-term (x .body) (x .bytes) in
         let q = y .moved (x .body) in
@@ -248,14 +256,14 @@ module _ (b : List ℕ) (r : Bool) (test : (t : Term) → b ≡ encode t → r �
           argument = x .body;
           table = x .bytes;
           few = omega (arith, x .most);
-          source = source (substituteFor (x .body)) b 4 0 (length out) 0 (y .m) (part (x .body) (x .bytes))
+          source = source (substituteFor (x .body)) (slice b 4) 0 0 (length out) 0 (y .m) (part (x .body) (x .bytes))
               (subst NumbersFit q
               (closed-fits (x .depth) (contract (lam (x .body))) (x .closed) (omega (arith, x .most, x .shallow, y .smaller))))
               (omega (arith, x .most, ap size (y .is))) (omega (arith, x .most, y .smaller, ap size q));
         }
 
     pub eta-written : (out after : List ℕ) (to end : ℕ) → length b ≤ sweptBytes
-        → ((t : Term) → b ≡ encode t → Wrote (substituteFor t) b 4 0 out 0 after to end)
+        → ((t : Term) → b ≡ encode t → Wrote (substituteFor t) (slice b 4) 0 0 out 0 after to end)
         → ContractsAbstraction b out (Records (end / 4)) after
     eta-written out after to end h w t e =
         let y = at-term t e in

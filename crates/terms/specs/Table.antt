@@ -1,4 +1,5 @@
 -- Records and tables, as document 01's section "Records and terms" has them. Record and table are the document's words.
+--   applicationKind, abstractionKind, localKind, constantKind, variableKind   the numbers of the five kinds
 --   bytes k n rest    the four bytes of a record of kind k and number n, and then rest
 --   recordOf k z h l  the kind and the number of the record with these four bytes, if they are one
 --   allowed v r       a record's rule, where v variables are allowed
@@ -14,6 +15,22 @@ use Prim.Native.Nat.{ℕ, _+_, _*_, _/_, _%_}
 use lib.Dec.{ltb, leb, eqb}
 use Rattle.terms.specs.Term.{Term, app, lam, loc, con, var, Closed}
 
+-- "Five kinds, each a named constant of the kind": "0 application", "1 abstraction", "2 local", "3 constant", "4 variable"
+abbrev pub applicationKind : ℕ
+applicationKind = 0
+
+abbrev pub abstractionKind : ℕ
+abstractionKind = 1
+
+abbrev pub localKind : ℕ
+localKind = 2
+
+abbrev pub constantKind : ℕ
+constantKind = 3
+
+abbrev pub variableKind : ℕ
+variableKind = 4
+
 -- "A term is a table of 4-byte records, no header: kind, a zero byte, and a 16-bit number, high byte first."
 abbrev pub bytes : ℕ → ℕ → List ℕ → List ℕ
 bytes k n rest = k ∷ 0 ∷ (n / 256) ∷ (n % 256) ∷ rest
@@ -25,7 +42,8 @@ recordOf k z h l = cond (eqb z 0) (some (k, h * 256 + l)) none
 -- with no variables it is the rule that cause 5 breaks: "as in 2, or kind 4"
 abbrev pub allowed : ℕ → Option (ℕ × ℕ) → Bool
 allowed v none = false
-allowed v (some r) = leb (r .0) 4 && ((ltb 1 (r .0) || eqb (r .1) 0) && (not (eqb (r .0) 4) || ltb (r .1) v))
+allowed v (some r) =
+    leb (r .0) variableKind && ((ltb abstractionKind (r .0) || eqb (r .1) 0) && (not (eqb (r .0) variableKind) || ltb (r .1) v))
 
 abbrev pub goodRecords : ℕ → List ℕ → Bool
 goodRecords v [] = true
@@ -37,11 +55,11 @@ goodRecords v (k ∷ z ∷ h ∷ l ∷ rest) = allowed v (recordOf k z h l) && g
 -- "0 application, followed by its head and then its argument; number zero", "1 abstraction, followed by its body; number zero",
 -- "2 local", "3 constant", "4 variable"
 abbrev pub preorder : (ℕ → ℕ → List ℕ → List ℕ) → Term → List ℕ
-preorder w (app f a) = w 0 0 (preorder w f ++ preorder w a)
-preorder w (lam b) = w 1 0 (preorder w b)
-preorder w (loc n) = w 2 n []
-preorder w (con n) = w 3 n []
-preorder w (var n) = w 4 n []
+preorder w (app f a) = w applicationKind 0 (preorder w f ++ preorder w a)
+preorder w (lam b) = w abstractionKind 0 (preorder w b)
+preorder w (loc n) = w localKind n []
+preorder w (con n) = w constantKind n []
+preorder w (var n) = w variableKind n []
 
 abbrev pub encode : Term → List ℕ
 encode t = preorder bytes t

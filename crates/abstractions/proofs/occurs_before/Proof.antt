@@ -1,15 +1,8 @@
--- `abstractions::occurs_before` meets its contract. The first j parts are those that stand before the byte 4 * j on, and a walk looks at
--- them. Assumes nothing.
+-- `abstractions::occurs_before` meets its contract. By what looking among the first j parts comes to. Assumes nothing.
 use Rattle.abstractions.proofs.Occurrences.{earlier-no, earlier-yes}
 use borrow.Author.Needs.{needs}
 use Rattle.abstractions.proofs.occurs_before.Statement.{statement}
 use Rattle.abstractions.proofs.occurs_before.Tie as tie
-
-mul-copy-before : tie.Need-mul-copy-before
-mul-copy-before c = search needs
-
-add-copy-before : tie.Need-add-copy-before
-add-copy-before c = search needs
 
 copy-before-requires : tie.Need-copy-before-requires
 copy-before-requires c κs = search needs
@@ -28,12 +21,4 @@ returns-2 c = search (needs, earlier-yes)
 
 pub occurs-before-spec : {M : Type 1} → statement M
 occurs-before-spec =
-    tie.close
-    (tie.spec
-    mul-copy-before
-    add-copy-before
-    copy-before-requires
-    enum-told
-    enum-told-2
-    returns
-    returns-2)
+    tie.close (tie.spec copy-before-requires enum-told enum-told-2 returns returns-2)

@@ -2,6 +2,7 @@
 -- target; it has the target's locals. Assumes nothing.
 use native.Mathlib.Omega.{arith}
 use Rattle.alternatives.proofs.Applications.{constant-lacking, raises, raised, raised-within, constant-pushes, constant-pushed}
+use Rattle.alternatives.proofs.Applications.{target-place}
 use borrow.Author.Needs.{needs}
 use Rattle.alternatives.proofs.constant_head.Statement.{statement}
 use Rattle.alternatives.proofs.constant_head.Tie as tie
@@ -11,6 +12,15 @@ returns c = search (needs, constant-lacking)
 
 goal-at-requires : tie.Need-goal-at-requires
 goal-at-requires c κs = search needs
+
+sub-shift-into : tie.Need-sub-shift-into
+sub-shift-into c = search (needs, target-place)
+
+part-shift-into-start : tie.Need-part-shift-into-start
+part-shift-into-start c = search (needs, target-place)
+
+part-shift-into-end : tie.Need-part-shift-into-end
+part-shift-into-end c = search needs
 
 slice-aggregate-shift-into : tie.Need-slice-aggregate-shift-into
 slice-aggregate-shift-into c = search needs
@@ -71,6 +81,9 @@ constant-head-spec =
     (tie.spec
     returns
     goal-at-requires
+    sub-shift-into
+    part-shift-into-start
+    part-shift-into-end
     slice-aggregate-shift-into
     shift-into-requires
     add-match-goal

@@ -5,11 +5,22 @@ use borrow.Author.Tests.{not-true}
 use native.Mathlib.Omega.{arith}
 use Rattle.alternatives.proofs.Applications.{numbers, argument-whole, argument-ends, fits-match, fits-build}
 use Rattle.alternatives.proofs.Arguments.{placed-at, places, depth, few-records, part-whole, unlike, no-argument, ending, looks}
+use Rattle.alternatives.proofs.Arguments.{top-whole, target-within, top-within}
 use Rattle.alternatives.proofs.Arguments.{comparable, unfitting, again, lacking, found}
 use Rattle.builds.proofs.Refutations.{skeleton-comparable}
 use borrow.Author.Needs.{needs}
 use Rattle.alternatives.proofs.find_argument.Statement.{statement}
 use Rattle.alternatives.proofs.find_argument.Tie as tie
+
+-- places that lie far back, from one between
+abbrev placed-before : tie.Else4 → tie.After-placed
+placed-before c = search
+
+abbrev stored-before : tie.After-placed → tie.After-goal-at
+stored-before c = search
+
+abbrev place-before : tie.After-placed → tie.After-place-argument
+place-before c = search
 
 goal-at-requires : tie.Need-goal-at-requires
 goal-at-requires c κs = search needs
@@ -71,15 +82,44 @@ part-may-be-start c = search needs
 part-may-be-end : tie.Need-part-may-be-end
 part-may-be-end c = search needs
 
+sub-may-be-2 : tie.Need-sub-may-be-2
+sub-may-be-2 c =
+    let placed : tie.After-placed = search in
+    let place-argument : tie.After-place-argument = search in
+    let goal-at : tie.After-goal-at = search in
+    let start : tie.Start = search in
+    omega (
+      arith,
+      top-within _ _ _ _ (start .pre .0) _ (goal-at .goal-at .ensures .0) _ _ _
+          (placed-at _ _ _ _ _ _ _ (place-argument .place-argument .ensures) (placed .placed .given .1)),
+    )
+
+part-may-be-start-2 : tie.Need-part-may-be-start-2
+part-may-be-start-2 c =
+    let placed : tie.After-placed = search in
+    let place-argument : tie.After-place-argument = search in
+    let goal-at : tie.After-goal-at = search in
+    let start : tie.Start = search in
+    omega (
+      arith,
+      top-within _ _ _ _ (start .pre .0) _ (goal-at .goal-at .ensures .0) _ _ _
+          (placed-at _ _ _ _ _ _ _ (place-argument .place-argument .ensures) (placed .placed .given .1)),
+    )
+
+part-may-be-end-2 : tie.Need-part-may-be-end-2
+part-may-be-end-2 c = search needs
+
 may-be-requires : tie.Need-may-be-requires
 may-be-requires c κs =
     let placed : tie.After-placed = search in
     let place-argument : tie.After-place-argument = search in
     let goal-at : tie.After-goal-at = search in
     let start : tie.Start = search in
-    let l = looks _ _ _ _ (start .pre .0) _ (goal-at .goal-at .ensures .0) _ _ _
+    let l = top-whole _ _ _ _ (start .pre .0) _ (goal-at .goal-at .ensures .0) _ _ _
     (placed-at _ _ _ _ _ _ _ (place-argument .place-argument .ensures) (placed .placed .given .1)) in
-    search (needs, skeleton-comparable)
+    let e = ending _ _ _ _ (start .pre .0) _ (goal-at .goal-at .ensures .0) _ _ _
+    (placed-at _ _ _ _ _ _ _ (place-argument .place-argument .ensures) (placed .placed .given .1)) in
+    skeleton-comparable _ _ (start .pre .1 .skeleton-table) _ _ l (omega (arith, e .whole))
 
 same-length-3 : tie.Need-same-length-3
 same-length-3 c = search needs
@@ -94,17 +134,68 @@ returns-3 c =
     (placed-at _ _ _ _ _ _ _ (place-argument .place-argument .ensures) (placed .placed .given .1)) _ (start .pre .1) _
     (c .before .may-be .ensures) (not-true _ (c .if3 .taken))
 
+sub-occurs-before : tie.Need-sub-occurs-before
+sub-occurs-before c =
+    let placed : tie.After-placed = search in
+    let place-argument : tie.After-place-argument = search in
+    let goal-at : tie.After-goal-at = search in
+    let start : tie.Start = search in
+    omega (
+      arith,
+      target-within _ _ _ _ (start .pre .0) _ (goal-at .goal-at .ensures .0) _ _ _
+          (placed-at _ _ _ _ _ _ _ (place-argument .place-argument .ensures) (placed .placed .given .1)),
+    )
+
+part-occurs-before-start : tie.Need-part-occurs-before-start
+part-occurs-before-start c =
+    let placed : tie.After-placed = search in
+    let place-argument : tie.After-place-argument = search in
+    let goal-at : tie.After-goal-at = search in
+    let start : tie.Start = search in
+    omega (
+      arith,
+      target-within _ _ _ _ (start .pre .0) _ (goal-at .goal-at .ensures .0) _ _ _
+          (placed-at _ _ _ _ _ _ _ (place-argument .place-argument .ensures) (placed .placed .given .1)),
+    )
+
+part-occurs-before-end : tie.Need-part-occurs-before-end
+part-occurs-before-end c = search needs
+
+sub-occurs-before-2 : tie.Need-sub-occurs-before-2
+sub-occurs-before-2 c =
+    let placed : tie.After-placed = search in
+    let place-argument : tie.After-place-argument = search in
+    let goal-at : tie.After-goal-at = search in
+    let start : tie.Start = search in
+    omega (
+      arith,
+      top-within _ _ _ _ (start .pre .0) _ (goal-at .goal-at .ensures .0) _ _ _
+          (placed-at _ _ _ _ _ _ _ (place-argument .place-argument .ensures) (placed .placed .given .1)),
+    )
+
+part-occurs-before-start-2 : tie.Need-part-occurs-before-start-2
+part-occurs-before-start-2 c =
+    let placed : tie.After-placed = search in
+    let place-argument : tie.After-place-argument = search in
+    let goal-at : tie.After-goal-at = search in
+    let start : tie.Start = search in
+    omega (
+      arith,
+      top-within _ _ _ _ (start .pre .0) _ (goal-at .goal-at .ensures .0) _ _ _
+          (placed-at _ _ _ _ _ _ _ (place-argument .place-argument .ensures) (placed .placed .given .1)),
+    )
+
+part-occurs-before-end-2 : tie.Need-part-occurs-before-end-2
+part-occurs-before-end-2 c = search needs
+
 occurs-before-requires : tie.Need-occurs-before-requires
 occurs-before-requires c κs =
     let placed : tie.After-placed = search in
     let place-argument : tie.After-place-argument = search in
     let goal-at : tie.After-goal-at = search in
     let start : tie.Start = search in
-    let q = places _ _ _ _ (start .pre .0) _ (goal-at .goal-at .ensures .0) _ _ (start .pre .1) (start .pre .2) in (
-      looks _ _ _ _ (start .pre .0) _ (goal-at .goal-at .ensures .0) _ _ _
-          (placed-at _ _ _ _ _ _ _ (place-argument .place-argument .ensures) (placed .placed .given .1)),
-      omega (arith, q .few, q .within),
-    )
+    looks _ _ _ _ (start .pre .0) _ (goal-at .goal-at .ensures .0) _ _ _
+    (placed-at _ _ _ _ _ _ _ (place-argument .place-argument .ensures) (placed .placed .given .1))
 
 same-length-4 : tie.Need-same-length-4
 same-length-4 c = search needs
@@ -149,9 +240,10 @@ build-goal-requires c κs = search needs
 
 put-goal-requires : tie.Need-put-goal-requires
 put-goal-requires c κs =
-    let placed : tie.After-placed = search in
-    let place-argument : tie.After-place-argument = search in
-    let goal-at : tie.After-goal-at = search in
+    let else4 : tie.Else4 = search in
+    let placed = placed-before else4 in
+    let place-argument = place-before placed in
+    let goal-at = stored-before placed in
     let start : tie.Start = search in
     let n = numbers _ _ _ _ (start .pre .0) _ (goal-at .goal-at .ensures .0) in
     let e = ending _ _ _ _ (start .pre .0) _ (goal-at .goal-at .ensures .0) _ _ _
@@ -165,9 +257,10 @@ put-goal-requires c κs =
 
 add-put-goal : tie.Need-add-put-goal
 add-put-goal c =
-    let placed : tie.After-placed = search in
-    let place-argument : tie.After-place-argument = search in
-    let goal-at : tie.After-goal-at = search in
+    let else4 : tie.Else4 = search in
+    let placed = placed-before else4 in
+    let place-argument = place-before placed in
+    let goal-at = stored-before placed in
     let start : tie.Start = search in
     let e = ending _ _ _ _ (start .pre .0) _ (goal-at .goal-at .ensures .0) _ _ _
     (placed-at _ _ _ _ _ _ _ (place-argument .place-argument .ensures) (placed .placed .given .1)) in
@@ -178,9 +271,10 @@ match-goal-requires c κs = search needs
 
 put-goal-requires-2 : tie.Need-put-goal-requires-2
 put-goal-requires-2 c κs =
-    let placed : tie.After-placed = search in
-    let place-argument : tie.After-place-argument = search in
-    let goal-at : tie.After-goal-at = search in
+    let else4 : tie.Else4 = search in
+    let placed = placed-before else4 in
+    let place-argument = place-before placed in
+    let goal-at = stored-before placed in
     let start : tie.Start = search in
     let n = numbers _ _ _ _ (start .pre .0) _ (goal-at .goal-at .ensures .0) in
     let e = ending _ _ _ _ (start .pre .0) _ (goal-at .goal-at .ensures .0) _ _ _
@@ -195,26 +289,26 @@ put-goal-requires-2 c κs =
           (omega (arith, start .pre .0 .ready .bounds .easy-room, start .pre .0 .ready .bounds .top)),
     )
 
-mul-t33 : tie.Need-mul-t33
-mul-t33 c = search needs
+mul-t35 : tie.Need-mul-t35
+mul-t35 c = search needs
 
-add-t51 : tie.Need-add-t51
-add-t51 c =
+add-t39 : tie.Need-add-t39
+add-t39 c =
     let else4 : tie.Else4 = search in
-    let placed : tie.After-placed = search in
-    let place-argument : tie.After-place-argument = search in
-    let goal-at : tie.After-goal-at = search in
+    let placed = placed-before else4 in
+    let place-argument = place-before placed in
+    let goal-at = stored-before placed in
     let start : tie.Start = search in
     let e = ending _ _ _ _ (start .pre .0) _ (goal-at .goal-at .ensures .0) _ _ _
     (placed-at _ _ _ _ _ _ _ (place-argument .place-argument .ensures) (placed .placed .given .1)) in
     omega (arith, e .most, start .pre .0 .ready .bounds .top)
 
-add-t52 : tie.Need-add-t52
-add-t52 c =
+add-t59 : tie.Need-add-t59
+add-t59 c =
     let else4 : tie.Else4 = search in
-    let placed : tie.After-placed = search in
-    let place-argument : tie.After-place-argument = search in
-    let goal-at : tie.After-goal-at = search in
+    let placed = placed-before else4 in
+    let place-argument = place-before placed in
+    let goal-at = stored-before placed in
     let start : tie.Start = search in
     let e = ending _ _ _ _ (start .pre .0) _ (goal-at .goal-at .ensures .0) _ _ _
     (placed-at _ _ _ _ _ _ _ (place-argument .place-argument .ensures) (placed .placed .given .1)) in
@@ -224,18 +318,9 @@ same-length-6 : tie.Need-same-length-6
 same-length-6 c =
     let put-goal2 : tie.After-put-goal2 = search in
     let put-goal : tie.After-put-goal = search in
-    let occurs-before : tie.After-occurs-before = search in
-    let bytes2 : tie.After-bytes2 = search in
-    let slice-known2 : tie.After-slice-known2 = search in
-    let place-argument : tie.After-place-argument = search in
+    let else4 : tie.Else4 = search in
+    let place-argument = place-before (placed-before else4) in
     put-goal2 .put-goal2 .kept .0 ∙ put-goal .put-goal .kept .0 ∙ place-argument .place-argument .kept .0
-
--- places that lie far back, from one between
-abbrev placed-before : tie.Else4 → tie.After-placed
-placed-before c = search
-
-abbrev stored-before : tie.After-placed → tie.After-goal-at
-stored-before c = search
 
 returns-6 : tie.Need-returns-6
 returns-6 c =
@@ -246,7 +331,7 @@ returns-6 c =
     let placed = placed-before else4 in
     let goal-at = stored-before placed in
     let start : tie.Start = search in
-    let place-argument : tie.After-place-argument = search in
+    let place-argument = place-before placed in
     found _ _ _ _ (start .pre .0) _ (goal-at .goal-at .ensures .0) _ _ _
     (placed-at _ _ _ _ _ _ _ (place-argument .place-argument .ensures) (placed .placed .given .1)) _ _ _ _ _ _
     (argument-ends _ _ _ _ (start .pre .0) _ (goal-at .goal-at .ensures .0) _ (start .pre .1)) (occurs-before .occurs-before .ensures)
@@ -273,9 +358,18 @@ find-argument-spec =
     sub-may-be
     part-may-be-start
     part-may-be-end
+    sub-may-be-2
+    part-may-be-start-2
+    part-may-be-end-2
     may-be-requires
     same-length-3
     returns-3
+    sub-occurs-before
+    part-occurs-before-start
+    part-occurs-before-end
+    sub-occurs-before-2
+    part-occurs-before-start-2
+    part-occurs-before-end-2
     occurs-before-requires
     same-length-4
     returns-4
@@ -288,8 +382,8 @@ find-argument-spec =
     add-put-goal
     match-goal-requires
     put-goal-requires-2
-    mul-t33
-    add-t51
-    add-t52
+    mul-t35
+    add-t39
+    add-t59
     same-length-6
     returns-6)

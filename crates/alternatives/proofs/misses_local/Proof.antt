@@ -12,11 +12,29 @@ Inv-loop p i work j e target argument k₀ k = k ≤ 32
 abbrev μ-loop : tie.MeasureT-loop
 μ-loop p i work j e target argument k₀ k = 32 - k
 
+sub-loose-locals : tie.Need-sub-loose-locals Inv-loop μ-loop
+sub-loose-locals c = search needs
+
+part-loose-locals-start : tie.Need-part-loose-locals-start Inv-loop μ-loop
+part-loose-locals-start c = search needs
+
+part-loose-locals-end : tie.Need-part-loose-locals-end Inv-loop μ-loop
+part-loose-locals-end c = search needs
+
 slice-aggregate-loose-locals : tie.Need-slice-aggregate-loose-locals Inv-loop μ-loop
 slice-aggregate-loose-locals c = search needs
 
 loose-locals-requires : tie.Need-loose-locals-requires Inv-loop μ-loop
 loose-locals-requires c κs = search needs
+
+sub-loose-locals-2 : tie.Need-sub-loose-locals-2 Inv-loop μ-loop
+sub-loose-locals-2 c = search needs
+
+part-loose-locals-start-2 : tie.Need-part-loose-locals-start-2 Inv-loop μ-loop
+part-loose-locals-start-2 c = search needs
+
+part-loose-locals-end-2 : tie.Need-part-loose-locals-end-2 Inv-loop μ-loop
+part-loose-locals-end-2 c = search needs
 
 slice-aggregate-loose-locals-2 : tie.Need-slice-aggregate-loose-locals-2 Inv-loop μ-loop
 slice-aggregate-loose-locals-2 c = search needs
@@ -57,8 +75,14 @@ misses-local-spec =
     (tie.spec
     Inv-loop
     μ-loop
+    sub-loose-locals
+    part-loose-locals-start
+    part-loose-locals-end
     slice-aggregate-loose-locals
     loose-locals-requires
+    sub-loose-locals-2
+    part-loose-locals-start-2
+    part-loose-locals-end-2
     slice-aggregate-loose-locals-2
     loose-locals-requires-2
     loop-holds

@@ -1,7 +1,7 @@
 -- `alternatives::place_argument` meets its contract. A part that can be moved out of the binders above it is written at the top; no
 -- other one is an argument. Assumes nothing.
 use native.Mathlib.Omega.{arith}
-use Rattle.alternatives.proofs.Arguments.{lowers, stuck, moved-more, moved-end, copied-room, placed}
+use Rattle.alternatives.proofs.Arguments.{lowers, stuck, part-within, moved-end, copied-room, placed}
 use borrow.Author.Needs.{needs}
 use Rattle.alternatives.proofs.place_argument.Statement.{statement}
 use Rattle.alternatives.proofs.place_argument.Tie as tie
@@ -11,6 +11,15 @@ mul-part c = search needs
 
 add-part : tie.Need-add-part
 add-part c = search needs
+
+sub-lower-into : tie.Need-sub-lower-into
+sub-lower-into c = search (needs, part-within)
+
+part-lower-into-start : tie.Need-part-lower-into-start
+part-lower-into-start c = search (needs, part-within)
+
+part-lower-into-end : tie.Need-part-lower-into-end
+part-lower-into-end c = search needs
 
 slice-aggregate-lower-into : tie.Need-slice-aggregate-lower-into
 slice-aggregate-lower-into c = search needs
@@ -30,9 +39,6 @@ same-length c = search needs
 returns : tie.Need-returns
 returns c = search (needs, stuck)
 
-sub-n : tie.Need-sub-n
-sub-n c = search (needs, moved-more)
-
 sub-copy-into : tie.Need-sub-copy-into
 sub-copy-into c = search needs
 
@@ -49,8 +55,8 @@ part-copy-into-end c =
 copy-into-requires : tie.Need-copy-into-requires
 copy-into-requires c κs = search (needs, copied-room)
 
-add-t11 : tie.Need-add-t11
-add-t11 c =
+add-t10 : tie.Need-add-t10
+add-t10 c =
     let moved : tie.After-moved = search in
     let lower-into : tie.After-lower-into = search in
     let start : tie.Start = search in
@@ -73,17 +79,19 @@ place-argument-spec =
     (tie.spec
     mul-part
     add-part
+    sub-lower-into
+    part-lower-into-start
+    part-lower-into-end
     slice-aggregate-lower-into
     lower-into-requires
     enum-known-moved
     enum-told
     same-length
     returns
-    sub-n
     sub-copy-into
     part-copy-into-start
     part-copy-into-end
     copy-into-requires
-    add-t11
+    add-t10
     same-length-2
     returns-2)

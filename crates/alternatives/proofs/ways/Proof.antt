@@ -1,7 +1,7 @@
 -- `alternatives::ways` meets its contract. The end of the target tells how many records it has, and the end of the head where the
 -- argument begins, whose skeleton is a skeleton in every state that stands there. Assumes nothing.
-use Rattle.alternatives.proofs.Applications.{numbers, argument-whole, argument-walkable, argument-source, locals, counted}
-use Rattle.alternatives.proofs.Applications.{depths-room}
+use Rattle.alternatives.proofs.Applications.{numbers, argument-walkable, argument-source, locals, counted}
+use Rattle.alternatives.proofs.Applications.{depths-room, target-place, argument-place, argument-slice}
 use borrow.Author.Needs.{needs}
 use Rattle.alternatives.proofs.ways.Statement.{statement}
 use Rattle.alternatives.proofs.ways.Tie as tie
@@ -23,20 +23,39 @@ end-at-requires-2 c κs =
     let start : tie.Start = search in
     numbers _ _ _ _ (start .pre) _ (goal-at .goal-at .ensures .0) .head
 
-is-rigid-requires : tie.Need-is-rigid-requires
-is-rigid-requires c κs = search (needs, argument-whole)
+sub-part : tie.Need-sub-part
+sub-part c = search (needs, argument-place)
 
-ask-at-requires : tie.Need-ask-at-requires
-ask-at-requires c κs =
+part-part-start : tie.Need-part-part-start
+part-part-start c = search (needs, argument-place)
+
+part-part-end : tie.Need-part-part-end
+part-part-end c = search needs
+
+is-rigid-requires : tie.Need-is-rigid-requires
+is-rigid-requires c κs = search (needs, argument-slice)
+
+ask-part-requires : tie.Need-ask-part-requires
+ask-part-requires c κs =
     let goal-at : tie.After-goal-at = search in
     let start : tie.Start = search in
-    argument-walkable _ _ _ _ (start .pre) _ (goal-at .goal-at .ensures .0) _ (c .before .end-at2 .ensures)
+    let end-at : tie.After-end-at2 = search in
+    argument-walkable _ _ _ _ (start .pre) _ (goal-at .goal-at .ensures .0) _ (end-at .end-at2 .ensures)
 
-skeleton-at-requires : tie.Need-skeleton-at-requires
-skeleton-at-requires c κs = search (needs, argument-source)
+skeleton-of-requires : tie.Need-skeleton-of-requires
+skeleton-of-requires c κs = search (needs, argument-source)
 
 lacks-local-requires : tie.Need-lacks-local-requires
 lacks-local-requires c κs = search (needs, locals)
+
+sub-depths-into : tie.Need-sub-depths-into
+sub-depths-into c = search (needs, target-place)
+
+part-depths-into-start : tie.Need-part-depths-into-start
+part-depths-into-start c = search (needs, target-place)
+
+part-depths-into-end : tie.Need-part-depths-into-end
+part-depths-into-end c = search needs
 
 slice-aggregate-depths-into : tie.Need-slice-aggregate-depths-into
 slice-aggregate-depths-into c = search needs
@@ -44,11 +63,11 @@ slice-aggregate-depths-into c = search needs
 depths-into-requires : tie.Need-depths-into-requires
 depths-into-requires c κs = search (needs, depths-room)
 
-sub-t16 : tie.Need-sub-t16
-sub-t16 c = search needs
+sub-t17 : tie.Need-sub-t17
+sub-t17 c = search needs
 
-add-t20 : tie.Need-add-t20
-add-t20 c = search needs
+add-t26 : tie.Need-add-t26
+add-t26 c = search needs
 
 returns : tie.Need-returns
 returns c = search (needs, counted)
@@ -61,12 +80,18 @@ ways-spec =
     add-head
     end-at-requires
     end-at-requires-2
+    sub-part
+    part-part-start
+    part-part-end
     is-rigid-requires
-    ask-at-requires
-    skeleton-at-requires
+    ask-part-requires
+    skeleton-of-requires
     lacks-local-requires
+    sub-depths-into
+    part-depths-into-start
+    part-depths-into-end
     slice-aggregate-depths-into
     depths-into-requires
-    sub-t16
-    add-t20
+    sub-t17
+    add-t26
     returns)

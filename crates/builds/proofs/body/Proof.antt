@@ -3,7 +3,7 @@
 use native.Mathlib.Omega.{arith}
 use borrow.Author.Tests.{not-true, not-false}
 use Rattle.builds.proofs.Building.{choosing, end-within, bodied, choices-within, used-chosen, unused, body-tree, pushes, eta}
-use Rattle.builds.proofs.Building.{stored-pushed}
+use Rattle.builds.proofs.Building.{stored-pushed, target-within, argument-within}
 use borrow.Author.Needs.{needs}
 use Rattle.builds.proofs.body.Statement.{statement}
 use Rattle.builds.proofs.body.Tie as tie
@@ -15,6 +15,24 @@ use Rattle.records.proofs.is_eta.Reads as is-eta-reads
 
 goal-at-requires : tie.Need-goal-at-requires
 goal-at-requires c κs = search needs
+
+sub-body-into : tie.Need-sub-body-into
+sub-body-into c = search (needs, target-within)
+
+part-body-into-start : tie.Need-part-body-into-start
+part-body-into-start c = search (needs, target-within)
+
+part-body-into-end : tie.Need-part-body-into-end
+part-body-into-end c = search needs
+
+sub-body-into-2 : tie.Need-sub-body-into-2
+sub-body-into-2 c = search (needs, argument-within)
+
+part-body-into-start-2 : tie.Need-part-body-into-start-2
+part-body-into-start-2 c = search (needs, argument-within)
+
+part-body-into-end-2 : tie.Need-part-body-into-end-2
+part-body-into-end-2 c = search needs
 
 slice-aggregate-body-into : tie.Need-slice-aggregate-body-into
 slice-aggregate-body-into c = search needs
@@ -101,13 +119,24 @@ returns-3 c =
     let body-into : tie.After-body-into = search in
     let goal-at : tie.After-goal-at = search in
     let start : tie.Start = search in
-    search (needs, stored-pushed, bodied, used-chosen, not-false)
+    let b = bodied _ _ _ _ (start .pre .0) (start .pre .1) _ (goal-at .goal-at .ensures .0) _ _ _ _ _ _ (omega arith)
+    (body-into .body-into .ensures) in
+    let u = used-chosen _ _ _ _ (start .pre .0) (start .pre .1) _ (goal-at .goal-at .ensures .0) _ _ _ _ _ _ (omega arith)
+    (body-into .body-into .ensures) _ (any-chosen .any-chosen .ensures) in
+    stored-pushed _ _ _ _ _ _ _ _ _ _ _ (start .pre .0) (start .pre .1) (goal-at .goal-at .ensures .0) b u (is-eta .is-eta .ensures)
+    (not-false _ (else1 .if1 .left)) (else2 .if2 .left) (push-abstraction .push-abstraction .ensures)
 
 pub body-spec : {M : Type 1} → statement M
 body-spec =
     tie.close
     (tie.spec
     goal-at-requires
+    sub-body-into
+    part-body-into-start
+    part-body-into-end
+    sub-body-into-2
+    part-body-into-start-2
+    part-body-into-end-2
     slice-aggregate-body-into
     slice-aggregate-body-into-2
     body-into-requires

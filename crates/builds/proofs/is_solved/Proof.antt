@@ -1,6 +1,6 @@
 -- `builds::is_solved` meets its contract. The value's first record, the walk over its body and the walk over body and target decide
 -- one condition each. Assumes nothing.
-use Rattle.builds.proofs.Solutions.{solved-other, body-whole, substituting, solved-unused, solved-yes, solved-no}
+use Rattle.builds.proofs.Solutions.{solved-other, asking, substituting, solved-unused, solved-yes, solved-no}
 use borrow.Author.Needs.{needs}
 use Rattle.builds.proofs.is_solved.Statement.{statement}
 use Rattle.builds.proofs.is_solved.Tie as tie
@@ -11,11 +11,23 @@ shared-slice-read-if1 c = search needs
 returns : tie.Need-returns
 returns c = solved-other _ _ _ _ (c .if1 .taken)
 
-add-ask-at : tie.Need-add-ask-at
-add-ask-at c = search needs
+add-body : tie.Need-add-body
+add-body c = search needs
 
-ask-at-requires : tie.Need-ask-at-requires
-ask-at-requires c κs = search (needs, body-whole)
+sub-body : tie.Need-sub-body
+sub-body c = search needs
+
+part-body-start : tie.Need-part-body-start
+part-body-start c = search needs
+
+part-body-end : tie.Need-part-body-end
+part-body-end c = search needs
+
+ask-part-requires : tie.Need-ask-part-requires
+ask-part-requires c κs =
+    let else1 : tie.Else1 = search in
+    let start : tie.Start = search in
+    asking _ _ _ _ (else1 .if1 .left) (start .pre)
 
 enum-told : tie.Need-enum-told
 enum-told c = search needs
@@ -26,8 +38,23 @@ returns-2 c = search (needs, solved-unused)
 enum-told-2 : tie.Need-enum-told-2
 enum-told-2 c = search needs
 
-add-is-substituted : tie.Need-add-is-substituted
-add-is-substituted c = search needs
+sub-is-substituted : tie.Need-sub-is-substituted
+sub-is-substituted c = search needs
+
+part-is-substituted-start : tie.Need-part-is-substituted-start
+part-is-substituted-start c = search needs
+
+part-is-substituted-end : tie.Need-part-is-substituted-end
+part-is-substituted-end c = search needs
+
+sub-is-substituted-2 : tie.Need-sub-is-substituted-2
+sub-is-substituted-2 c = search needs
+
+part-is-substituted-start-2 : tie.Need-part-is-substituted-start-2
+part-is-substituted-start-2 c = search needs
+
+part-is-substituted-end-2 : tie.Need-part-is-substituted-end-2
+part-is-substituted-end-2 c = search needs
 
 is-substituted-requires : tie.Need-is-substituted-requires
 is-substituted-requires c κs = search (needs, substituting)
@@ -50,12 +77,20 @@ is-solved-spec =
     (tie.spec
     shared-slice-read-if1
     returns
-    add-ask-at
-    ask-at-requires
+    add-body
+    sub-body
+    part-body-start
+    part-body-end
+    ask-part-requires
     enum-told
     returns-2
     enum-told-2
-    add-is-substituted
+    sub-is-substituted
+    part-is-substituted-start
+    part-is-substituted-end
+    sub-is-substituted-2
+    part-is-substituted-start-2
+    part-is-substituted-end-2
     is-substituted-requires
     enum-told-3
     enum-told-4

@@ -1,6 +1,7 @@
 -- `builds::plan` meets its contract. Each way out is one law: one body is left, or the bodies are counted. Assumes nothing.
 use lib.ListN.{getD-replicate}
 use Rattle.terms.specs.Figures.{valueRecords}
+use Rattle.builds.proofs.Building.{target-within, argument-within}
 use Rattle.builds.proofs.Planning.{comparing, forced-dead, forced-live, counting, bodies}
 use borrow.Author.Needs.{needs}
 use Rattle.builds.proofs.plan.Statement.{statement}
@@ -33,6 +34,24 @@ same-length-2 c = search needs
 returns-2 : tie.Need-returns-2
 returns-2 c = search (needs, forced-live, getD-replicate, valueRecords)
 
+sub-copies : tie.Need-sub-copies
+sub-copies c = search (needs, target-within)
+
+part-copies-start : tie.Need-part-copies-start
+part-copies-start c = search (needs, target-within)
+
+part-copies-end : tie.Need-part-copies-end
+part-copies-end c = search needs
+
+sub-copies-2 : tie.Need-sub-copies-2
+sub-copies-2 c = search (needs, argument-within)
+
+part-copies-start-2 : tie.Need-part-copies-start-2
+part-copies-start-2 c = search (needs, argument-within)
+
+part-copies-end-2 : tie.Need-part-copies-end-2
+part-copies-end-2 c = search needs
+
 copies-requires : tie.Need-copies-requires
 copies-requires c κs = search (needs, counting)
 
@@ -55,6 +74,12 @@ plan-spec =
     enum-known-branch
     same-length-2
     returns-2
+    sub-copies
+    part-copies-start
+    part-copies-end
+    sub-copies-2
+    part-copies-start-2
+    part-copies-end-2
     copies-requires
     same-length-3
     returns-3)

@@ -1,10 +1,12 @@
 -- `records::pass_part` meets its contract. The invariant: as many terms stand at `at` as parts are missing there; the measure is what is
 -- left of the table. Assumes nothing.
-use Rattle.records.proofs.Passing.{passing-start}
+use mathlib.Core.Path.{ap, _∙_}
 use Prim.Native.Nat.{_+_, _-_}
-use lib.ListN.{length}
+use lib.ListN.{length, getD}
 use native.Mathlib.Omega.{arith}
-use Rattle.records.proofs.Passing.{Passing, passing-step, reached-end, reached-short}
+use Rattle.records.specs.Record.{readParts}
+use Rattle.records.proofs.Record.{read-parts}
+use Rattle.records.proofs.Passing.{Passing, passing-start, passing-step, reached-end, reached-short}
 use borrow.Author.Needs.{needs}
 use Rattle.records.proofs.pass_part.Statement.{statement}
 use Rattle.records.proofs.pass_part.Tie as tie
@@ -24,14 +26,17 @@ sub-if1 c = search needs
 returns : tie.Need-returns Inv-loop μ-loop
 returns c = search (needs, reached-short)
 
-shared-slice-read-t10 : tie.Need-shared-slice-read-t10 Inv-loop μ-loop
-shared-slice-read-t10 c = search needs
+shared-slice-read-from-byte : tie.Need-shared-slice-read-from-byte Inv-loop μ-loop
+shared-slice-read-from-byte c = search needs
+
+from-byte-requires : tie.Need-from-byte-requires Inv-loop μ-loop
+from-byte-requires c κs = search needs
 
 sub-missing : tie.Need-sub-missing Inv-loop μ-loop
 sub-missing c = search needs
 
-parts-requires : tie.Need-parts-requires Inv-loop μ-loop
-parts-requires c κs = search needs
+following-requires : tie.Need-following-requires Inv-loop μ-loop
+following-requires c κs = search needs
 
 add-missing : tie.Need-add-missing Inv-loop μ-loop
 add-missing c = omega arith
@@ -46,10 +51,13 @@ loop-again : tie.Need-loop-again Inv-loop μ-loop
 loop-again c =
     let in-loop : tie.In-loop Inv-loop μ-loop = search in
     let at-loop : tie.At-loop Inv-loop μ-loop = search in
+    let start : tie.Start Inv-loop μ-loop = search in
+    let from-byte : tie.After-from-byte Inv-loop μ-loop = search in
     let shared-slice-known : tie.After-shared-slice-known Inv-loop μ-loop = search in
     passing-step _ _ _ _ (at-loop .loop .inv) (in-loop .loop-test .taken) (omega arith)
-    (omega (arith, shared-slice-known .shared-slice-known .given (at-loop .loop .at + 2 + 1))) _ (c .parts .ensures .0)
-    (c .parts .ensures .1)
+    (omega (arith, shared-slice-known .shared-slice-known .given (at-loop .loop .at + 2 + 1))) _ (c .following .ensures .0
+    ∙ ap readParts (from-byte .from-byte .ensures) ∙ read-parts (getD (start .args .s .now) (at-loop .loop .at) 0))
+    (c .following .ensures .1)
 
 returns-2 : tie.Need-returns-2 Inv-loop μ-loop
 returns-2 c = search (needs, reached-end)
@@ -63,9 +71,10 @@ pass-part-spec =
     loop-holds
     sub-if1
     returns
-    shared-slice-read-t10
+    shared-slice-read-from-byte
+    from-byte-requires
     sub-missing
-    parts-requires
+    following-requires
     add-missing
     add-at
     loop-less

@@ -10,8 +10,8 @@ use borrow.Author.Needs.{needs}
 use Rattle.records.proofs.uses_local.Statement.{statement}
 use Rattle.records.proofs.uses_local.Tie as tie
 
-ask-at-requires : tie.Need-ask-at-requires
-ask-at-requires c κs = (search (needs, tree-whole), omega arith)
+ask-part-requires : tie.Need-ask-part-requires
+ask-part-requires c κs = (search (needs, tree-whole), omega arith)
 
 enum-told : tie.Need-enum-told
 enum-told c = search needs
@@ -21,12 +21,13 @@ enum-told-2 c = search needs
 
 returns : tie.Need-returns
 returns c =
-    let ask-at : tie.After-ask-at = search in
+    let ask-part : tie.After-ask-part = search in
     let start : tie.Start = search in
-    λ t e. sym (walked-table _ (λ (u : Term). uses (start .args .n) u ≡ false) _ _ (c .enum-told .given .1) (ask-at .ask-at .ensures) t e)
+    λ t e. sym (walked-table _ (λ (u : Term). uses (start .args .n) u ≡ false) _ _ (c .enum-told .given .1)
+    (ask-part .ask-part .ensures) t e)
 
 returns-2 : tie.Need-returns-2
 returns-2 c = search (needs, not-false-true, walked-table-no, uses, false)
 
 pub uses-local-spec : {M : Type 1} → statement M
-uses-local-spec = tie.close (tie.spec ask-at-requires enum-told enum-told-2 returns returns-2)
+uses-local-spec = tie.close (tie.spec ask-part-requires enum-told enum-told-2 returns returns-2)

@@ -1,4 +1,4 @@
--- `abstractions::is_substituted_local` meets its contract. By whether the local is the one that is put for: then the argument, shifted,
+-- `shifting::is_substituted_local` meets its contract. By whether the local is the one that is put for: then the argument, shifted,
 -- must stand in the target, and else the local with its number outside. Assumes nothing.
 use Rattle.shifting.proofs.Substitution.{substituted-copy, substituted-copy-no, substituted-local-kind, substituted-local}
 use Rattle.shifting.proofs.Substitution.{substituted-local-no}
@@ -21,9 +21,6 @@ enum-told c = search needs
 returns : tie.Need-returns
 returns c = search (needs, substituted-copy-no)
 
-add-t11 : tie.Need-add-t11
-add-t11 c = search needs
-
 returns-2 : tie.Need-returns-2
 returns-2 c = search (needs, substituted-copy)
 
@@ -38,12 +35,6 @@ returns-3 c = search (needs, substituted-local-kind)
 
 number-at-requires-2 : tie.Need-number-at-requires-2
 number-at-requires-2 c κs = search needs
-
-add-t17 : tie.Need-add-t17
-add-t17 c = search needs
-
-add-t18 : tie.Need-add-t18
-add-t18 c = search needs
 
 returns-4 : tie.Need-returns-4
 returns-4 c = search (needs, substituted-local)
@@ -60,13 +51,10 @@ is-substituted-local-spec =
     enum-known-copy
     enum-told
     returns
-    add-t11
     returns-2
     lowered-requires
     shared-slice-read-if2
     returns-3
     number-at-requires-2
-    add-t17
-    add-t18
     returns-4
     returns-5)

@@ -11,20 +11,14 @@ number-at-requires c κs = search needs
 end-at-requires : tie.Need-end-at-requires
 end-at-requires c κs = search needs
 
-add-t10 : tie.Need-add-t10
-add-t10 c = search needs
-
 returns : tie.Need-returns
 returns c = search (needs, compared-any)
 
-ask-at-requires : tie.Need-ask-at-requires
-ask-at-requires c κs = search needs
+ask-part-requires : tie.Need-ask-part-requires
+ask-part-requires c κs = search needs
 
 enum-known-closed : tie.Need-enum-known-closed
 enum-known-closed c = search needs
-
-add-t14 : tie.Need-add-t14
-add-t14 c = search needs
 
 enum-told : tie.Need-enum-told
 enum-told c = search needs
@@ -41,11 +35,9 @@ fits-hole-spec =
     (tie.spec
     number-at-requires
     end-at-requires
-    add-t10
     returns
-    ask-at-requires
+    ask-part-requires
     enum-known-closed
-    add-t14
     enum-told
     returns-2
     returns-3)

@@ -5,8 +5,8 @@ use borrow.Author.Needs.{needs}
 use Rattle.skeletons.proofs.is_exact.Statement.{statement}
 use Rattle.skeletons.proofs.is_exact.Tie as tie
 
-exact-at-requires : tie.Need-exact-at-requires
-exact-at-requires c κs = search (needs, tree-whole)
+exact-part-requires : tie.Need-exact-part-requires
+exact-part-requires c κs = search (needs, tree-whole)
 
 enum-told : tie.Need-enum-told
 enum-told c = search needs
@@ -21,4 +21,4 @@ returns-2 : tie.Need-returns-2
 returns-2 c = search (needs, exact-not)
 
 pub is-exact-spec : {M : Type 1} → statement M
-is-exact-spec = tie.close (tie.spec exact-at-requires enum-told enum-told-2 returns returns-2)
+is-exact-spec = tie.close (tie.spec exact-part-requires enum-told enum-told-2 returns returns-2)

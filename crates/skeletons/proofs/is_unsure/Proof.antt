@@ -1,6 +1,7 @@
 -- `skeletons::is_unsure` meets its contract: each test is one case of the definition, by the kinds of the body and of its argument. Assumes
 -- nothing.
 use native.Mathlib.Omega.{arith}
+use Rattle.records.proofs.Slices.{whole-slice, slice-length}
 use Rattle.skeletons.proofs.Tests.{unsure-hole, sure-other, head-whole, argument-whole, unsure-argument, sure-argument, sure-outer}
 use Rattle.skeletons.proofs.Tests.{sure-exact, unsure-inexact}
 use borrow.Author.Needs.{needs}
@@ -26,14 +27,14 @@ shared-slice-read-if3 : tie.Need-shared-slice-read-if3
 shared-slice-read-if3 c =
     let else2 : tie.Else2 = search in
     let start : tie.Start = search in
-    omega (arith, argument-whole _ (else2 .if2 .left) _ (c .before .end-at .ensures) (start .pre) .least)
+    omega (arith, argument-whole _ (else2 .if2 .left) _ (c .before .end-at .ensures) (start .pre .0) .least)
 
 number-at-requires-2 : tie.Need-number-at-requires-2
 number-at-requires-2 c κs =
     let end-at : tie.After-end-at = search in
     let else2 : tie.Else2 = search in
     let start : tie.Start = search in
-    omega (arith, argument-whole _ (else2 .if2 .left) _ (end-at .end-at .ensures) (start .pre) .least)
+    omega (arith, argument-whole _ (else2 .if2 .left) _ (end-at .end-at .ensures) (start .pre .0) .least)
 
 returns-3 : tie.Need-returns-3
 returns-3 c = search (needs, unsure-argument)
@@ -43,7 +44,7 @@ shared-slice-read-if4 c =
     let end-at : tie.After-end-at = search in
     let else2 : tie.Else2 = search in
     let start : tie.Start = search in
-    omega (arith, argument-whole _ (else2 .if2 .left) _ (end-at .end-at .ensures) (start .pre) .least)
+    omega (arith, argument-whole _ (else2 .if2 .left) _ (end-at .end-at .ensures) (start .pre .0) .least)
 
 returns-4 : tie.Need-returns-4
 returns-4 c = search (needs, sure-argument)
@@ -53,13 +54,24 @@ number-at-requires-3 c κs =
     let end-at : tie.After-end-at = search in
     let else2 : tie.Else2 = search in
     let start : tie.Start = search in
-    omega (arith, argument-whole _ (else2 .if2 .left) _ (end-at .end-at .ensures) (start .pre) .least)
+    omega (arith, argument-whole _ (else2 .if2 .left) _ (end-at .end-at .ensures) (start .pre .0) .least)
 
 returns-5 : tie.Need-returns-5
 returns-5 c = search (needs, sure-outer)
 
-exact-at-requires : tie.Need-exact-at-requires
-exact-at-requires c κs = search (needs, head-whole)
+sub-exact-part : tie.Need-sub-exact-part
+sub-exact-part c = search needs
+
+part-exact-part-start : tie.Need-part-exact-part-start
+part-exact-part-start c = search needs
+
+part-exact-part-end : tie.Need-part-exact-part-end
+part-exact-part-end c = search needs
+
+exact-part-requires : tie.Need-exact-part-requires
+exact-part-requires c κs =
+    let start : tie.Start = search in
+    (search (needs, whole-slice, head-whole), omega (arith, slice-length (start .args .b .now) 4))
 
 enum-told : tie.Need-enum-told
 enum-told c = search needs
@@ -89,7 +101,10 @@ is-unsure-spec =
     returns-4
     number-at-requires-3
     returns-5
-    exact-at-requires
+    sub-exact-part
+    part-exact-part-start
+    part-exact-part-end
+    exact-part-requires
     enum-told
     enum-told-2
     returns-6

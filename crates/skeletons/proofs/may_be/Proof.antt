@@ -14,7 +14,7 @@ enum-told-2 : tie.Need-enum-told-2
 enum-told-2 c = search needs
 
 returns : tie.Need-returns
-returns c = may-be-fits _ _ _
+returns c = may-be-fits _ _
 
 returns-2 : tie.Need-returns-2
 returns-2 c = search (needs, may-be-not)

@@ -6,6 +6,15 @@ use borrow.Author.Needs.{needs}
 use Rattle.steps.proofs.apply_into.Statement.{statement}
 use Rattle.steps.proofs.apply_into.Tie as tie
 
+sub-shift-into : tie.Need-sub-shift-into
+sub-shift-into c = search needs
+
+part-shift-into-start : tie.Need-part-shift-into-start
+part-shift-into-start c = search needs
+
+part-shift-into-end : tie.Need-part-shift-into-end
+part-shift-into-end c = search needs
+
 slice-aggregate-shift-into : tie.Need-slice-aggregate-shift-into
 slice-aggregate-shift-into c = search needs
 
@@ -69,6 +78,9 @@ pub apply-into-spec : {M : Type 1} → statement M
 apply-into-spec =
     tie.close
     (tie.spec
+    sub-shift-into
+    part-shift-into-start
+    part-shift-into-end
     slice-aggregate-shift-into
     shift-into-requires
     put-record-requires

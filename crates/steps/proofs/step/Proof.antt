@@ -2,6 +2,7 @@
 -- nothing.
 use mathlib.Core.Path.{sym, _∙_}
 use native.Mathlib.Omega.{arith}
+use Rattle.records.proofs.Slices.{part-slice, whole-slice}
 use Rattle.steps.proofs.Opening.{opens}
 use borrow.Author.Needs.{needs}
 use Rattle.steps.proofs.step.Statement.{statement}
@@ -46,16 +47,38 @@ same-length-3 c = search needs
 returns-3 : tie.Need-returns-3
 returns-3 c = search needs
 
+sub-is-rigid : tie.Need-sub-is-rigid
+sub-is-rigid c =
+    let goal-at : tie.After-goal-at = search in
+    let start : tie.Start = search in
+    omega (
+      arith,
+      opens _ _ _ _ _ (start .pre .0) (start .pre .1) (goal-at .goal-at .ensures .0) (goal-at .goal-at .ensures .1) .part .least,
+    )
+
+part-is-rigid-start : tie.Need-part-is-rigid-start
+part-is-rigid-start c =
+    let goal-at : tie.After-goal-at = search in
+    let start : tie.Start = search in
+    omega (
+      arith,
+      opens _ _ _ _ _ (start .pre .0) (start .pre .1) (goal-at .goal-at .ensures .0) (goal-at .goal-at .ensures .1) .part .least,
+    )
+
+part-is-rigid-end : tie.Need-part-is-rigid-end
+part-is-rigid-end c = search needs
+
 is-rigid-requires : tie.Need-is-rigid-requires
 is-rigid-requires c κs =
     let goal-at : tie.After-goal-at = search in
     let start : tie.Start = search in
-    opens _ _ _ _ _ (start .pre .0) (start .pre .1) (goal-at .goal-at .ensures .0) (goal-at .goal-at .ensures .1) .part
+    whole-slice _ _
+    (opens _ _ _ _ _ (start .pre .0) (start .pre .1) (goal-at .goal-at .ensures .0) (goal-at .goal-at .ensures .1) .part)
 
 step-rigid-requires : tie.Need-step-rigid-requires
 step-rigid-requires c κs =
     let is-rigid : tie.After-is-rigid = search in
-    (search (needs, opens), search needs, λ t x. sym (is-rigid .is-rigid .ensures t x) ∙ c .before .if4 .taken)
+    (search (needs, opens), search needs, λ t x. sym (is-rigid .is-rigid .ensures t (part-slice _ _ t x)) ∙ c .before .if4 .taken)
 
 same-length-4 : tie.Need-same-length-4
 same-length-4 c = search needs
@@ -87,6 +110,9 @@ step-spec =
     step-record-requires
     same-length-3
     returns-3
+    sub-is-rigid
+    part-is-rigid-start
+    part-is-rigid-end
     is-rigid-requires
     step-rigid-requires
     same-length-4

@@ -7,6 +7,15 @@ use Rattle.sweeping.proofs.contract_abstraction.Tie as tie
 contracts-requires : tie.Need-contracts-requires
 contracts-requires c κs = search needs
 
+sub-substitute-into : tie.Need-sub-substitute-into
+sub-substitute-into c = search needs
+
+part-substitute-into-start : tie.Need-part-substitute-into-start
+part-substitute-into-start c = search needs
+
+part-substitute-into-end : tie.Need-part-substitute-into-end
+part-substitute-into-end c = search needs
+
 substitute-into-requires : tie.Need-substitute-into-requires
 substitute-into-requires c κs = search (needs, eta-substitution)
 
@@ -37,6 +46,9 @@ contract-abstraction-spec =
     tie.close
     (tie.spec
     contracts-requires
+    sub-substitute-into
+    part-substitute-into-start
+    part-substitute-into-end
     substitute-into-requires
     returns
     add-n

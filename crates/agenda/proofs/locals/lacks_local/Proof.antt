@@ -13,6 +13,15 @@ Inv-loop p i work j marks k₀ k = k ≤ patternRecords
 abbrev μ-loop : tie.MeasureT-loop
 μ-loop p i work j marks k₀ k = patternRecords - k
 
+sub-loose-locals : tie.Need-sub-loose-locals Inv-loop μ-loop
+sub-loose-locals c = search needs
+
+part-loose-locals-start : tie.Need-part-loose-locals-start Inv-loop μ-loop
+part-loose-locals-start c = search needs
+
+part-loose-locals-end : tie.Need-part-loose-locals-end Inv-loop μ-loop
+part-loose-locals-end c = search needs
+
 slice-aggregate-loose-locals : tie.Need-slice-aggregate-loose-locals Inv-loop μ-loop
 slice-aggregate-loose-locals c = search needs
 
@@ -49,6 +58,9 @@ lacks-local-spec =
     (tie.spec
     Inv-loop
     μ-loop
+    sub-loose-locals
+    part-loose-locals-start
+    part-loose-locals-end
     slice-aggregate-loose-locals
     loose-locals-requires
     loop-holds

@@ -3,22 +3,32 @@
 use mathlib.Core.Path.{refl}
 use native.Mathlib.Omega.{arith}
 use borrow.Author.Tests.{not-false}
-use borrow.Author.Needs.{needs}
-use Rattle.builds.proofs.Decisions.{walkable, decided-open, comparing, decided-dead, decided-live}
+use Rattle.builds.proofs.Decisions.{part-place, walkable, decided-open, comparing, decided-dead, decided-live}
 use Rattle.builds.proofs.Refutations.{part-source, skeleton-tree, judges, decided-refused, exact-form}
+use borrow.Author.Needs.{needs}
 use Rattle.builds.proofs.deciding.decide.Statement.{statement}
 use Rattle.builds.proofs.deciding.decide.Tie as tie
 
 goal-at-requires : tie.Need-goal-at-requires
 goal-at-requires c κs = search needs
 
-ask-at-requires : tie.Need-ask-at-requires
-ask-at-requires c κs =
-    let start : tie.Start = search in
-    walkable _ _ _ _ (start .pre .0) (start .pre .1) _ (c .goal-at .ensures .0)
+sub-part : tie.Need-sub-part
+sub-part c = search (needs, part-place)
 
-skeleton-at-requires : tie.Need-skeleton-at-requires
-skeleton-at-requires c κs = search (needs, part-source)
+part-part-start : tie.Need-part-part-start
+part-part-start c = search (needs, part-place)
+
+part-part-end : tie.Need-part-part-end
+part-part-end c = search needs
+
+ask-part-requires : tie.Need-ask-part-requires
+ask-part-requires c κs =
+    let goal-at : tie.After-goal-at = search in
+    let start : tie.Start = search in
+    walkable _ _ _ _ (start .pre .0) (start .pre .1) _ (goal-at .goal-at .ensures .0)
+
+skeleton-of-requires : tie.Need-skeleton-of-requires
+skeleton-of-requires c κs = search (needs, part-source)
 
 sub-is-exact : tie.Need-sub-is-exact
 sub-is-exact c = search needs
@@ -69,18 +79,18 @@ is-met-requires : tie.Need-is-met-requires
 is-met-requires c κs =
     let else1 : tie.Else1 = search in
     let is-exact : tie.After-is-exact = search in
-    let skeleton-at : tie.After-skeleton-at = search in
+    let skeleton-of : tie.After-skeleton-of = search in
     let goal-at : tie.After-goal-at = search in
     let start : tie.Start = search in
     comparing _ _ _ _ (start .pre .0) (start .pre .1) _ (goal-at .goal-at .ensures .0) _
-    (exact-form _ _ _ _ (start .pre .0) (start .pre .1) _ (goal-at .goal-at .ensures .0) _ _ (skeleton-at .skeleton-at .ensures)
+    (exact-form _ _ _ _ (start .pre .0) (start .pre .1) _ (goal-at .goal-at .ensures .0) _ _ (skeleton-of .skeleton-of .ensures)
     (is-exact .is-exact .result) (not-false _ (else1 .if1 .left)) (is-exact .is-exact .ensures))
 
-add-t37 : tie.Need-add-t37
-add-t37 c =
+add-t41 : tie.Need-add-t41
+add-t41 c =
     let else1 : tie.Else1 = search in
     let is-exact : tie.After-is-exact = search in
-    let skeleton-at : tie.After-skeleton-at = search in
+    let skeleton-of : tie.After-skeleton-of = search in
     let goal-at : tie.After-goal-at = search in
     let start : tie.Start = search in
     omega arith
@@ -93,11 +103,11 @@ returns-3 c =
     let is-met : tie.After-is-met = search in
     let else1 : tie.Else1 = search in
     let is-exact : tie.After-is-exact = search in
-    let skeleton-at : tie.After-skeleton-at = search in
+    let skeleton-of : tie.After-skeleton-of = search in
     let goal-at : tie.After-goal-at = search in
     let start : tie.Start = search in
     decided-live _ _ _ _ (start .pre .0) (start .pre .1) _ (goal-at .goal-at .ensures .0) _
-    (exact-form _ _ _ _ (start .pre .0) (start .pre .1) _ (goal-at .goal-at .ensures .0) _ _ (skeleton-at .skeleton-at .ensures)
+    (exact-form _ _ _ _ (start .pre .0) (start .pre .1) _ (goal-at .goal-at .ensures .0) _ _ (skeleton-of .skeleton-of .ensures)
     (is-exact .is-exact .result) (not-false _ (else1 .if1 .left)) (is-exact .is-exact .ensures)) _ _ (is-met .is-met .ensures)
     (c .before .if3 .taken)
 
@@ -109,11 +119,11 @@ returns-4 c =
     let is-met : tie.After-is-met = search in
     let else1 : tie.Else1 = search in
     let is-exact : tie.After-is-exact = search in
-    let skeleton-at : tie.After-skeleton-at = search in
+    let skeleton-of : tie.After-skeleton-of = search in
     let goal-at : tie.After-goal-at = search in
     let start : tie.Start = search in
     decided-dead _ _ _ _ (start .pre .0) (start .pre .1) _ (goal-at .goal-at .ensures .0) _
-    (exact-form _ _ _ _ (start .pre .0) (start .pre .1) _ (goal-at .goal-at .ensures .0) _ _ (skeleton-at .skeleton-at .ensures)
+    (exact-form _ _ _ _ (start .pre .0) (start .pre .1) _ (goal-at .goal-at .ensures .0) _ _ (skeleton-of .skeleton-of .ensures)
     (is-exact .is-exact .result) (not-false _ (else1 .if1 .left)) (is-exact .is-exact .ensures)) _ _ (is-met .is-met .ensures)
     (c .if3 .left)
 
@@ -122,8 +132,11 @@ decide-spec =
     tie.close
     (tie.spec
     goal-at-requires
-    ask-at-requires
-    skeleton-at-requires
+    sub-part
+    part-part-start
+    part-part-end
+    ask-part-requires
+    skeleton-of-requires
     sub-is-exact
     part-is-exact-start
     part-is-exact-end
@@ -140,7 +153,7 @@ decide-spec =
     part-is-met-start
     part-is-met-end
     is-met-requires
-    add-t37
+    add-t41
     same-length-3
     returns-3
     same-length-4

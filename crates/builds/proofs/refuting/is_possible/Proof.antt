@@ -1,9 +1,18 @@
 -- `builds::refuting::is_possible` meets its contract: each way out is one law of goals that a skeleton refuses, by the goal's kind and the
 -- skeleton's first record. Assumes nothing.
+use Rattle.builds.proofs.Refutations.{target-place, argument-place, possible, possible-match, possible-other, possible-build}
 use borrow.Author.Needs.{needs}
-use Rattle.builds.proofs.Refutations.{possible, possible-match, possible-other, possible-build}
 use Rattle.builds.proofs.refuting.is_possible.Statement.{statement}
 use Rattle.builds.proofs.refuting.is_possible.Tie as tie
+
+sub-target : tie.Need-sub-target
+sub-target c = search (needs, target-place)
+
+part-target-start : tie.Need-part-target-start
+part-target-start c = search (needs, target-place)
+
+part-target-end : tie.Need-part-target-end
+part-target-end c = search needs
 
 may-be-requires : tie.Need-may-be-requires
 may-be-requires c κs = search needs
@@ -23,6 +32,15 @@ shared-slice-read-if3 c = search needs
 returns-3 : tie.Need-returns-3
 returns-3 c = search (needs, possible-other)
 
+sub-may-build : tie.Need-sub-may-build
+sub-may-build c = search (needs, argument-place)
+
+part-may-build-start : tie.Need-part-may-build-start
+part-may-build-start c = search (needs, argument-place)
+
+part-may-build-end : tie.Need-part-may-build-end
+part-may-build-end c = search needs
+
 may-build-requires : tie.Need-may-build-requires
 may-build-requires c κs =
     let else1 : tie.Else1 = search in
@@ -36,11 +54,17 @@ pub is-possible-spec : {M : Type 1} → statement M
 is-possible-spec =
     tie.close
     (tie.spec
+    sub-target
+    part-target-start
+    part-target-end
     may-be-requires
     returns
     shared-slice-read-if2
     returns-2
     shared-slice-read-if3
     returns-3
+    sub-may-build
+    part-may-build-start
+    part-may-build-end
     may-build-requires
     returns-4)

@@ -3,6 +3,7 @@
 use Prim.Native.Nat.{_+_, _-_, _/_, _≤_}
 use mathlib.Core.Path.{_≡_, refl}
 use native.Mathlib.Omega.{arith}
+use Rattle.records.proofs.Slices.{whole-slice}
 use Rattle.ordering.proofs.Ordering.{branches-head, branches-argument, branches-part}
 use borrow.Author.Needs.{needs}
 use Rattle.ordering.proofs.order.candidates.Statement.{statement}
@@ -26,8 +27,17 @@ end-at-requires-2 c κs = search needs
 sub-n : tie.Need-sub-n Inv-loop μ-loop
 sub-n c = search needs
 
+sub-is-rigid : tie.Need-sub-is-rigid Inv-loop μ-loop
+sub-is-rigid c = search needs
+
+part-is-rigid-start : tie.Need-part-is-rigid-start Inv-loop μ-loop
+part-is-rigid-start c = search needs
+
+part-is-rigid-end : tie.Need-part-is-rigid-end Inv-loop μ-loop
+part-is-rigid-end c = search needs
+
 is-rigid-requires : tie.Need-is-rigid-requires Inv-loop μ-loop
-is-rigid-requires c κs = search (needs, branches-argument)
+is-rigid-requires c κs = search (needs, whole-slice, branches-argument)
 
 add-result : tie.Need-add-result Inv-loop μ-loop
 add-result c = search needs
@@ -72,6 +82,9 @@ candidates-spec =
     end-at-requires
     end-at-requires-2
     sub-n
+    sub-is-rigid
+    part-is-rigid-start
+    part-is-rigid-end
     is-rigid-requires
     add-result
     returns

@@ -1,6 +1,8 @@
 -- `ordering::order::cost` is safe. The goal's part, its target and, of a goal to build, the argument's target are terms that stand where
 -- the goal says. Assumes nothing.
 use Rattle.ordering.proofs.Ordering.{weighs-part, weighs-entries, weighs-branches, weighs-locals, weighs-copies}
+use Rattle.ordering.proofs.Ordering.{weighs-target-within}
+use Rattle.ordering.proofs.Ordering.{weighs-argument-within}
 use borrow.Author.Needs.{needs}
 use Rattle.ordering.proofs.order.cost.Statement.{statement}
 use Rattle.ordering.proofs.order.cost.Tie as tie
@@ -38,6 +40,24 @@ lacks-local-requires c κs = search (needs, weighs-locals)
 returns-3 : tie.Need-returns-3
 returns-3 c = search needs
 
+sub-copies : tie.Need-sub-copies
+sub-copies c = search (needs, weighs-target-within)
+
+part-copies-start : tie.Need-part-copies-start
+part-copies-start c = search (needs, weighs-target-within)
+
+part-copies-end : tie.Need-part-copies-end
+part-copies-end c = search needs
+
+sub-copies-2 : tie.Need-sub-copies-2
+sub-copies-2 c = search (needs, weighs-argument-within)
+
+part-copies-start-2 : tie.Need-part-copies-start-2
+part-copies-start-2 c = search (needs, weighs-argument-within)
+
+part-copies-end-2 : tie.Need-part-copies-end-2
+part-copies-end-2 c = search needs
+
 copies-requires : tie.Need-copies-requires
 copies-requires c κs = search (needs, weighs-copies)
 
@@ -62,6 +82,12 @@ cost-spec =
     returns-2
     lacks-local-requires
     returns-3
+    sub-copies
+    part-copies-start
+    part-copies-end
+    sub-copies-2
+    part-copies-start-2
+    part-copies-end-2
     copies-requires
     bodies-requires
     returns-4)
