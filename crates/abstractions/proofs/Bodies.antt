@@ -25,7 +25,7 @@ use Rattle.records.proofs.Slices.{part-slice, whole-slice, slice-ends, slice-le
 use Rattle.substitution.specs.Writers.{NumbersFit, Wrote}
 use Rattle.copying.proofs.Stores.{written-then}
 use Rattle.shifting.specs.Tests.{PartsComparable, Shifted, PartsCompared}
-use Rattle.shifting.proofs.Slices.{application-slices, abstraction-slices, argument-slice, ends-app, ends-lam, ends-leaf}
+use Rattle.shifting.proofs.Slices.{application-slices, abstraction-slices, slices-argument, slices-app, slices-lam, slices-leaf}
 use Rattle.shifting.proofs.Tests.{compared-ends, compared-yes, compared-no}
 use Rattle.abstractions.specs.Bodies.{chosenIn, Counting, CopiesCounted, BodySource, Chose, Body}
 
@@ -60,19 +60,19 @@ module _ (s : List ℕ) (d : ℕ) (e : List ℕ) where
   pub counts-application : (h r n m : ℕ) → NoCopy s d e → getD s 0 0 ≡ 0 → CopiesCounted (slice s 4) d e h n
       → CopiesCounted (slice s (4 + h)) d e r m → CopiesCounted s d e (4 + h + r) (n + m)
   counts-application h r n m far z x y = record {
-    ends = ends-app s h r z (x .ends) (y .ends);
+    ends = slices-app s h r z (x .ends) (y .ends);
     few = omega (arith, x .few, y .few);
     exact = λ t b u v.
         let a = application-slices s t u z in
         let p : copies b d t ≡ copies b d (a .f) + copies b d (a .a) =
         ap (copies b d) (a .is) ∙ copies-app b d (a .f) (a .a) (λ q. far .differs t b u v (a .is ∙ q)) in
-        ap₂ _+_ (x .exact (a .f) b (a .head) v) (y .exact (a .a) b (argument-slice s h t (x .ends) a) v) ∙ sym p;
+        ap₂ _+_ (x .exact (a .f) b (a .head) v) (y .exact (a .a) b (slices-argument s h t (x .ends) a) v) ∙ sym p;
   }
 
   pub counts-abstraction : (r n : ℕ) → NoCopy s d e → getD s 0 0 ≡ 1 → CopiesCounted (slice s 4) (d + 1) e r n
       → CopiesCounted s d e (4 + r) n
   counts-abstraction r n far z x = record {
-    ends = ends-lam s r z (x .ends);
+    ends = slices-lam s r z (x .ends);
     few = omega (arith, x .few);
     exact = λ t b u v.
         let a = abstraction-slices s t u z in
@@ -83,7 +83,7 @@ module _ (s : List ℕ) (d : ℕ) (e : List ℕ) where
 
   pub counts-leaf : NoCopy s d e → Whole s 0 → ¬ (getD s 0 0 ≡ 0) → ¬ (getD s 0 0 ≡ 1) → CopiesCounted s d e 4 0
   counts-leaf far x n m = record {
-    ends = ends-leaf s n m x;
+    ends = slices-leaf s n m x;
     few = omega arith;
     exact = λ t b u v. sym (copies-leaf b d t (leaf-at s 0 t u n m) (far .differs t b u v));
   }
@@ -109,7 +109,7 @@ module _ (s : List ℕ) (d : ℕ) (e : List ℕ) where
     counting-argument h n z y =
         let a = application-slices s (x .target .tree) (x .target .part) z in
         record {
-          target = whole (slice s (4 + h)) 0 (a .a) (argument-slice s h (x .target .tree) (y .ends) a);
+          target = whole (slice s (4 + h)) 0 (a .a) (slices-argument s h (x .target .tree) (y .ends) a);
           argument = x .argument;
           shallow = omega (arith, x .shallow, slice-length s (4 + h));
         }
@@ -158,7 +158,7 @@ module _ (s : List ℕ) (d : ℕ) (e m : List ℕ) (k : ℕ) (out : List ℕ) (o
           × (w ≡ sets out o (encode (body b d t (chosenIn m) k)))
       body-parts t b u v =
           let a = application-slices s t u z in
-          let c = argument-slice s h t (x .ends) a in
+          let c = slices-argument s h t (x .ends) a in
           let apart : ¬ (app (a .f) (a .a) ≡ shift d 0 b) = λ g. far .differs t b u v (a .is ∙ g) in
           let number : i ≡ k + copies b d (a .f) = x .number (a .f) b (a .head) v in
           let count : copies b d t ≡ copies b d (a .f) + copies b d (a .a) =
@@ -180,7 +180,7 @@ module _ (s : List ℕ) (d : ℕ) (e m : List ℕ) (k : ℕ) (out : List ℕ) (o
 
       pub body-application : (r′ end′ j′ : ℕ) → r′ ≡ 4 + h + r → end′ ≡ end → j′ ≡ j → Body s d e m k out o w r′ end′ j′
       body-application r′ end′ j′ er ee ej = record {
-        ends = subst (Ends s 0) (sym er) (ends-app s h r z (x .ends) (y .ends));
+        ends = subst (Ends s 0) (sym er) (slices-app s h r z (x .ends) (y .ends));
         short = omega (arith, x .short, y .short);
         few = omega (arith, x .few, y .few);
         number = λ t b u v. ej ∙ body-parts t b u v .0;
@@ -209,7 +209,7 @@ module _ (s : List ℕ) (d : ℕ) (e m : List ℕ) (k : ℕ) (out : List ℕ) (o
 
       pub body-abstraction : (r′ end′ j′ : ℕ) → r′ ≡ 4 + r → end′ ≡ end → j′ ≡ j → Body s d e m k out o q r′ end′ j′
       body-abstraction r′ end′ j′ er ee ej = record {
-        ends = subst (Ends s 0) (sym er) (ends-lam s r z (x .ends));
+        ends = subst (Ends s 0) (sym er) (slices-lam s r z (x .ends));
         short = omega (arith, x .short);
         few = omega (arith, x .few);
         number = λ t b u v. ej ∙ body-below t b u v .0;
@@ -283,7 +283,7 @@ module _ (s : List ℕ) (d : ℕ) (e : List ℕ) (last k room o : ℕ) (x : Body
         let c = ap size (a .is) in
         let g = y .ends .exact (a .f) (a .head) in
         let f : NumbersFit (shift 1 d (app (a .f) (a .a))) = subst (λ (t : Term). NumbersFit (shift 1 d t)) (a .is) (b .fits) in
-        choosing (slice s (4 + h)) d e last i rest n (a .a) (argument-slice s h (b .tree) (y .ends) a) (x .argument)
+        choosing (slice s (4 + h)) d e last i rest n (a .a) (slices-argument s h (b .tree) (y .ends) a) (x .argument)
         (omega (arith, x .most, slice-length s (4 + h))) (f .1) (omega (arith, b .shallow))
         (omega (arith, b .enough, size-shift 1 d (b .tree), y .short)) (omega (arith, x .choices, y .few))
 

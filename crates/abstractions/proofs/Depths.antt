@@ -13,7 +13,7 @@ use Rattle.matching.specs.Occurrences.{partAt}
 use Rattle.records.specs.Parts.{slice, Part, Whole, Ends}
 use Rattle.records.proofs.Parts.{whole, leaf-size}
 use Rattle.records.proofs.Slices.{part-slice}
-use Rattle.shifting.proofs.Slices.{application-slices, abstraction-slices, argument-slice, ends-app, ends-lam, ends-leaf}
+use Rattle.shifting.proofs.Slices.{application-slices, abstraction-slices, slices-argument, slices-app, slices-lam, slices-leaf}
 use Rattle.abstractions.specs.Occurrences.{DepthOf, DepthSource, WroteDepths}
 use Rattle.abstractions.proofs.Occurrences.{index-app, index-lam, index-leaf}
 
@@ -45,7 +45,7 @@ module _ (s : List ℕ) (d o : ℕ) where
         let v = application-slices s (x .tree) (x .part) z in
         let n = ap size (v .is) in
         let m = e .exact (v .f) (v .head) in
-        depth-source (slice s (4 + h)) d rest (o + (4 + h) / 4) (v .a) (argument-slice s h (x .tree) e v) (omega (arith, x .enough))
+        depth-source (slice s (4 + h)) d rest (o + (4 + h) / 4) (v .a) (slices-argument s h (x .tree) e v) (omega (arith, x .enough))
         (omega (arith, x .shallow))
 
     pub depths-body : getD s 0 0 ≡ 1 → DepthSource (slice s 4) (d + 1) rest (o + 1)
@@ -71,10 +71,10 @@ module _ (s : List ℕ) (d o : ℕ) where
     pub depths-application : (q after : List ℕ) (h r : ℕ) → getD s 0 0 ≡ 0 → WroteDepths (slice s 4) d (set out o d) (o + 1) q h
         → WroteDepths (slice s (4 + h)) d q (o + (4 + h) / 4) after r → WroteDepths s d out o after (4 + h + r)
     depths-application q after h r z x y = record {
-      ends = ends-app s h r z (x .ends) (y .ends);
+      ends = slices-app s h r z (x .ends) (y .ends);
       depths = λ t p j i.
           let v = application-slices s t p z in
-          let w = argument-slice s h t (x .ends) v in
+          let w = slices-argument s h t (x .ends) v in
           let m = x .ends .exact (v .f) (v .head) in
           let n : j < size (app (v .f) (v .a)) = omega (arith, ap size (v .is)) in
           index-app (At after) d (v .f) (v .a)
@@ -88,7 +88,7 @@ module _ (s : List ℕ) (d o : ℕ) where
           ∙ ap (λ (u : Term). partAt d u j .0) (sym (v .is));
       others = λ t p i c.
           let v = application-slices s t p z in
-          let w = argument-slice s h t (x .ends) v in
+          let w = slices-argument s h t (x .ends) v in
           let m = x .ends .exact (v .f) (v .head) in
           let n = ap size (v .is) in
           y .others (v .a) w i (⊎-elim (λ u. inl (omega arith)) (λ u. inr (omega arith)) c)
@@ -99,7 +99,7 @@ module _ (s : List ℕ) (d o : ℕ) where
     pub depths-abstraction : (after : List ℕ) (r : ℕ) → getD s 0 0 ≡ 1 → WroteDepths (slice s 4) (d + 1) (set out o d) (o + 1) after r
         → WroteDepths s d out o after (4 + r)
     depths-abstraction after r z x = record {
-      ends = ends-lam s r z (x .ends);
+      ends = slices-lam s r z (x .ends);
       depths = λ t p j i.
           let v = abstraction-slices s t p z in
           let n : j < size (lam (v .b)) = omega (arith, ap size (v .is)) in
@@ -118,7 +118,7 @@ module _ (s : List ℕ) (d o : ℕ) where
 
     pub depths-leaf : Whole s 0 → ¬ (getD s 0 0 ≡ 0) → ¬ (getD s 0 0 ≡ 1) → WroteDepths s d out o (set out o d) 4
     depths-leaf x n m = record {
-      ends = ends-leaf s n m x;
+      ends = slices-leaf s n m x;
       depths = λ t p j i.
           let k = leaf-size s 0 t p n m in
           index-leaf (At (set out o d)) d t (at-index (set out o d) (o + 0) o d (omega arith) own) j (omega arith);

@@ -1,3 +1,4 @@
 pub mod Agreement
 pub mod Frame
 pub mod Lacking
+pub mod Missing

@@ -125,8 +125,8 @@ module _ (P W : List ℕ) (s : Agenda) (a : List Entry) where
         (x .ready .hs) (x .ready .state)
 
     module _ (r : StoredGoal) (y : StoredAt W (s .deferred) r) where
-      pub numbers : StoredBounds P W s r
-      numbers = from (StoredBounds P W s r) (λ gs hs l f b t z.
+      pub stored-bounds : StoredBounds P W s r
+      stored-bounds = from (StoredBounds P W s r) (λ gs hs l f b t z.
           let v = site r gs hs l f b t y z in
           let u = application-parts P (r .part) f b (v .part) in
           record {
@@ -146,11 +146,11 @@ module _ (P W : List ℕ) (s : Agenda) (a : List Entry) where
       pub argument-place : (h : ℕ) → Ends P (r .part + 4) h → h ≤ length P
       argument-place h e = omega (arith, e .within)
 
-      pub argument-slice : (h : ℕ) → Ends P (r .part + 4) h → Whole (slice P h) 0
-      argument-slice h e = whole-slice P h (argument-whole h e)
+      pub argument-whole-slice : (h : ℕ) → Ends P (r .part + 4) h → Whole (slice P h) 0
+      argument-whole-slice h e = whole-slice P h (argument-whole h e)
 
       pub argument-walkable : (h : ℕ) → Ends P (r .part + 4) h → Whole (slice P h) 0 × (patternRecords + length (slice P h) ≤ tableBytes)
-      argument-walkable h e = (argument-slice h e, omega (arith, slice-length P h, x .ready .bounds .short))
+      argument-walkable h e = (argument-whole-slice h e, omega (arith, slice-length P h, x .ready .bounds .short))
 
       pub argument-source : (h : ℕ) → Ends P (r .part + 4) h → SkeletonSource (slice P h) W a
       argument-source h e = from (SkeletonSource (slice P h) W a) (λ gs hs l f b t z.
@@ -162,7 +162,7 @@ module _ (P W : List ℕ) (s : Agenda) (a : List Entry) where
       locals = from (Locals P (r .part + 4) W (r .target)) (λ gs hs l f b t z.
           let v = site r gs hs l f b t y z .target in
           record {
-            part = numbers .head;
+            part = stored-bounds .head;
             short = x .ready .bounds .short;
             target = marks-at W (r .target) 0 patternRecords t (v .part)
                 (closed-more (patternRecords - size (app f b)) (0 + patternRecords) t (omega arith) (v .closed))
@@ -196,7 +196,7 @@ module _ (P W : List ℕ) (s : Agenda) (a : List Entry) where
       }
 
       pub target-place : r .target ≤ length W
-      target-place = omega (arith, numbers .target .least)
+      target-place = omega (arith, stored-bounds .target .least)
 
       pub depths-room : DepthSource (slice W (r .target)) 0 valueRecords 0
       depths-room = from (DepthSource (slice W (r .target)) 0 valueRecords 0) (λ gs hs l f b t z.
@@ -375,7 +375,7 @@ pub parts-pushed :
     → Y ≡ sets W (s .top) (storedBytes i) → X ≡ sets Y (s .top + 8) (storedBytes j) → getD W (r .target) 0 ≡ 0
     → Move relinking P W s a (Way 0) X (record { top = s .top + 2 * 8; easy = s .top + 8; deferred = r .next }) a
 parts-pushed P W s a r h e Y X i j x y eh ee p q first second =
-    parts P W s a r h e Y X (x .ready .bounds) eh ee y (numbers P W s a x r y)
+    parts P W s a r h e Y X (x .ready .bounds) eh ee y (stored-bounds P W s a x r y)
     (stored-as W Y (s .top) i (storedMatch h e (s .easy)) p first)
     (stored-as Y X (s .top + 8) j (storedMatch (r .part + 4) (r .target + 4) (s .top)) q second) x
 
@@ -431,7 +431,7 @@ module _ (P W : List ℕ) (s : Agenda) (a : List Entry) (x : ApplicationDeferred
 
   module _ (c : List ℕ) (w : Raised c) (i : StoredGoal) (ei : i ≡ storedMatch (r .part + 4) (r .target) (r .next)) where
     pub constant-pushes : Pushes W s i c
-    constant-pushes = let n = numbers P W s a x r y in rw ei (record {
+    constant-pushes = let n = stored-bounds P W s a x r y in rw ei (record {
       whole = x .ready .bounds .whole;
       room = omega (arith, n .room, w .short);
       easy = omega (arith, x .ready .bounds .easy-room, x .ready .bounds .top);
@@ -462,7 +462,8 @@ module _ (P W : List ℕ) (s : Agenda) (a : List Entry) (x : ApplicationDeferred
 
       kept-goal : Kept X₁ X at
       kept-goal =
-          kept-sets (storedBytes next-stored) X₁ X at at q (omega arith) (omega (arith, whole-X₁, numbers P W s a x r y .room, w .short))
+          kept-sets (storedBytes next-stored) X₁ X at at q (omega arith)
+          (omega (arith, whole-X₁, stored-bounds P W s a x r y .room, w .short))
 
       kept-both : Kept W X (s .top)
       kept-both = kept-then W X₁ X (s .top) at (omega arith) kept-target kept-goal
@@ -472,7 +473,7 @@ module _ (P W : List ℕ) (s : Agenda) (a : List Entry) (x : ApplicationDeferred
           → State 0 P X last a (match f (constant t) ∷ gs) hs l
       constant-state gs hs l f b t v z =
           let g = v .target in
-          let n = numbers P W s a x r y in
+          let n = stored-bounds P W s a x r y in
           let bounds = x .ready .bounds in
           let k : length c ≡ 4 * size (shift 1 0 t) = ap length (w .is f b t v) ∙ encode-length (shift 1 0 t) in
           let j : size (shift 1 0 t) ≡ size t = size-shift 1 0 t in
@@ -518,10 +519,10 @@ module _ (P W : List ℕ) (s : Agenda) (a : List Entry) (x : ApplicationDeferred
         }) hs z;
         kept = kept-both .same;
         higher = omega arith;
-        falls = omega (arith, x .ready .bounds .top, numbers P W s a x r y .room, w .short);
+        falls = omega (arith, x .ready .bounds .top, stored-bounds P W s a x r y .room, w .short);
         bounds = from P W s a x (Bounds P X last) (λ gs hs l f b t z.
             let v = site P W s a r gs hs l f b t y z in
-            let n = numbers P W s a x r y in
+            let n = stored-bounds P W s a x r y in
             let bounds = x .ready .bounds in
             let k : length c ≡ 4 * size (shift 1 0 t) = ap length (w .is f b t v) ∙ encode-length (shift 1 0 t) in
             record {

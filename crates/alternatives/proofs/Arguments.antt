@@ -1,6 +1,6 @@
 -- The argument that is found at a part of the target: written at the top it is the argument's target, and what the head builds from. The
 -- part uses none of the binders above it, so that it is its own argument moved in below them. Assumes nothing.
---   Standing f b t   how the argument's target stands above the target t of the application of f and b
+--   ArgumentStanding f b t   how the argument's target stands above the target t of the application of f and b
 --   Ending           what its end is
 use mathlib.Core.Path.{_≡_, refl, sym, ap, _∙_, subst}
 use mathlib.Core.Bool.{Bool, true, false}
@@ -47,8 +47,8 @@ use Rattle.agenda.specs.Stored.{storedBytes, StoredAt}
 use Rattle.agenda.specs.State.{targetBytes, Target, State, Easy, Deferred, Chain, relinking}
 use Rattle.agenda.specs.Moves.{Move, Moved, Failed, Branched}
 use Rattle.alternatives.specs.Ways.{Way, Fitting}
-use Rattle.alternatives.specs.Applications.{ApplicationDeferred, Counted, argumentOf, Places, Argument, Placed, ArgumentComparable}
-use Rattle.alternatives.specs.Applications.{Misses}
+use Rattle.alternatives.specs.Applications.{ApplicationDeferred, Counted, argumentOf, Places, Argument, Placed}
+use Rattle.agenda.specs.Locals.{ArgumentComparable, Misses}
 use Rattle.agenda.specs.Heads.{Agree}
 use Rattle.agenda.specs.Stored.{storedMatch, storedBuild}
 use Rattle.agenda.proofs.Frame.{Kept, part-kept, part-stored, target-kept, chain-kept, holds-kept, kept-sets, kept-then, length-stored}
@@ -56,7 +56,7 @@ use Rattle.agenda.proofs.Frame.{goal-stored, chain-match, chain-build}
 use Rattle.builds.proofs.Refutations.{skeleton-part}
 use Rattle.alternatives.proofs.Applications.{application-parts, argument-from, stored-as, live, died, ApplicationSite, MatchState}
 use Rattle.alternatives.proofs.Applications.{site, opened}
-use Rattle.alternatives.proofs.Applications.{from, numbers, argument-ends, dead}
+use Rattle.alternatives.proofs.Applications.{from, stored-bounds, argument-ends, dead}
 
 -- how large and how deep a part is
 part-most : (t : Term) (j : ℕ) → j < size t → partAt 0 t j .0 + size (partAt 0 t j .1) ≤ size t
@@ -157,7 +157,7 @@ module _ (P W : List ℕ) (s : Agenda) (a : List Entry) (x : ApplicationDeferred
           part = v .part;
           few = omega (arith, v .short);
           within = numbered gs hs l f b t z;
-          room = omega (arith, numbers P W s a x r y .room, x .ready .bounds .whole);
+          room = omega (arith, stored-bounds P W s a x r y .room, x .ready .bounds .whole);
           most = omega (arith, x .ready .bounds .whole);
         })
 
@@ -196,14 +196,14 @@ module _ (P W : List ℕ) (s : Agenda) (a : List Entry) (x : ApplicationDeferred
       n .1 t (o .1 .0 .0) (v .target .part) (o .1 .0 .1)))
 
   module _ (X : List ℕ) (end : ℕ) (g : (t : Term) → Part W (r .target) t → Argument W (s .top) t j X end) where
-    pub record Standing (f b t : Term) : Type 0 where
+    pub record ArgumentStanding (f b t : Term) : Type 0 where
       pub found : Argument W (s .top) t j X end
       pub few : size (argumentOf t j) ≤ size t
       pub kept : Kept W X (s .top)
       pub part : Part X (s .top) (argumentOf t j)
       pub target : Part X (r .target) t
 
-    standing : (f b t : Term) → ApplicationSite P W s r f b t → Standing f b t
+    standing : (f b t : Term) → ApplicationSite P W s r f b t → ArgumentStanding f b t
     standing f b t v =
         let o = g t (v .target .part) in
         let e = argumentOf t j in
@@ -215,7 +215,7 @@ module _ (P W : List ℕ) (s : Agenda) (a : List Entry) (x : ApplicationDeferred
           few = m;
           kept = k;
           part = subst (λ (l : List ℕ). Part l (s .top) e) (sym (o .bytes))
-              (part-stored e W (s .top) (omega (arith, numbers P W s a x r y .room, x .ready .bounds .whole, v .target .short)));
+              (part-stored e W (s .top) (omega (arith, stored-bounds P W s a x r y .room, x .ready .bounds .whole, v .target .short)));
           target = part-kept W X (s .top) k (r .target) t (v .target .below) (v .target .part);
         }
 
@@ -261,7 +261,7 @@ module _ (P W : List ℕ) (s : Agenda) (a : List Entry) (x : ApplicationDeferred
         let v = site P W s a r gs hs l f b t y z in
         let o = standing f b t v in
         record {
-          part = numbers P W s a x r y .head;
+          part = stored-bounds P W s a x r y .head;
           short = x .ready .bounds .short;
           target = marks-at X (r .target) 0 patternRecords t (o .target)
               (closed-more (patternRecords - size (app f b)) (0 + patternRecords) t (omega arith) (v .target .closed))
@@ -336,11 +336,11 @@ module _ (P W : List ℕ) (s : Agenda) (a : List Entry) (x : ApplicationDeferred
 
         kept-X : Kept X Y end
         kept-X = kept-sets (storedBytes (storedBuild (r .part + 4) (r .target) (r .next) (s .top))) X Y end end first (omega arith)
-            (omega (arith, ending .whole, ending .most, numbers P W s a x r y .room))
+            (omega (arith, ending .whole, ending .most, stored-bounds P W s a x r y .room))
 
         kept-Y : Kept Y Z (end + 8)
         kept-Y = kept-sets (storedBytes (storedMatch h (s .top) (s .easy))) Y Z (end + 8) (end + 8) second (omega arith)
-            (omega (arith, length-Y, ending .most, numbers P W s a x r y .room))
+            (omega (arith, length-Y, ending .most, stored-bounds P W s a x r y .room))
 
         kept-XZ : Kept X Z end
         kept-XZ = kept-then X Y Z end (end + 8) (omega arith) kept-X kept-Y
@@ -355,7 +355,7 @@ module _ (P W : List ℕ) (s : Agenda) (a : List Entry) (x : ApplicationDeferred
             let e = argumentOf t j in
             let g = v .target in
             let o = standing f b t v in
-            let n = numbers P W s a x r y in
+            let n = stored-bounds P W s a x r y in
             let bounds = x .ready .bounds in
             let c = application-parts P (r .part) f b (v .part) in
             let more = ending .more in
@@ -434,8 +434,8 @@ module _ (P W : List ℕ) (s : Agenda) (a : List Entry) (x : ApplicationDeferred
               kept-then W X Z (s .top) end (omega (arith, ending .more))
               (standing f b t (site P W s a r gs hs l f b t y z) .kept) kept-XZ .same);
           higher = omega (arith, ending .more);
-          falls = omega (arith, x .ready .bounds .top, numbers P W s a x r y .room, ending .more, ending .most);
-          bounds = let n = numbers P W s a x r y in let bounds = x .ready .bounds in record {
+          falls = omega (arith, x .ready .bounds .top, stored-bounds P W s a x r y .room, ending .more, ending .most);
+          bounds = let n = stored-bounds P W s a x r y in let bounds = x .ready .bounds in record {
             whole = length-Z;
             short = bounds .short;
             top = omega (arith, n .room, ending .most);

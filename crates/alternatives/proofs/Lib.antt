@@ -1,3 +1,2 @@
 pub mod Applications
 pub mod Arguments
-pub mod Missing

@@ -7,27 +7,22 @@
 --   Argument W top t j X r         the j-th part of t uses none of the binders above it, and stands moved out of them in X from byte `top`
 --                                  on
 --   Placed W top at j X r          the same of the term of W at byte `at`; or its j-th part is no argument
---   Missing P i k m n b            if b, local k is marked by m and not by n, and the term of P at byte i doesn't use it
---   ArgumentComparable P i W j e   terms stand there, and each loose local of the two targets has a mark
---   Misses P i W j e b             if b, the term of W at byte j has a loose local that neither the one at byte e nor the one of P at byte
---                                  i uses
 use mathlib.Core.Path.{_≡_}
-use mathlib.Core.Bool.{Bool, true, false}
+use mathlib.Core.Bool.{true}
 use mathlib.Core.List.{List}
 use Prim.Native.Nat.{ℕ, _+_, _*_, _<_, _≤_}
 use lib.ListN.{length, getD, take}
 use lib.Seq.{sets}
-use Rattle.terms.specs.Figures.{patternRecords, valueRecords, tableBytes}
-use Rattle.terms.specs.Term.{Term, size, unshift, uses}
+use Rattle.terms.specs.Figures.{valueRecords, tableBytes}
+use Rattle.terms.specs.Term.{Term, size, unshift}
 use Rattle.terms.specs.Table.{encode}
 use Rattle.terms.specs.Listing.{Line}
 use Rattle.terms.specs.Heads.{rigid}
 use Rattle.matching.specs.Goals.{Goal}
 use Rattle.matching.specs.Occurrences.{partAt, Copy, FirstCopy}
-use Rattle.records.specs.Parts.{slice, Part, Whole, Ends}
+use Rattle.records.specs.Parts.{Part, Ends}
 use Rattle.records.specs.declared.Walk.{Walk}
 use Rattle.records.specs.declared.Walk.the-variants.{Upto, No}
-use Rattle.shifting.specs.Locals.{Marks}
 use Rattle.assignments.specs.declared.Entry.{Entry}
 use Rattle.agenda.specs.declared.Agenda.{Agenda}
 use Rattle.agenda.specs.declared.Ways.{Ways}
@@ -69,20 +64,3 @@ pub record Argument (W : List ℕ) (top : ℕ) (t : Term) (j : ℕ) (X : List �
 unfoldable pub Placed : List ℕ → ℕ → ℕ → ℕ → List ℕ → Walk → Type 0
 Placed W top at j X (Upto r) = (t : Term) → Part W at t → Argument W top t j X r
 Placed W top at j X No = (take top X ≡ take top W) × ((t e : Term) → Part W at t → ¬ FirstCopy t j e)
-
-unfoldable pub Missing : List ℕ → ℕ → ℕ → ℕ → ℕ → Bool → Type 0
-Missing P i k m n true = (m ≡ 1) × ¬ (n ≡ 1) × ((f : Term) → Part P i f → uses k f ≡ false)
-Missing P i k m n false = Unit {0}
-
-pub record ArgumentComparable (P : List ℕ) (i : ℕ) (W : List ℕ) (j e : ℕ) : Type 0 where
-  pub part : Whole P i
-  pub short : length P ≤ 4 * patternRecords
-  pub target : Marks (slice W j) 0 patternRecords
-  pub argument : Marks (slice W e) 0 patternRecords
-  pub target-place : j ≤ length W
-  pub argument-place : e ≤ length W
-
-unfoldable pub Misses : List ℕ → ℕ → List ℕ → ℕ → ℕ → Bool → Type 0
-Misses P i W j e true =
-    (k : ℕ) × ((f t x : Term) → Part P i f → Part W j t → Part W e x → (uses k t ≡ true) × (uses k f ≡ false) × (uses k x ≡ false))
-Misses P i W j e false = Unit {0}

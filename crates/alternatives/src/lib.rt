@@ -29,7 +29,8 @@ ghost use lib.ListN.{length};
 ghost use Rattle.terms.specs.Figures.{tableBytes};
 ghost use Rattle.records.specs.Parts.{Whole};
 ghost use Rattle.abstractions.specs.Occurrences.{DepthOf};
-ghost use Rattle.alternatives.specs.Applications.{ApplicationDeferred, Counted, Places, Placed, Missing, ArgumentComparable, Misses};
+ghost use Rattle.alternatives.specs.Applications.{ApplicationDeferred, Counted, Places, Placed};
+ghost use Rattle.agenda.specs.Locals.{Missing, ArgumentComparable, Misses};
 ghost use Rattle.alternatives.specs.Ways.{Way};
 ghost use Rattle.agenda.specs.Moves.{Branched};
 
@@ -114,37 +115,6 @@ fn constant_head(
     Branch::Next(builds::push_abstraction(work, agenda, head, &b[0..n]))
 }
 
-// Whether local k is marked by `target` and not by `argument`, and the part of p at byte i doesn't use it.
-fn is_missing(pattern: &[u8], i: usize, k: usize, target: u8, argument: u8) -> bool
-    requires { ⌜ Whole (now pattern) i × (k + length (now pattern) ≤ i + tableBytes) ⌝ }
-    ensures { λ r. ⌜ Missing (now (pattern .entry)) i k target argument r ⌝ }
-{
-    if argument == 1 {
-        return false;
-    }
-    agenda::locals::is_unused(pattern, i, k, target)
-}
-
-// Whether the target at byte j has a loose local that neither the argument's target at byte e nor the head, the part of p at byte i, uses.
-// Nothing brings in such a local.
-fn misses_local(pattern: &[u8], i: usize, work: &[u8], j: usize, e: usize) -> bool
-    requires { ⌜ ArgumentComparable (now pattern) i (now work) j e ⌝ }
-    ensures { λ r. ⌜ Misses (now (pattern .entry)) i (now (work .entry)) j e r ⌝ }
-{
-    let mut target = [0u8; PATTERN_RECORDS];
-    shifting::loose_locals(&work[j..], 0, &mut target);
-    let mut argument = [0u8; PATTERN_RECORDS];
-    shifting::loose_locals(&work[e..], 0, &mut argument);
-    let mut k = 0;
-    while k < PATTERN_RECORDS {
-        if is_missing(pattern, i, k, target[k], argument[k]) {
-            return true;
-        }
-        k += 1;
-    }
-    false
-}
-
 // Writes the j-th part of the term at byte `at`, moved out of the `depth` binders above it, from byte `top` on, and gives its end; or No
 // where it uses one of those binders.
 fn place_argument(work: &mut [u8], top: usize, at: usize, j: usize, depth: usize) -> Walk
@@ -201,7 +171,7 @@ fn find_argument(
     }
     let head = goal.part + RECORD;
     if ways.lacking {
-        if misses_local(pattern, head, work, goal.target, agenda.top) {
+        if agenda::locals::misses_local(pattern, head, work, goal.target, agenda.top) {
             return Branch::Failed;
         }
     }

@@ -62,14 +62,14 @@ module _ (l : List ℕ) (at n : ℕ) (rest : List ℕ) (e : drop at l ≡ word n
 
 -- the first of the entries that stand in a line
 module _ (L : List ℕ) (i : ℕ) (X : List ℕ) where
-  pub open-entry : (l : Line) → Standing L i X (none ∷ l) → entryAt L i ≡ Open
-  open-entry l s =
+  pub entry-left-open : (l : Line) → Standing L i X (none ∷ l) → entryAt L i ≡ Open
+  entry-left-open l s =
       let e = word-behind L (4 * i) 0 (word 0 (lineBytes (s .first) l ++ s .rest)) (s .bytes) in
       sym (open-at L i 0 (sym (word-read L (4 * i + 2) 0 (lineBytes (s .first) l ++ s .rest) e)) refl)
 
-  pub assigned-entry : (v : Term) (l : Line) (s : Standing L i X (some v ∷ l))
+  pub entry-assigned : (v : Term) (l : Line) (s : Standing L i X (some v ∷ l))
       → entryAt L i ≡ Assigned (record { first = s .first; count = size v })
-  assigned-entry v l s =
+  entry-assigned v l s =
       let r = lineBytes (s .first + size v) l ++ s .rest in
       let e = word-behind L (4 * i) (s .first) (word (size v) r) (s .bytes) in
       sym (assigned-at L i (size v) (s .first) (sym (word-read L (4 * i + 2) (size v) r e)) (λ z. omega (arith, size-some v))
@@ -113,7 +113,7 @@ module _ (L : List ℕ) (i : ℕ) (X : List ℕ) where
   -- an entry is read as what it is
   not-assigned : (o : Option Term) (l : Line) → Standing L i X (o ∷ l) → entryAt L i ≡ Open → o ≡ none
   not-assigned none l s e = refl
-  not-assigned (some v) l s e = absurd (open-span (sym e ∙ assigned-entry v l s))
+  not-assigned (some v) l s e = absurd (open-span (sym e ∙ entry-assigned v l s))
 
   record ReadAs (o : Option Term) (x : Span) : Type 0 where
     pub value : Term
@@ -122,9 +122,9 @@ module _ (L : List ℕ) (i : ℕ) (X : List ℕ) where
     pub within : 4 * (x .first + x .count) ≤ length X
 
   read-as : (o : Option Term) (l : Line) (x : Span) → Standing L i X (o ∷ l) → entryAt L i ≡ Assigned x → ReadAs o x
-  read-as none l x s e = absurd (open-span (sym (open-entry l s) ∙ e))
+  read-as none l x s e = absurd (open-span (sym (entry-left-open l s) ∙ e))
   read-as (some v) l x s e =
-      let q = span-inj _ x (sym (assigned-entry v l s) ∙ e) in
+      let q = span-inj _ x (sym (entry-assigned v l s) ∙ e) in
       subst (ReadAs (some v)) q (record { value = v; is = refl; bytes = value-bytes v l s; within = omega (arith, s .within) })
 
   pub value-within : (l : Line) (x : Span) → i < variables → Standing L i X l → entryAt L i ≡ Assigned x

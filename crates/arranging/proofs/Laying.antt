@@ -23,16 +23,16 @@ use Rattle.listing.specs.Writers.{EntryStands, LineStands, WriteLine, WroteLine
 use Rattle.arranging.specs.Laying.{LayLine, LaidLine, LayLines, LaidLines, LayOut, LaidOut}
 use Rattle.arranging.specs.Order.{Standing}
 use Rattle.listing.proofs.Writers.{line-bytes-length, line-values-length, entries-next}
-use Rattle.arranging.proofs.Comparing.{open-entry, assigned-entry, next-standing, laid-standing, lines-length}
+use Rattle.arranging.proofs.Comparing.{entry-left-open, entry-assigned, next-standing, laid-standing, lines-length}
 use Rattle.listing.proofs.Stores.{Entire, line-table-length, value-table-length}
 
 -- the entries read from a line are its entries
 module _ (L X : List ℕ) (a : List Entry) (n : length a ≡ variables) (r : Read L a variables) where
   entry-stands : (i : ℕ) → i < variables → (o : Option Term) (l : Line) → Standing L i X (o ∷ l) → EntryStands X (getD a i Open) o
   unfolding EntryStands
-  entry-stands i h none l s = subst (λ (e : Entry). EntryStands X e none) (sym (r i h ∙ open-entry L i X l s)) tt
+  entry-stands i h none l s = subst (λ (e : Entry). EntryStands X e none) (sym (r i h ∙ entry-left-open L i X l s)) tt
   entry-stands i h (some v) l s =
-      subst (λ (e : Entry). EntryStands X e (some v)) (sym (r i h ∙ assigned-entry L i X v l s))
+      subst (λ (e : Entry). EntryStands X e (some v)) (sym (r i h ∙ entry-assigned L i X v l s))
       (record {
         part = part X (4 * s .first) v (lineValues l ++ s .behind) (s .values ∙ append-assoc (encode v) (lineValues l) (s .behind));
         count = refl;

@@ -3,7 +3,7 @@
 --   BuildSite P W s r f t e   the stored goal r, first of those deferred, is the goal to build f's body from t and e
 --   Bodied P W s r m b        b is the table of the body that the choices m give
 --   UsesTold P W s r m u      u says whether that body uses its local
---   Numbers .. f t e          how long that table is
+--   BuildBounds .. f t e          how long that table is
 --   Facts .. gs hs f t e      what writing the abstraction over it needs to know
 use mathlib.Core.Path.{_≡_, refl, sym, ap, _∙_, subst}
 use mathlib.Core.Bool.{Bool, true, false}
@@ -192,11 +192,11 @@ module _ (P W : List ℕ) (s : Agenda) (a : List Entry) where
         unused W′ q u h n = none W′ q (λ f t e φ v o p. subst T (sym (p .1) ∙ sym (h .is f t e v) ∙ n) tt)
 
       module _ (m b : List ℕ) (w : Bodied P W s r m b) where
-        pub record Numbers (f t e : Term) : Type 0 where
+        pub record BuildBounds (f t e : Term) : Type 0 where
           pub length-is : length b ≡ 4 * size (body e 0 t (chosenIn m) 0)
           pub short : length b ≤ 624
 
-        numbers : (f t e : Term) → BuildSite P W s r f t e → Numbers f t e
+        numbers : (f t e : Term) → BuildSite P W s r f t e → BuildBounds f t e
         numbers f t e v =
             let p : length b ≡ 4 * size (body e 0 t (chosenIn m) 0) =
             ap length (w .is f t e v) ∙ encode-length (body e 0 t (chosenIn m) 0) in

@@ -40,12 +40,12 @@ module _ (W : List ℕ) (v e t : ℕ) where
     substituting s = substitutes-at W W W (v + 4) 0 e t (body-whole s) (s .argument) (s .target) (omega (arith, s .most))
         (omega (arith, s .most))
 
-    pub record Value (x : Term) : Type 0 where
+    pub record SolutionValue (x : Term) : Type 0 where
       pub b : Term
       pub is : x ≡ lam b
       pub part : Part W (v + 4) b
 
-    value : (x : Term) → Part W v x → Value x
+    value : (x : Term) → Part W v x → SolutionValue x
     value x p = let u = abstraction W v x p k in record { b = u .b; is = u .is; part = u .body }
 
     module _ (w : Walk) (g : Walked (slice W (v + 4)) 0 (Asks Other 0) w) where

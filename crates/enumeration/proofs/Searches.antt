@@ -155,9 +155,9 @@ module _ (p t : List ℕ) (a : Pattern p) (b : Recipe t) where
               ap (λ (o : Outcome). length (o .values)) (tallied .exact h) ∙ n .1,
             )
 
-        pub copies : (l s w : List ℕ) → 4 * variables * n .lines ≤ length l → 4 * n .records ≤ length s → ListTables p t l s w
+        pub copyable : (l s w : List ℕ) → 4 * variables * n .lines ≤ length l → 4 * n .records ≤ length s → ListTables p t l s w
             → Copyable n m q l s w
-        copies l s w u v z = record {
+        copyable l s w u v z = record {
           found = found;
           tables = tables;
           distinct = listed .distinct;

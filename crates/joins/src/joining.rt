@@ -15,7 +15,7 @@ ghost use Rattle.joins.specs.Joins.{Joins, Alike, Joined, Encloses, Encl
 
 // Writes the record at byte t, if the record at byte u has the same number. Locals above the d binders make room for those of the pairs.
 fn same_leaf_into(
-    p: &[u8],
+    pattern: &[u8],
     q: Pairs,
     work: &[u8],
     t: usize,
@@ -24,8 +24,9 @@ fn same_leaf_into(
     out: &mut [u8],
     o: usize,
 ) -> Walk
-    requires { ⌜ Joins (now p) q (now work) t u d (length (now out)) o × Single (now work) t × Alike (now p) q (now work) t u d ⌝ }
-    ensures { λ r. ⌜ Joined (now (p .entry)) q (now (work .entry)) t u d (now (out .entry)) o (now (out .exit)) r ⌝ }
+    requires { ⌜ Joins (now pattern) q (now work) t u d (length (now out)) o × Single (now work) t
+        × Alike (now pattern) q (now work) t u d ⌝ }
+    ensures { λ r. ⌜ Joined (now (pattern .entry)) q (now (work .entry)) t u d (now (out .entry)) o (now (out .exit)) r ⌝ }
 {
     if records::number_at(work, t) != records::number_at(work, u) {
         return Walk::No;
@@ -36,7 +37,7 @@ fn same_leaf_into(
 
 // Writes the local that stands for the constants at bytes t and u, or the constant that both are.
 fn join_constants_into(
-    p: &[u8],
+    pattern: &[u8],
     q: Pairs,
     work: &[u8],
     t: usize,
@@ -45,26 +46,26 @@ fn join_constants_into(
     out: &mut [u8],
     o: usize,
 ) -> Walk
-    requires { ⌜ Joins (now p) q (now work) t u d (length (now out)) o × (getD (now work) t 0 ≡ constantKind)
+    requires { ⌜ Joins (now pattern) q (now work) t u d (length (now out)) o × (getD (now work) t 0 ≡ constantKind)
         × (getD (now work) u 0 ≡ constantKind) ⌝ }
-    ensures { λ r. ⌜ Joined (now (p .entry)) q (now (work .entry)) t u d (now (out .entry)) o (now (out .exit)) r ⌝ }
+    ensures { λ r. ⌜ Joined (now (pattern .entry)) q (now (work .entry)) t u d (now (out .entry)) o (now (out .exit)) r ⌝ }
 {
     let m = records::number_at(work, t);
     let n = records::number_at(work, u);
-    let found = crate::pairs::find_pair(p, q, m, n, d);
+    let found = crate::pairs::find_pair(pattern, q, m, n, d);
     match found {
         Found::Local(k) => {
             records::put_record(out, o, Kind::LOCAL, k);
             Walk::Upto(t + RECORD)
         }
-        Found::Nothing => same_leaf_into(p, q, work, t, u, d, out, o),
+        Found::Nothing => same_leaf_into(pattern, q, work, t, u, d, out, o),
     }
 }
 
 // Writes the term that comes to the targets at bytes t and u of the work area with the first and with the second constants put in, from
 // byte o on. As far as there is one the targets have records of the same kinds, so that one distance leads from each record to its fellow.
 pub fn join_into(
-    p: &[u8],
+    pattern: &[u8],
     q: Pairs,
     work: &[u8],
     t: usize,
@@ -73,8 +74,8 @@ pub fn join_into(
     out: &mut [u8],
     o: usize,
 ) -> Walk
-    requires { ⌜ Joins (now p) q (now work) t u d (length (now out)) o ⌝ }
-    ensures { λ r. ⌜ Joined (now (p .entry)) q (now (work .entry)) t u d (now (out .entry)) o (now (out .exit)) r ⌝ }
+    requires { ⌜ Joins (now pattern) q (now work) t u d (length (now out)) o ⌝ }
+    ensures { λ r. ⌜ Joined (now (pattern .entry)) q (now (work .entry)) t u d (now (out .entry)) o (now (out .exit)) r ⌝ }
 {
     let kind = work[t];
     if kind != work[u] {
@@ -82,20 +83,29 @@ pub fn join_into(
     }
     if kind == Kind::APPLICATION.code {
         records::put_record(out, o, Kind::APPLICATION, 0);
-        let head = join_into(p, q, work, t + RECORD, u + RECORD, d, out, o + RECORD);
+        let head = join_into(pattern, q, work, t + RECORD, u + RECORD, d, out, o + RECORD);
         let Walk::Upto(h) = head else {
             return Walk::No;
         };
-        return join_into(p, q, work, h, u + (h - t), d, out, o + (h - t));
+        return join_into(pattern, q, work, h, u + (h - t), d, out, o + (h - t));
     }
     if kind == Kind::ABSTRACTION.code {
         records::put_record(out, o, Kind::ABSTRACTION, 0);
-        return join_into(p, q, work, t + RECORD, u + RECORD, d + 1, out, o + RECORD);
+        return join_into(
+            pattern,
+            q,
+            work,
+            t + RECORD,
+            u + RECORD,
+            d + 1,
+            out,
+            o + RECORD,
+        );
     }
     if kind == Kind::CONSTANT.code {
-        return join_constants_into(p, q, work, t, u, d, out, o);
+        return join_constants_into(pattern, q, work, t, u, d, out, o);
     }
-    same_leaf_into(p, q, work, t, u, d, out, o)
+    same_leaf_into(pattern, q, work, t, u, d, out, o)
 }
 
 // Writes what n abstractions over the body b come to from byte o on, and gives where that ends.

@@ -34,24 +34,24 @@ pub enum Found {
 }
 
 // Whether m and n are the numbers of the records at bytes i and j.
-fn is_pair(p: &[u8], i: usize, j: usize, m: usize, n: usize) -> bool
-    requires { ⌜ (i + 4 ≤ length (now p)) × (j + 4 ≤ length (now p)) ⌝ }
-    ensures { λ r. ⌜ r ≡ (eqb m (numberAt (now (p .entry)) i) && eqb n (numberAt (now (p .entry)) j)) ⌝ }
+fn is_pair(pattern: &[u8], i: usize, j: usize, m: usize, n: usize) -> bool
+    requires { ⌜ (i + 4 ≤ length (now pattern)) × (j + 4 ≤ length (now pattern)) ⌝ }
+    ensures { λ r. ⌜ r ≡ (eqb m (numberAt (now (pattern .entry)) i) && eqb n (numberAt (now (pattern .entry)) j)) ⌝ }
 {
-    if m != records::number_at(p, i) {
+    if m != records::number_at(pattern, i) {
         return false;
     }
-    n == records::number_at(p, j)
+    n == records::number_at(pattern, j)
 }
 
 // The local that stands for the constants m and n below d binders. The last pair stands for the innermost one.
-pub fn find_pair(p: &[u8], q: Pairs, m: usize, n: usize, d: usize) -> Found
-    requires { ⌜ Reads (now p) q × (d + patternRecords ≤ numbers) ⌝ }
-    ensures { λ r. ⌜ Locates (pairsOf (now (p .entry)) q) m n d r ⌝ }
+pub fn find_pair(pattern: &[u8], q: Pairs, m: usize, n: usize, d: usize) -> Found
+    requires { ⌜ Reads (now pattern) q × (d + patternRecords ≤ numbers) ⌝ }
+    ensures { λ r. ⌜ Locates (pairsOf (now (pattern .entry)) q) m n d r ⌝ }
 {
     let mut k = q.count;
     while 0 < k {
-        if is_pair(p, q.first + RECORD * k, q.second + RECORD * k, m, n) {
+        if is_pair(pattern, q.first + RECORD * k, q.second + RECORD * k, m, n) {
             return Found::Local(d + (q.count - k));
         }
         k -= 1;
@@ -60,24 +60,24 @@ pub fn find_pair(p: &[u8], q: Pairs, m: usize, n: usize, d: usize) -> Found
 }
 
 // Adds the two records behind the pairs q, if they are constants, and make another pair.
-fn add_pair(p: &[u8], q: Pairs) -> Spines
-    requires { ⌜ Adding (now p) q ⌝ }
-    ensures { λ r. ⌜ Adds (now (p .entry)) q r ⌝ }
+fn add_pair(pattern: &[u8], q: Pairs) -> Spines
+    requires { ⌜ Adding (now pattern) q ⌝ }
+    ensures { λ r. ⌜ Adds (now (pattern .entry)) q r ⌝ }
 {
     let i = q.first + RECORD * (q.count + 1);
     let j = q.second + RECORD * (q.count + 1);
-    if p[i] != Kind::CONSTANT.code {
+    if pattern[i] != Kind::CONSTANT.code {
         return Spines::Other;
     }
-    if p[j] != Kind::CONSTANT.code {
+    if pattern[j] != Kind::CONSTANT.code {
         return Spines::Other;
     }
-    let m = records::number_at(p, i);
-    let n = records::number_at(p, j);
+    let m = records::number_at(pattern, i);
+    let n = records::number_at(pattern, j);
     if m == n {
         return Spines::Other;
     }
-    let found = find_pair(p, q, m, n, 0);
+    let found = find_pair(pattern, q, m, n, 0);
     match found {
         Found::Local(_) => Spines::Other,
         Found::Nothing => Spines::Apart(Pairs {
@@ -89,25 +89,25 @@ fn add_pair(p: &[u8], q: Pairs) -> Spines
 }
 
 // What the parts at bytes x and y are. The constants of an application stand one behind another, as each is one record.
-pub fn spines_at(p: &[u8], x: usize, y: usize) -> Spines
-    requires { ⌜ Whole (now p) x × Whole (now p) y × (length (now p) ≤ 4 * patternRecords) ⌝ }
-    ensures { λ r. ⌜ Repeats (now (p .entry)) x y r ⌝ }
+pub fn spines_at(pattern: &[u8], x: usize, y: usize) -> Spines
+    requires { ⌜ Whole (now pattern) x × Whole (now pattern) y × (length (now pattern) ≤ 4 * patternRecords) ⌝ }
+    ensures { λ r. ⌜ Repeats (now (pattern .entry)) x y r ⌝ }
 {
-    let kind = p[x];
-    if kind != p[y] {
+    let kind = pattern[x];
+    if kind != pattern[y] {
         return Spines::Other;
     }
     if kind == Kind::APPLICATION.code {
-        let heads = spines_at(p, x + RECORD, y + RECORD);
+        let heads = spines_at(pattern, x + RECORD, y + RECORD);
         let Spines::Apart(q) = heads else {
             return Spines::Other;
         };
-        return add_pair(p, q);
+        return add_pair(pattern, q);
     }
     if kind != Kind::VARIABLE.code {
         return Spines::Other;
     }
-    if records::number_at(p, x) != records::number_at(p, y) {
+    if records::number_at(pattern, x) != records::number_at(pattern, y) {
         return Spines::Other;
     }
     Spines::Apart(Pairs {

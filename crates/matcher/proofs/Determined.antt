@@ -14,7 +14,8 @@ use Rattle.terms.specs.Layout.{lineTable, valueTable}
 use Rattle.terms.specs.Refusal.{Row, Refused, Passed, listing}
 use Rattle.terms.proofs.Table.{encode-one}
 use Rattle.terms.proofs.Refusal.{refused-passed}
-use Rattle.matching.proofs.Ground.{openLine, no-variable, open-line-table, open-value-table}
+use Rattle.matching.proofs.Lines.{openLine}
+use Rattle.matching.proofs.Ground.{no-variable, open-line-table, open-value-table}
 use Rattle.refusals.specs.declared.Refusal.{Refusal}
 use Rattle.refusals.specs.Judged.{number}
 use Rattle.refusals.specs.Lent.{overwritten}

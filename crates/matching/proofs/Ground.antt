@@ -1,7 +1,6 @@
 -- "A pattern without variables has one all-zero line or none. No match is a count of 0." The lines of such a pattern assign nothing, so
 -- each is the line of open entries, whose bytes are zero and which has no values; and since lines go up, none stands there twice. A line of
 -- any listing has a filling, which is a match. Assumes nothing.
---   openLine n   the line of n open entries
 use mathlib.Core.Path.{_≡_, refl, ap, sym, _∙_, subst}
 use mathlib.Core.Option.{none, some}
 use mathlib.Core.List.{List, [], _∷_, append-nil}
@@ -14,11 +13,9 @@ use Rattle.terms.specs.Assignment.{Assignment, Assigns, Match}
 use Rattle.terms.specs.Listing.{Line, In, Less, Full}
 use Rattle.terms.specs.Layout.{lineBytes, lineValues, lineTable, valueTable}
 use Rattle.terms.proofs.Order.{less-irrefl}
+use Rattle.matching.proofs.Lines.{openLine}
 use Rattle.matching.proofs.Lists.{witness}
 use Rattle.matching.proofs.Partial.{restrict, entries-restrict, complete-restrict, agrees-restrict}
-
-abbrev pub openLine : ℕ → Line
-openLine n = replicate n none
 
 assigns-none : (S : ℕ → Type 0) → ((i : ℕ) → ¬ S i) → (l : Line) → Assigns S l → l ≡ openLine (length l)
 assigns-none S h [] a = refl

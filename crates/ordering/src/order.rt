@@ -35,7 +35,7 @@ fn bodies(copies: usize) -> usize {
     n
 }
 
-// 1 if the part of p at byte `argument` may sweep to the part of work at byte `at`, moved out of binders, and 0 if it can't.
+// 1 if the part of the pattern at byte `argument` may sweep to the part of work at byte `at`, moved out of binders, and 0 if it can't.
 fn candidate(pattern: &[u8], argument: usize, work: &[u8], at: usize) -> usize
     requires { ⌜ Whole (now pattern) argument × Whole (now work) at ⌝ }
     ensures { λ r. ⌜ r ≤ 1 ⌝ }
@@ -46,8 +46,8 @@ fn candidate(pattern: &[u8], argument: usize, work: &[u8], at: usize) -> usize
     0
 }
 
-// In how many ways the application at byte `part` of p comes to the target, about: the two that need no target for its argument, and one
-// for each part of the target that the argument may sweep to. A flexible argument may sweep to any.
+// In how many ways the application at byte `part` of the pattern comes to the target, about: the two that need no target for its argument,
+// and one for each part of the target that the argument may sweep to. A flexible argument may sweep to any.
 fn candidates(pattern: &[u8], part: usize, work: &[u8], target: usize) -> usize
     requires { ⌜ Branches (now pattern) part (now work) target ⌝ }
 {

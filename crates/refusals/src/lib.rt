@@ -156,13 +156,13 @@ pub fn judge_recipe(s: &[u8]) -> Verdict
 }
 
 // Whether each variable of a pattern has a value.
-pub fn judge_assignment(p: &[u8], line: &[u8], values: &[u8]) -> Verdict
-    requires { ⌜ Pattern (now p) × (length (now line) ≡ 4 * variables) ⌝ }
-    ensures { λ r. ⌜ Judged (assignment (OccursIn (now (p .entry))) (now (line .entry)) (now (values .entry)))
-        (FilledTables (now (p .entry)) (now (line .entry)) (now (values .entry))) r ⌝ }
+pub fn judge_assignment(pattern: &[u8], line: &[u8], values: &[u8]) -> Verdict
+    requires { ⌜ Pattern (now pattern) × (length (now line) ≡ 4 * variables) ⌝ }
+    ensures { λ r. ⌜ Judged (assignment (OccursIn (now (pattern .entry))) (now (line .entry)) (now (values .entry)))
+        (FilledTables (now (pattern .entry)) (now (line .entry)) (now (values .entry))) r ⌝ }
 {
     let a = assignments::entries_of(line);
-    if assignments::all_given(p, values, a) {
+    if assignments::all_given(pattern, values, a) {
         return Verdict::Right;
     }
     Verdict::Refused(Refusal::Assignment)

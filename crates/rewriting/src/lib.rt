@@ -109,22 +109,22 @@ fn judge_rewrite(
     refusals::judge_sides(left, right, line, values)
 }
 
-// Sweeps the pattern p, filled from a line and a value table.
-fn sweep_side(p: &[u8], line: &[u8], values: &[u8], out: &mut [u8; SWEPT_BYTES]) -> Length
-    requires { ⌜ FilledTables (now p) (now line) (now values) ⌝ }
-    ensures { λ r. ⌜ SweptSide (now (p .entry)) (now (line .entry)) (now (values .entry)) (now (out .entry)) r (now (out .exit)) ⌝ }
+// Sweeps a side, filled from a line and a value table.
+fn sweep_side(side: &[u8], line: &[u8], values: &[u8], out: &mut [u8; SWEPT_BYTES]) -> Length
+    requires { ⌜ FilledTables (now side) (now line) (now values) ⌝ }
+    ensures { λ r. ⌜ SweptSide (now (side .entry)) (now (line .entry)) (now (values .entry)) (now (out .entry)) r (now (out .exit)) ⌝ }
 {
     let a = assignments::entries_of(line);
-    sweeping::sweep(p, values, a, out)
+    sweeping::sweep(side, values, a, out)
 }
 
-// Whether the filled pattern p sweeps to the recipe.
-fn match_recipe(p: &[u8], line: &[u8], values: &[u8], recipe: &[u8]) -> Match
-    requires { ⌜ FilledTables (now p) (now line) (now values) × Recipe (now recipe) ⌝ }
-    ensures { λ r. ⌜ Matched (now (p .entry)) (now (line .entry)) (now (values .entry)) (now (recipe .entry)) r ⌝ }
+// Whether the filled pattern sweeps to the recipe.
+fn match_recipe(pattern: &[u8], line: &[u8], values: &[u8], recipe: &[u8]) -> Match
+    requires { ⌜ FilledTables (now pattern) (now line) (now values) × Recipe (now recipe) ⌝ }
+    ensures { λ r. ⌜ Matched (now (pattern .entry)) (now (line .entry)) (now (values .entry)) (now (recipe .entry)) r ⌝ }
 {
     let mut swept = [0u8; SWEPT_BYTES];
-    let length = sweep_side(p, line, values, &mut swept);
+    let length = sweep_side(pattern, line, values, &mut swept);
     let Length::Records(n) = length else {
         return Match::TooLong;
     };
@@ -134,13 +134,13 @@ fn match_recipe(p: &[u8], line: &[u8], values: &[u8], recipe: &[u8]) -> Match
     Match::No
 }
 
-// Writes the swept form of the filled pattern p, if it has room.
-fn put_swept(p: &[u8], line: &[u8], values: &[u8], out: &mut [u8]) -> SweepAnswer
-    requires { ⌜ FilledTables (now p) (now line) (now values) ⌝ }
-    ensures { λ r. ⌜ SideSwept (now (p .entry)) (now (line .entry)) (now (values .entry)) (now (out .entry)) r (now (out .exit)) ⌝ }
+// Writes the swept form of a filled side, if it has room.
+fn put_swept(side: &[u8], line: &[u8], values: &[u8], out: &mut [u8]) -> SweepAnswer
+    requires { ⌜ FilledTables (now side) (now line) (now values) ⌝ }
+    ensures { λ r. ⌜ SideSwept (now (side .entry)) (now (line .entry)) (now (values .entry)) (now (out .entry)) r (now (out .exit)) ⌝ }
 {
     let mut swept = [0u8; SWEPT_BYTES];
-    let length = sweep_side(p, line, values, &mut swept);
+    let length = sweep_side(side, line, values, &mut swept);
     let Length::Records(n) = length else {
         return SweepAnswer::Refused(Refusal::SweptForm);
     };

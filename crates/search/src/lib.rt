@@ -375,7 +375,7 @@ pub fn search(
     listing::found(work, entries, lines, values, done)
 }
 
-// All matches of the pattern p and the recipe t: the recipe is the first target, at the start of the work area.
+// All matches of the pattern and the recipe: the recipe is the first target, at the start of the work area.
 pub fn collect(
     pattern: &[u8],
     recipe: &[u8],

@@ -18,7 +18,7 @@ use Rattle.records.proofs.Slices.{part-slice, slice-ends}
 use Rattle.records.proofs.Tests.{part-other}
 use Rattle.substitution.proofs.Writers.{Other, local-at}
 use Rattle.shifting.specs.Locals.{Marks, Marked, Zeros}
-use Rattle.shifting.proofs.Slices.{application-slices, abstraction-slices, argument-slice, ends-app, ends-lam, ends-leaf}
+use Rattle.shifting.proofs.Slices.{application-slices, abstraction-slices, slices-argument, slices-app, slices-lam, slices-leaf}
 
 marks-of : (l : List ℕ) (depth n : ℕ) (t : Term) → Part l 0 t → Closed (depth + n) t → depth + size t ≤ numbers → Marks l depth n
 marks-of l depth n t x c s = record { tree = t; part = x; closed = c; shallow = s; least = omega (arith, x .some, x .within) }
@@ -55,7 +55,7 @@ module _ (l : List ℕ) (depth : ℕ) where
     marks-argument h z e =
         let v = application-slices l (x .tree) (x .part) z in
         let c : Closed (depth + n) (app (v .f) (v .a)) = subst (Closed (depth + n)) (v .is) (x .closed) in
-        marks-of (slice l (4 + h)) depth k (v .a) (argument-slice l h (x .tree) e v)
+        marks-of (slice l (4 + h)) depth k (v .a) (slices-argument l h (x .tree) e v)
         (subst (λ (i : ℕ). Closed (depth + i) (v .a)) (sym s) (c .1))
         (omega (arith, ap size (v .is), x .shallow))
 
@@ -75,10 +75,10 @@ module _ (l : List ℕ) (depth : ℕ) where
     pub marked-application : (p q : List ℕ) (h r : ℕ) → getD l 0 0 ≡ 0 → length p ≡ length m → Marked (slice l 4) depth m p h
         → Marked (slice l (4 + h)) depth p q r → Marked l depth m q (4 + h + r)
     marked-application p q h r z s x y = record {
-      ends = ends-app l h r z (x .ends) (y .ends);
+      ends = slices-app l h r z (x .ends) (y .ends);
       marks = λ t w j i.
           let v = application-slices l t w z in
-          y .marks (v .a) (argument-slice l h t (x .ends) v) j (omega arith)
+          y .marks (v .a) (slices-argument l h t (x .ends) v) j (omega arith)
           ∙ ap (cond (uses (j + depth) (v .a)) 1) (x .marks (v .f) (v .head) j i)
           ∙ mark-or (uses (j + depth) (v .f)) (uses (j + depth) (v .a)) (getD m j 0)
           ∙ ap (λ (u : Term). cond (uses (j + depth) u) 1 (getD m j 0)) (sym (v .is));
@@ -86,7 +86,7 @@ module _ (l : List ℕ) (depth : ℕ) where
 
     pub marked-abstraction : (p : List ℕ) (r : ℕ) → getD l 0 0 ≡ 1 → Marked (slice l 4) (depth + 1) m p r → Marked l depth m p (4 + r)
     marked-abstraction p r z x = record {
-      ends = ends-lam l r z (x .ends);
+      ends = slices-lam l r z (x .ends);
       marks = λ t w j i.
           let v = abstraction-slices l t w z in
           let e : j + (depth + 1) ≡ suc (j + depth) = omega arith in
@@ -97,14 +97,14 @@ module _ (l : List ℕ) (depth : ℕ) where
     module _ (n : ℕ) (a : Whole l 0) (z : getD l 0 0 ≡ 2) (e : n ≡ numberAt l 0) where
       pub marked-loose : depth ≤ n → Marked l depth m (set m (n - depth) 1) 4
       marked-loose h = record {
-        ends = ends-leaf l (λ q. omega arith) (λ q. omega arith) a;
+        ends = slices-leaf l (λ q. omega arith) (λ q. omega arith) a;
         marks = λ t w j i.
             mark-set m n depth j h i ∙ ap (λ (u : Term). cond (uses (j + depth) u) 1 (getD m j 0)) (sym (local-at l 0 n t w z e));
       }
 
       pub marked-bound : n < depth → Marked l depth m m 4
       marked-bound h = record {
-        ends = ends-leaf l (λ q. omega arith) (λ q. omega arith) a;
+        ends = slices-leaf l (λ q. omega arith) (λ q. omega arith) a;
         marks = λ t w j i.
             ap (λ (b : Bool). cond b 1 (getD m j 0)) (sym (ne-eqb n (j + depth) (omega arith)))
             ∙ ap (λ (u : Term). cond (uses (j + depth) u) 1 (getD m j 0)) (sym (local-at l 0 n t w z e));
@@ -112,7 +112,7 @@ module _ (l : List ℕ) (depth : ℕ) where
 
     pub marked-other : Whole l 0 → Other l 0 → Marked l depth m m 4
     marked-other a z = record {
-      ends = ends-leaf l (z .no-application) (z .no-abstraction) a;
+      ends = slices-leaf l (z .no-application) (z .no-abstraction) a;
       marks = part-other l 0 (λ t. (j : ℕ) → j < length m → getD m j 0 ≡ cond (uses (j + depth) t) 1 (getD m j 0))
           (z .no-application) (z .no-abstraction) (z .no-local) (λ k j i. refl) (λ k j i. refl);
     }

@@ -24,10 +24,10 @@ use Rattle.records.proofs.Parts.{whole, application, part-bytes, leaf-size}
 use Rattle.records.proofs.Slices.{part-slice, slice-length, slice-walked}
 use Rattle.records.proofs.Tests.{walked-ends, walked-app, walked-stop, walked-lam, walked-leaf, walked-no, part-local, part-other}
 use Rattle.substitution.specs.Writers.{Wrote}
-use Rattle.substitution.proofs.Writers.{Change, Other, wrote-application, wrote-abstraction, wrote-local}
+use Rattle.substitution.proofs.Writers.{Change, Other, wrote-application, wrote-abstraction, wrote-local, slice-wrote}
 use Rattle.shifting.specs.Lowering.{Movable, Inside, Lowers, Leaves, Lowered}
-use Rattle.shifting.proofs.Slices.{application-slices, abstraction-slices, argument-slice, ends-app, ends-lam}
-use Rattle.shifting.proofs.Slices.{ends-leaf, slice-wrote}
+use Rattle.shifting.proofs.Slices.{application-slices, abstraction-slices, slices-argument, slices-app, slices-lam}
+use Rattle.shifting.proofs.Slices.{slices-leaf}
 use Rattle.shifting.proofs.Tests.{heads-same, bodies-same}
 
 pub movable-two : (d c : ℕ) (f a : Term) → Movable d c (app f a) ↔ (Movable d c f × Movable d c a)
@@ -112,7 +112,7 @@ module _ (l : List ℕ) (c d o : ℕ) where
     pub lowers-argument : (h : ℕ) → getD l 0 0 ≡ 0 → Ends (slice l 4) 0 h → Lowers (slice l (4 + h)) c d rest (o + (4 + h))
     lowers-argument h z e =
         let v = application-slices l (x .tree) (x .part) z in
-        let p = argument-slice l h (x .tree) e v in
+        let p = slices-argument l h (x .tree) e v in
         let m = e .exact (v .f) (v .head) in
         record {
           tree = v .a;
@@ -171,7 +171,7 @@ module _ (l : List ℕ) (c d o : ℕ) where
       head-wrote h r i x =
           let w : Leaves (slice l 4) c d p (o + 4) q (Upto h) = subst (Leaves (slice l 4) c d p (o + 4) q) i x in
           wrote-end l 4 c d p (o + 4) q (4 + h) (o + 4 + h) (o + (4 + h)) (omega arith)
-          (slice-wrote l (unshift d) 4 c p (o + 4) q h (o + 4 + h) w)
+          (slice-wrote (unshift d) l 4 c p (o + 4) q h (o + 4 + h) w)
 
       -- nothing before byte o is written
       before : (h m : ℕ) → Wrote (unshift d) l 4 c p (o + 4) q h m → Whole l 0 → take o q ≡ take o out
@@ -190,7 +190,7 @@ module _ (l : List ℕ) (c d o : ℕ) where
             go (Upto j) y =
                 let m = walked-ends (slice l 4) 0 (Movable d c) h r i (x .walked) in
                 let n = walked-ends (slice l (4 + h)) 0 (Movable d c) j (Upto j) refl y in
-                omega (arith, ends-app l h j z m n .exact (w .tree) (w .part), w .shallow)
+                omega (arith, slices-app l h j z m n .exact (w .tree) (w .part), w .shallow)
             go No y = tt
 
         pub lowered-application : (after : List ℕ) (s a : Walk) → Whole l 0 → a ≡ further (4 + h) s
@@ -214,7 +214,7 @@ module _ (l : List ℕ) (c d o : ℕ) where
                 leaves-upto after (4 + h + j) (o + (4 + h) + j) (omega arith)
                 (wrote-application (unshift d) (unshifts d) l 0 c out o p q after (4 + h) (o + (4 + h)) (4 + h + j) (o + (4 + h) + j) z e
                 head
-                (slice-wrote l (unshift d) (4 + h) c q (o + (4 + h)) after j (o + (4 + h) + j) y))
+                (slice-wrote (unshift d) l (4 + h) c q (o + (4 + h)) after j (o + (4 + h) + j) y))
             go No y = take-less after q o (o + (4 + h)) (omega arith) y ∙ before (4 + h) (o + (4 + h)) head b
 
       pub lowered-stop : (r : Walk) → r ≡ No → Lowered (slice l 4) c d p (o + 4) q r → Lowered l c d out o q No
@@ -234,7 +234,7 @@ module _ (l : List ℕ) (c d o : ℕ) where
           go : (r : Walk) → Walked (slice l 4) 0 (Movable d (c + 1)) r → Near 4 r
           go (Upto j) y =
               let n = walked-ends (slice l 4) 0 (Movable d (c + 1)) j (Upto j) refl y in
-              omega (arith, ends-lam l j z n .exact (w .tree) (w .part), w .shallow)
+              omega (arith, slices-lam l j z n .exact (w .tree) (w .part), w .shallow)
           go No y = tt
 
       pub lowered-abstraction : (a : Walk) → p ≡ sets out o (bytes 1 0 []) → a ≡ further 4 r → Lowered l c d out o q a
@@ -250,7 +250,7 @@ module _ (l : List ℕ) (c d o : ℕ) where
           go (Upto h) y =
               leaves-upto q (4 + h) (o + 4 + h) (omega arith)
               (wrote-abstraction (unshift d) (unshifts d) l 0 c out o p q (4 + h) (o + 4 + h) z e
-              (slice-wrote l (unshift d) 4 (c + 1) p (o + 4) q h (o + 4 + h) y))
+              (slice-wrote (unshift d) l 4 (c + 1) p (o + 4) q h (o + 4 + h) y))
           go No y = take-less q p o (o + 4) (omega arith) y ∙ ap (take o) e ∙ take-sets (bytes 1 0 []) out o o (omega arith)
 
     module _ (n : ℕ) (i : n ≡ numberAt l 0) where
@@ -277,7 +277,7 @@ module _ (l : List ℕ) (c d o : ℕ) where
           walked = walked-leaf l 0 (Movable d c) x (z .no-application) (z .no-abstraction)
               (part-other l 0 (Movable d c) (z .no-application) (z .no-abstraction) (z .no-local) (λ k. refl) (λ k. refl));
           leaves = leaves-upto p 4 (o + 4) refl (record {
-            ends = ends-leaf l (z .no-application) (z .no-abstraction) x;
+            ends = slices-leaf l (z .no-application) (z .no-abstraction) x;
             exact = λ t w. omega (arith, ap size (stays t w), one t w);
             bytes = λ t w. e ∙ ap (sets out o) (part-bytes l 0 4 t w (omega (arith, one t w)) ∙ ap encode (sym (stays t w)));
           });
@@ -311,7 +311,7 @@ module _ (l : List ℕ) (at c d o : ℕ) where
     unfolding Leaves
     lowered-wrote-at h i =
         let w : Leaves (slice l at) c d out o after (Upto h) = subst (Leaves (slice l at) c d out o after) i (x .leaves) in
-        slice-wrote l (unshift d) at c out o after h (o + h) w
+        slice-wrote (unshift d) l at c out o after h (o + h) w
 
     pub lowered-kept : r ≡ No → take o after ≡ take o out
     unfolding Leaves

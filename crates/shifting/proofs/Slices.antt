@@ -9,7 +9,6 @@ use Rattle.terms.specs.Term.{Term, app, lam, size}
 use Rattle.records.specs.Parts.{slice, Part, Whole, Ends}
 use Rattle.records.proofs.Parts as parts
 use Rattle.records.proofs.Slices.{part-slice, slice-ends, slice-length}
-use Rattle.substitution.specs.Writers.{Wrote}
 
 -- the slices behind a first record, and behind a head of h bytes, are shorter
 module _ (l : List ℕ) (t : ℕ) (e : length l ≡ t) (i : 4 ≤ length l) where
@@ -52,27 +51,19 @@ module _ (l : List ℕ) where
       record { b = v .b; is = v .is; body = part-slice l 4 (v .b) (v .body) }
 
   -- the argument stands where the head ends
-  pub argument-slice : (h : ℕ) (t : Term) → Ends (slice l 4) 0 h → (v : ApplicationSlices l t) → Part (slice l (4 + h)) 0 (v .a)
-  argument-slice h t e v = v .argument h (omega (arith, e .exact (v .f) (v .head)))
+  pub slices-argument : (h : ℕ) (t : Term) → Ends (slice l 4) 0 h → (v : ApplicationSlices l t) → Part (slice l (4 + h)) 0 (v .a)
+  slices-argument h t e v = v .argument h (omega (arith, e .exact (v .f) (v .head)))
 
-  pub whole-head : Whole l 0 → getD l 0 0 ≡ 0 → Whole (slice l 4) 0
-  whole-head x k = let v = application-slices (x .tree) (x .part) k in parts.whole (slice l 4) 0 (v .f) (v .head)
+  pub slices-head : Whole l 0 → getD l 0 0 ≡ 0 → Whole (slice l 4) 0
+  slices-head x k = let v = application-slices (x .tree) (x .part) k in parts.whole (slice l 4) 0 (v .f) (v .head)
 
   -- how many bytes an application, an abstraction and any other term take
-  pub ends-app : (h r : ℕ) → getD l 0 0 ≡ 0 → Ends (slice l 4) 0 h → Ends (slice l (4 + h)) 0 r → Ends l 0 (4 + h + r)
-  ends-app h r k e d = parts.ends-app l 0 (4 + h) (4 + h + r) k (slice-ends l 4 h e) (slice-ends l (4 + h) r d)
+  pub slices-app : (h r : ℕ) → getD l 0 0 ≡ 0 → Ends (slice l 4) 0 h → Ends (slice l (4 + h)) 0 r → Ends l 0 (4 + h + r)
+  slices-app h r k e d = parts.ends-app l 0 (4 + h) (4 + h + r) k (slice-ends l 4 h e) (slice-ends l (4 + h) r d)
 
-  pub ends-lam : (r : ℕ) → getD l 0 0 ≡ 1 → Ends (slice l 4) 0 r → Ends l 0 (4 + r)
-  ends-lam r k e = parts.ends-lam l 0 (4 + r) k (slice-ends l 4 r e)
+  pub slices-lam : (r : ℕ) → getD l 0 0 ≡ 1 → Ends (slice l 4) 0 r → Ends l 0 (4 + r)
+  slices-lam r k e = parts.ends-lam l 0 (4 + r) k (slice-ends l 4 r e)
 
-  pub ends-leaf : ¬ (getD l 0 0 ≡ 0) → ¬ (getD l 0 0 ≡ 1) → Whole l 0 → Ends l 0 4
-  ends-leaf n m x = parts.ends-leaf l 0 n m x
-
+  pub slices-leaf : ¬ (getD l 0 0 ≡ 0) → ¬ (getD l 0 0 ≡ 1) → Whole l 0 → Ends l 0 4
+  slices-leaf n m x = parts.ends-leaf l 0 n m x
   -- what was written for a part, told of the table that it stands in
-  pub slice-wrote : (g : ℕ → Term → Term) (n k : ℕ) (out : List ℕ) (o : ℕ) (after : List ℕ) (next end : ℕ)
-      → Wrote g (slice l n) 0 k out o after next end → Wrote g l n k out o after (n + next) end
-  slice-wrote g n k out o after next end x = record {
-    ends = slice-ends l n next (x .ends);
-    exact = λ t y. x .exact t (part-slice l n t y);
-    bytes = λ t y. x .bytes t (part-slice l n t y);
-  }

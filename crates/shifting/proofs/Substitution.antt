@@ -23,7 +23,7 @@ use Rattle.shifting.specs.declared.Pairing.{Pairing}
 use Rattle.shifting.specs.declared.Pairing.the-variants.{Upto, No}
 use Rattle.shifting.specs.Tests.{Shifted, PartsCompared}
 use Rattle.shifting.specs.Substitution.{NearBoth, bothFurther, Substitutes, Replaced, Substituted}
-use Rattle.shifting.proofs.Slices.{application-slices, abstraction-slices, argument-slice, ends-app, ends-lam, ends-leaf}
+use Rattle.shifting.proofs.Slices.{application-slices, abstraction-slices, slices-argument, slices-app, slices-lam, slices-leaf}
 use Rattle.shifting.proofs.Tests.{heads-same, bodies-same, same-first, compared-ends, compared-yes, compared-no}
 use Rattle.shifting.proofs.Lowering.{unshifted-low, unshifted-high}
 
@@ -98,7 +98,7 @@ module _ (b : List ℕ) (k : ℕ) (e t : List ℕ) where
     at-local x p = local-at b 0 n x p w i
 
     ends-local : Whole b 0 → Ends b 0 4
-    ends-local a = ends-leaf b (λ q. omega arith) (λ q. omega arith) a
+    ends-local a = slices-leaf b (λ q. omega arith) (λ q. omega arith) a
 
     module _ (h : n ≡ k) where
       pub substituted-copy : (j : ℕ) (r : Walk) → Whole b 0 → r ≡ walk.Upto j → PartsCompared t e (Shifted k 0) r
@@ -128,7 +128,7 @@ module _ (b : List ℕ) (k : ℕ) (e t : List ℕ) where
       unfolding Substituted
       substituted-local j a c o u q = (
         ends-local a,
-        ends-leaf t (λ q. omega arith) (λ q. omega arith) c,
+        slices-leaf t (λ q. omega arith) (λ q. omega arith) c,
         λ x y z p s v. local-at t 0 j z v o u ∙ ap loc q ∙ sym (other-local x y p),
       )
 
@@ -159,9 +159,9 @@ module _ (b : List ℕ) (k : ℕ) (e t : List ℕ) where
             let u = application-slices b (x .body .tree) (x .body .part) w in
             let v = application-slices t (x .target .tree) (x .target .part) (sym c ∙ w) in
             record {
-              body = whole (slice b (4 + p .first)) 0 (u .a) (argument-slice b (p .first) (x .body .tree) (come .body-ends) u);
+              body = whole (slice b (4 + p .first)) 0 (u .a) (slices-argument b (p .first) (x .body .tree) (come .body-ends) u);
               argument = x .argument;
-              target = whole (slice t (4 + p .second)) 0 (v .a) (argument-slice t (p .second) (x .target .tree) (come .target-ends) v);
+              target = whole (slice t (4 + p .second)) 0 (v .a) (slices-argument t (p .second) (x .target .tree) (come .target-ends) v);
               most = omega (arith, x .most, slice-length t (4 + p .second));
               shallow = omega (arith, x .shallow, slice-length b (4 + p .first));
             }
@@ -182,22 +182,22 @@ module _ (b : List ℕ) (k : ℕ) (e t : List ℕ) where
             go : (o : Pairing) → Substituted (slice b (4 + p .first)) k e (slice t (4 + p .second)) o
                 → Substituted b k e t (bothFurther (4 + p .first) (4 + p .second) o)
             go (Upto j) m = (
-              ends-app b (p .first) (j .first) w (come .body-ends) (m .0),
-              ends-app t (p .second) (j .second) (sym c ∙ w) (come .target-ends) (m .1),
+              slices-app b (p .first) (j .first) w (come .body-ends) (m .0),
+              slices-app t (p .second) (j .second) (sym c ∙ w) (come .target-ends) (m .1),
               λ x y z f s g.
                   let u = application-slices b x f w in
                   let v = application-slices t z g (sym c ∙ w) in
                   v .is
                   ∙ ap₂ app (come .replaced (u .f) y (v .f) (u .head) s (v .head))
-                  (m .2 (u .a) y (v .a) (argument-slice b (p .first) x (come .body-ends) u) s
-                  (argument-slice t (p .second) z (come .target-ends) v))
+                  (m .2 (u .a) y (v .a) (slices-argument b (p .first) x (come .body-ends) u) s
+                  (slices-argument t (p .second) z (come .target-ends) v))
                   ∙ ap (substitute k y) (sym (u .is)),
             )
             go No m = λ x y z f s g h.
                 let u = application-slices b x f w in
                 let v = application-slices t z g (sym c ∙ w) in
-                m (u .a) y (v .a) (argument-slice b (p .first) x (come .body-ends) u) s
-                (argument-slice t (p .second) z (come .target-ends) v)
+                m (u .a) y (v .a) (slices-argument b (p .first) x (come .body-ends) u) s
+                (slices-argument t (p .second) z (come .target-ends) v)
                 (heads-same (v .f) (v .a) (substitute k y (u .f)) (substitute k y (u .a))
                 (sym (v .is) ∙ h ∙ ap (substitute k y) (u .is)) .1)
 
@@ -229,8 +229,8 @@ module _ (b : List ℕ) (k : ℕ) (e t : List ℕ) where
         where
           go : (o : Pairing) → Substituted (slice b 4) (k + 1) e (slice t 4) o → Substituted b k e t (bothFurther 4 4 o)
           go (Upto j) q = (
-            ends-lam b (j .first) w (q .0),
-            ends-lam t (j .second) (sym c ∙ w) (q .1),
+            slices-lam b (j .first) w (q .0),
+            slices-lam t (j .second) (sym c ∙ w) (q .1),
             λ x y z f s g.
                 let u = abstraction-slices b x f w in
                 let v = abstraction-slices t z g (sym c ∙ w) in
@@ -251,8 +251,8 @@ module _ (b : List ℕ) (k : ℕ) (e t : List ℕ) where
       pub substituted-other : Whole b 0 → Whole t 0 → n ≡ m → Substituted b k e t (Upto (record { first = 4; second = 4 }))
       unfolding Substituted
       substituted-other a d h = (
-        ends-leaf b (o .no-application) (o .no-abstraction) a,
-        ends-leaf t (λ q. o .no-application (c ∙ q)) (λ q. o .no-abstraction (c ∙ q)) d,
+        slices-leaf b (o .no-application) (o .no-abstraction) a,
+        slices-leaf t (λ q. o .no-application (c ∙ q)) (λ q. o .no-abstraction (c ∙ q)) d,
         λ x y z p s v.
             let f : kind x ≡ kind z = sym (kind-at b 0 x p) ∙ c ∙ kind-at t 0 z v in
             let g : numberOf x ≡ numberOf z = sym (number-at b 0 x p) ∙ sym i ∙ h ∙ j ∙ number-at t 0 z v in

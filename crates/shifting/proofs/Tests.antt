@@ -23,8 +23,8 @@ use Rattle.records.proofs.Parts.{whole, kind-at, number-at}
 use Rattle.records.proofs.Slices.{part-slice, whole-slice, slice-ends, slice-length}
 use Rattle.substitution.proofs.Writers.{Other, local-at}
 use Rattle.shifting.specs.Tests.{PartsComparable, Shifted, PartsCompared}
-use Rattle.shifting.proofs.Slices.{ApplicationSlices, application-slices, abstraction-slices, argument-slice}
-use Rattle.shifting.proofs.Slices.{ends-app, ends-lam, ends-leaf}
+use Rattle.shifting.proofs.Slices.{ApplicationSlices, application-slices, abstraction-slices, slices-argument}
+use Rattle.shifting.proofs.Slices.{slices-app, slices-lam, slices-leaf}
 
 -- the parts of two equal terms
 pub heads-same : (f a g b : Term) → app f a ≡ app g b → (f ≡ g) × (a ≡ b)
@@ -132,19 +132,19 @@ module _ (s e : List ℕ) (c d : ℕ) where
             go : (v : Walk) → PartsCompared (slice s (4 + h)) (slice e (4 + h)) (Shifted d c) v
                 → PartsCompared s e (Shifted d c) (further (4 + h) v)
             go (Upto r) o = (
-              ends-app s h r z (m .0) (o .0),
+              slices-app s h r z (m .0) (o .0),
               λ x y p t.
                   let u = application-slices s x p z in
                   let v = application-slices e y t w in
                   u .is
                   ∙ ap₂ app (m .1 (u .f) (v .f) (u .head) (v .head))
-                  (o .1 (u .a) (v .a) (argument-slice s h x (m .0) u) (second-argument x y u v))
+                  (o .1 (u .a) (v .a) (slices-argument s h x (m .0) u) (second-argument x y u v))
                   ∙ ap (shift d c) (sym (v .is)),
             )
             go No o = λ x y p t g.
                 let u = application-slices s x p z in
                 let v = application-slices e y t w in
-                o (u .a) (v .a) (argument-slice s h x (m .0) u) (second-argument x y u v)
+                o (u .a) (v .a) (slices-argument s h x (m .0) u) (second-argument x y u v)
                 (heads-same (u .f) (u .a) (shift d c (v .f)) (shift d c (v .a)) (sym (u .is) ∙ g ∙ ap (shift d c) (v .is)) .1)
 
         pub compares-argument : PartsComparable s e c d → PartsComparable (slice s (4 + h)) (slice e (4 + h)) c d
@@ -153,7 +153,7 @@ module _ (s e : List ℕ) (c d : ℕ) where
             let v = application-slices e (x .second .tree) (x .second .part) w in
             let n : Ends (slice s 4) 0 h = compared-ends (slice s 4) (slice e 4) (Shifted d c) h r i q in
             record {
-              first = whole (slice s (4 + h)) 0 (u .a) (argument-slice s h (x .first .tree) n u);
+              first = whole (slice s (4 + h)) 0 (u .a) (slices-argument s h (x .first .tree) n u);
               second = whole (slice e (4 + h)) 0 (v .a) (second-argument (x .first .tree) (x .second .tree) u v);
               shallow = omega (arith, x .shallow, slice-length s (4 + h));
               few = x .few;
@@ -207,7 +207,7 @@ module _ (s e : List ℕ) (c d : ℕ) where
         where
           go : (v : Walk) → PartsCompared (slice s 4) (slice e 4) (Shifted d (c + 1)) v → PartsCompared s e (Shifted d c) (further 4 v)
           go (Upto h) q = (
-            ends-lam s h z (q .0),
+            slices-lam s h z (q .0),
             λ x y p t.
                 let u = abstraction-slices s x p z in
                 let v = abstraction-slices e y t (sym k ∙ z) in
@@ -225,7 +225,7 @@ module _ (s e : List ℕ) (c d : ℕ) where
       pub compared-local : Whole s 0 → getD s 0 0 ≡ 2 → loc m ≡ shift d c (loc n) → PartsCompared s e (Shifted d c) (Upto 4)
       unfolding PartsCompared
       compared-local o z g = (
-        ends-leaf s (λ q. omega arith) (λ q. omega arith) o,
+        slices-leaf s (λ q. omega arith) (λ q. omega arith) o,
         λ x y p t. local-at s 0 m x p z i ∙ g ∙ ap (shift d c) (sym (local-at e 0 n y t (sym k ∙ z) j)),
       )
 
@@ -240,7 +240,7 @@ module _ (s e : List ℕ) (c d : ℕ) where
         pub compared-other : Whole s 0 → m ≡ n → PartsCompared s e (Shifted d c) (Upto 4)
         unfolding PartsCompared
         compared-other a g = (
-          ends-leaf s (o .no-application) (o .no-abstraction) a,
+          slices-leaf s (o .no-application) (o .no-abstraction) a,
           λ x y p t.
               let a : kind x ≡ kind y = sym (kind-at s 0 x p) ∙ k ∙ kind-at e 0 y t in
               let b : numberOf x ≡ numberOf y = sym (number-at s 0 x p) ∙ sym i ∙ g ∙ j ∙ number-at e 0 y t in

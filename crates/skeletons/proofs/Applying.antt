@@ -32,8 +32,8 @@ module _ (c e t : List ℕ) (x : SkeletonApplicable c e t) where
     argument-bytes : table ≡ encode (x .argument)
     argument-bytes = part-bytes e 0 (end - 0) (x .argument) (x .part) (omega (arith, m .exact (x .argument) (x .part)))
 
-    pub applied : SweptParts c table
-    applied =
+    pub skeleton-applied : SweptParts c table
+    skeleton-applied =
         let n = table-length c (x .skeleton) (x .bytes) in
         let k = table-length table (x .argument) argument-bytes in
         record {

@@ -25,10 +25,10 @@ use Rattle.shifting.specs.declared.Places.{Places}
 use Rattle.shifting.specs.declared.Pairing.{Pairing}
 use Rattle.shifting.specs.declared.Pairing.the-variants.{Upto, No}
 use Rattle.shifting.specs.Substitution.{NearBoth, bothFurther}
-use Rattle.shifting.proofs.Slices.{application-slices, abstraction-slices, argument-slice, ends-app, ends-lam, ends-leaf}
+use Rattle.shifting.proofs.Slices.{application-slices, abstraction-slices, slices-argument, slices-app, slices-lam, slices-leaf}
 use Rattle.skeletons.specs.Skeleton.{SkeletonComparable, MayBe}
 use Rattle.skeletons.specs.Compared.{SkeletonCompared}
-use Rattle.skeletons.proofs.Tests.{variable-at, no-variable}
+use Rattle.skeletons.proofs.Tests.{hole-at, no-variable}
 
 -- what fits has the first record of the skeleton, if that is no hole
 fits-kind : (x y : Term) → isVariable x ≡ false → Fits x y → kind x ≡ kind y
@@ -107,12 +107,12 @@ module _ (c s : List ℕ) where
 
   module _ (k : getD c 0 0 ≡ 4) where
     filled : (x y : Term) → Part c 0 x → Fills (numberAt c 0) y → Fits x y
-    filled x y p f = same-fits (var (numberAt c 0)) y x y (sym (variable-at c 0 x p k)) refl f
+    filled x y p f = same-fits (var (numberAt c 0)) y x y (sym (hole-at c 0 x p k)) refl f
 
     passed : SkeletonComparable c s → (r : ℕ) → Ends s 0 r → ((y : Term) → Part s 0 y → Fills (numberAt c 0) y)
         → SkeletonCompared c s (Upto (record { first = 4; second = r }))
     unfolding SkeletonCompared
-    passed z r e f = (ends-leaf c (λ q. omega arith) (λ q. omega arith) (z .skeleton), e, λ x y p q. filled x y p (f y q))
+    passed z r e f = (slices-leaf c (λ q. omega arith) (λ q. omega arith) (z .skeleton), e, λ x y p q. filled x y p (f y q))
 
     pub compared-any : (m r : ℕ) → m ≡ numberAt c 0 → m ≡ 0 → SkeletonComparable c s → Ends s 0 r
         → SkeletonCompared c s (Upto (record { first = 4; second = r }))
@@ -130,7 +130,7 @@ module _ (c s : List ℕ) where
       unfolding Walked SkeletonCompared
       compared-loose i m j o x y p q h =
           let z : Walked s 0 (Asks Below 0) walk.No = subst (Walked s 0 (Asks Below 0)) i v in
-          z y q (filled-closed (numberAt c 0) y (λ n. o (j ∙ n)) (same-fits x y (var (numberAt c 0)) y (variable-at c 0 x p k) refl h))
+          z y q (filled-closed (numberAt c 0) y (λ n. o (j ∙ n)) (same-fits x y (var (numberAt c 0)) y (hole-at c 0 x p k) refl h))
 
   pub compared-kinds : ¬ (getD c 0 0 ≡ 4) → ¬ (getD c 0 0 ≡ getD s 0 0) → SkeletonCompared c s No
   unfolding SkeletonCompared
@@ -160,8 +160,8 @@ module _ (c s : List ℕ) where
         compares-argument x =
             let u = application-slices c (x .skeleton .tree) (x .skeleton .part) w in
             let v = application-slices s (x .term .tree) (x .term .part) (sym e ∙ w) in
-            compares (4 + p .first) (4 + p .second) (u .a) (v .a) (argument-slice c (p .first) (x .skeleton .tree) (come .skeleton-ends) u)
-            (argument-slice s (p .second) (x .term .tree) (come .term-ends) v) x
+            compares (4 + p .first) (4 + p .second) (u .a) (v .a) (slices-argument c (p .first) (x .skeleton .tree) (come .skeleton-ends) u)
+            (slices-argument s (p .second) (x .term .tree) (come .term-ends) v) x
 
         pub compared-app : (o a : Pairing) → a ≡ bothFurther (4 + p .first) (4 + p .second) o
             → SkeletonCompared (slice c (4 + p .first)) (slice s (4 + p .second)) o → SkeletonCompared c s a
@@ -171,15 +171,15 @@ module _ (c s : List ℕ) where
             go : (o : Pairing) → SkeletonCompared (slice c (4 + p .first)) (slice s (4 + p .second)) o
                 → SkeletonCompared c s (bothFurther (4 + p .first) (4 + p .second) o)
             go (Upto j) m = (
-              ends-app c (p .first) (j .first) w (come .skeleton-ends) (m .0),
-              ends-app s (p .second) (j .second) (sym e ∙ w) (come .term-ends) (m .1),
+              slices-app c (p .first) (j .first) w (come .skeleton-ends) (m .0),
+              slices-app s (p .second) (j .second) (sym e ∙ w) (come .term-ends) (m .1),
               λ x y f g.
                   let u = application-slices c x f w in
                   let v = application-slices s y g (sym e ∙ w) in
                   same-fits (app (u .f) (u .a)) (app (v .f) (v .a)) x y (sym (u .is)) (sym (v .is)) (
                     come .fits (u .f) (v .f) (u .head) (v .head),
-                    m .2 (u .a) (v .a) (argument-slice c (p .first) x (come .skeleton-ends) u)
-                        (argument-slice s (p .second) y (come .term-ends) v),
+                    m .2 (u .a) (v .a) (slices-argument c (p .first) x (come .skeleton-ends) u)
+                        (slices-argument s (p .second) y (come .term-ends) v),
                   ),
             )
             go No m = λ x y f g h.
@@ -187,8 +187,8 @@ module _ (c s : List ℕ) where
                 let v = application-slices s y g (sym e ∙ w) in
                 let k : Fits (app (u .f) (u .a)) (app (v .f) (v .a)) =
                 same-fits x y (app (u .f) (u .a)) (app (v .f) (v .a)) (u .is) (v .is) h in
-                m (u .a) (v .a) (argument-slice c (p .first) x (come .skeleton-ends) u)
-                (argument-slice s (p .second) y (come .term-ends) v) (k .1)
+                m (u .a) (v .a) (slices-argument c (p .first) x (come .skeleton-ends) u)
+                (slices-argument s (p .second) y (come .term-ends) v) (k .1)
 
     module _ (w : getD c 0 0 ≡ 1) where
       pub compares-body : SkeletonComparable c s → SkeletonComparable (slice c 4) (slice s 4)
@@ -203,8 +203,8 @@ module _ (c s : List ℕ) where
         where
           go : (o : Pairing) → SkeletonCompared (slice c 4) (slice s 4) o → SkeletonCompared c s (bothFurther 4 4 o)
           go (Upto j) m = (
-            ends-lam c (j .first) w (m .0),
-            ends-lam s (j .second) (sym e ∙ w) (m .1),
+            slices-lam c (j .first) w (m .0),
+            slices-lam s (j .second) (sym e ∙ w) (m .1),
             λ x y f g.
                 let u = abstraction-slices c x f w in
                 let v = abstraction-slices s y g (sym e ∙ w) in
@@ -220,8 +220,8 @@ module _ (c s : List ℕ) where
           → SkeletonCompared c s (Upto (record { first = 4; second = 4 }))
       unfolding SkeletonCompared
       compared-same o l z h = (
-        ends-leaf c o l (z .skeleton),
-        ends-leaf s (λ q. o (e ∙ q)) (λ q. l (e ∙ q)) (z .term),
+        slices-leaf c o l (z .skeleton),
+        slices-leaf s (λ q. o (e ∙ q)) (λ q. l (e ∙ q)) (z .term),
         λ x y p q. subst (Fits x)
             (single-same x y (leaf-size c 0 x p o l) (leaf-size s 0 y q (λ k. o (e ∙ k)) (λ k. l (e ∙ k)))
             (sym (kind-at c 0 x p) ∙ e ∙ kind-at s 0 y q) (sym (number-at c 0 x p) ∙ sym i ∙ h ∙ j ∙ number-at s 0 y q))

@@ -26,12 +26,12 @@ use Rattle.skeletons.specs.Contracted.{Exact}
 
 -- a hole, and a record that is none
 module _ (l : List ℕ) (at : ℕ) where
-  pub variable-at : (t : Term) → Part l at t → getD l at 0 ≡ 4 → t ≡ var (numberAt l at)
-  variable-at (app f a) x k = absurd (omega (arith, kind-at l at (app f a) x))
-  variable-at (lam b) x k = absurd (omega (arith, kind-at l at (lam b) x))
-  variable-at (loc n) x k = absurd (omega (arith, kind-at l at (loc n) x))
-  variable-at (con n) x k = absurd (omega (arith, kind-at l at (con n) x))
-  variable-at (var n) x k = ap var (sym (number-at l at (var n) x))
+  pub hole-at : (t : Term) → Part l at t → getD l at 0 ≡ 4 → t ≡ var (numberAt l at)
+  hole-at (app f a) x k = absurd (omega (arith, kind-at l at (app f a) x))
+  hole-at (lam b) x k = absurd (omega (arith, kind-at l at (lam b) x))
+  hole-at (loc n) x k = absurd (omega (arith, kind-at l at (loc n) x))
+  hole-at (con n) x k = absurd (omega (arith, kind-at l at (con n) x))
+  hole-at (var n) x k = ap var (sym (number-at l at (var n) x))
 
   pub no-variable : (t : Term) → Part l at t → ¬ (getD l at 0 ≡ 4) → isVariable t ≡ false
   no-variable (app f a) x n = refl
@@ -41,7 +41,7 @@ module _ (l : List ℕ) (at : ℕ) where
   no-variable (var i) x n = absurd (n (kind-at l at (var i) x))
 
   pub hole-inexact : getD l at 0 ≡ 4 → (t : Term) → Part l at t → ¬ Exact t
-  hole-inexact k t x e = let q : true ≡ false = sym (ap hasVariable (variable-at t x k)) ∙ e in subst T q tt
+  hole-inexact k t x e = let q : true ≡ false = sym (ap hasVariable (hole-at t x k)) ∙ e in subst T q tt
 
   pub leaf-exact : ¬ (getD l at 0 ≡ 0) → ¬ (getD l at 0 ≡ 1) → ¬ (getD l at 0 ≡ 4) → (t : Term) → Part l at t → Exact t
   leaf-exact n m v (app f a) x = absurd (n (kind-at l at (app f a) x))
@@ -81,7 +81,7 @@ or-none false = refl
 
 module _ (b : List ℕ) where
   pub unsure-hole : getD b 0 0 ≡ 4 → (m : ℕ) → m ≡ numberAt b 0 → Equals b isUnsure (eqb m 0)
-  unsure-hole k m i t e = ap (λ (n : ℕ). eqb n 0) i ∙ sym (ap isUnsure (variable-at b 0 t (at-start b t e) k))
+  unsure-hole k m i t e = ap (λ (n : ℕ). eqb n 0) i ∙ sym (ap isUnsure (hole-at b 0 t (at-start b t e) k))
 
   pub sure-other : ¬ (getD b 0 0 ≡ 4) → ¬ (getD b 0 0 ≡ 0) → Equals b isUnsure false
   sure-other v n (app f a) e = absurd (n (kind-at b 0 (app f a) (at-start b (app f a) e)))
@@ -101,7 +101,7 @@ module _ (b : List ℕ) where
       pub unsure-argument : getD b next 0 ≡ 4 → (m : ℕ) → m ≡ numberAt b next → Equals b isUnsure (eqb m 0)
       unsure-argument k m i t e =
           let v = application b 0 t (at-start b t e) z in
-          rw (v .is, variable-at b next (v .a) (argument-part b 0 next t u v) k)
+          rw (v .is, hole-at b next (v .a) (argument-part b 0 next t u v) k)
           (ap (λ (n : ℕ). eqb n 0) i ∙ or-none (eqb (numberAt b next) 0))
 
       other-argument : (a : Term) (h : Bool) → Part b next a → ¬ (getD b next 0 ≡ 4) → ¬ (getD b next 0 ≡ 2)

@@ -32,7 +32,7 @@ use Rattle.sweeping.proofs.Values.{ValueBytes, held}
 use Rattle.skeletons.specs.Skeleton.{GivenValues, SkeletonInput, IsSkeleton, SkeletonWritten, WritesSkeleton}
 use Rattle.skeletons.specs.Contracted.{WritesApplication, WritesAbstraction, Known, Entered}
 use Rattle.skeletons.proofs.Contractions.{Hole, ClosedHole}
-use Rattle.skeletons.proofs.Tests.{variable-at}
+use Rattle.skeletons.proofs.Tests.{hole-at}
 
 -- a hole is a skeleton of everything, and one for closed terms is a skeleton of what is closed
 module _ (s : List ℕ) (a : List Entry) (out : List ℕ) (n : ℕ) (after : List ℕ) where
@@ -277,7 +277,7 @@ module _ (l s : List ℕ) (a : List Entry) (z : getD l 0 0 ≡ 1) (m : List ℕ)
 -- a variable
 module _ (l s : List ℕ) (a : List Entry) (i : ℕ) (z : getD l 0 0 ≡ 4) (q : i ≡ numberAt l 0) where
   variable-is : (t : Term) → l ≡ encode t → t ≡ var i
-  variable-is t e = variable-at l 0 t (at-start l t e) z ∙ ap var (sym q)
+  variable-is t e = hole-at l 0 t (at-start l t e) z ∙ ap var (sym q)
 
   pub variable-known : SkeletonInput l s a → Known s a i
   variable-known x =

@@ -103,11 +103,11 @@ module _ (W : List ℕ) (at o : ℕ) (x : Expandable W at o) where
     local-room U X e f =
         omega (arith, length-stored (bytes 0 0 []) W U o e, length-stored (take (n - 0) (drop 0 Y)) U X (o + 4) f, apply-most, x .room)
 
-    pub applied :
+    pub expanded :
         (U X R : List ℕ) (m : ℕ) → length Z ≡ targetBytes → U ≡ sets W o (bytes 0 0 []) → X ≡ sets U (o + 4) (take (n - 0) (drop 0 Y))
         → R ≡ sets X m (bytes 2 0 [])
         → m ≡ o + 4 + n → Expanded W at o R (m + 4)
-    applied U X R m z e f g h = record {
+    expanded U X R m z e f g h = record {
       exact = λ t y. omega (arith, w .exact t y);
       bytes = λ t y.
           let c : take (n - 0) (drop 0 Y) ≡ encode (shift 1 0 t) =

@@ -31,7 +31,7 @@ ghost use Rattle.agenda.specs.State.{Ready};
 ghost use Rattle.steps.specs.Steps.{Stepped};
 ghost use Rattle.steps.specs.Opening.{Opens, Plain, Names, SameRecord, Expandable, Expanded};
 
-// Whether the record of p at byte i and that of work at byte j have one kind and one number.
+// Whether the record of the pattern at byte i and that of work at byte j have one kind and one number.
 fn is_same_record(pattern: &[u8], i: usize, work: &[u8], j: usize) -> bool
     requires { ⌜ (i + 4 ≤ length (now pattern)) × (j + 4 ≤ length (now work)) ⌝ }
     ensures { λ r. ⌜ Says r (SameRecord (now (pattern .entry)) i (now (work .entry)) j) ⌝ }

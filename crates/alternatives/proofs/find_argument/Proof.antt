@@ -3,7 +3,7 @@
 use mathlib.Core.Path.{_∙_}
 use borrow.Author.Tests.{not-true}
 use native.Mathlib.Omega.{arith}
-use Rattle.alternatives.proofs.Applications.{numbers, argument-whole, argument-ends, fits-match, fits-build}
+use Rattle.alternatives.proofs.Applications.{stored-bounds, argument-whole, argument-ends, fits-match, fits-build}
 use Rattle.alternatives.proofs.Arguments.{placed-at, places, depth, few-records, part-whole, unlike, no-argument, ending, looks}
 use Rattle.alternatives.proofs.Arguments.{top-whole, target-within, top-within}
 use Rattle.alternatives.proofs.Arguments.{comparable, unfitting, again, lacking, found}
@@ -245,7 +245,7 @@ put-goal-requires c κs =
     let place-argument = place-before placed in
     let goal-at = stored-before placed in
     let start : tie.Start = search in
-    let n = numbers _ _ _ _ (start .pre .0) _ (goal-at .goal-at .ensures .0) in
+    let n = stored-bounds _ _ _ _ (start .pre .0) _ (goal-at .goal-at .ensures .0) in
     let e = ending _ _ _ _ (start .pre .0) _ (goal-at .goal-at .ensures .0) _ _ _
     (placed-at _ _ _ _ _ _ _ (place-argument .place-argument .ensures) (placed .placed .given .1)) in (
       omega (arith, n .room, e .most, e .whole),
@@ -276,7 +276,7 @@ put-goal-requires-2 c κs =
     let place-argument = place-before placed in
     let goal-at = stored-before placed in
     let start : tie.Start = search in
-    let n = numbers _ _ _ _ (start .pre .0) _ (goal-at .goal-at .ensures .0) in
+    let n = stored-bounds _ _ _ _ (start .pre .0) _ (goal-at .goal-at .ensures .0) in
     let e = ending _ _ _ _ (start .pre .0) _ (goal-at .goal-at .ensures .0) _ _ _
     (placed-at _ _ _ _ _ _ _ (place-argument .place-argument .ensures) (placed .placed .given .1)) in (
       omega (arith, n .room, e .most, e .whole),

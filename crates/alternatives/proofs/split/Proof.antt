@@ -1,7 +1,7 @@
 -- `alternatives::split` meets its contract. Two goals are written at the top, for the two parts of the target. Assumes nothing.
 use native.Mathlib.Omega.{arith}
 use Rattle.records.proofs.Parts.{whole-head}
-use Rattle.alternatives.proofs.Applications.{numbers, no-parts, parts-pushed, live, died, fits-match}
+use Rattle.alternatives.proofs.Applications.{stored-bounds, no-parts, parts-pushed, live, died, fits-match}
 use borrow.Author.Needs.{needs}
 use Rattle.alternatives.proofs.split.Statement.{statement}
 use Rattle.alternatives.proofs.split.Tie as tie
@@ -14,7 +14,7 @@ slice-read-if1 c =
     let start : tie.Start = search in
     omega (
       arith,
-      numbers _ _ _ _ (start .pre) _ (c .before .goal-at .ensures .0) .target-low,
+      stored-bounds _ _ _ _ (start .pre) _ (c .before .goal-at .ensures .0) .target-low,
       start .pre .ready .bounds .top,
       start .pre .ready .bounds .whole,
     )
@@ -32,7 +32,7 @@ end-at-requires : tie.Need-end-at-requires
 end-at-requires c κs =
     let goal-at : tie.After-goal-at = search in
     let start : tie.Start = search in
-    numbers _ _ _ _ (start .pre) _ (goal-at .goal-at .ensures .0) .head
+    stored-bounds _ _ _ _ (start .pre) _ (goal-at .goal-at .ensures .0) .head
 
 add-end-at-2 : tie.Need-add-end-at-2
 add-end-at-2 c = search needs
@@ -42,7 +42,7 @@ end-at-requires-2 c κs =
     let else1 : tie.Else1 = search in
     let goal-at : tie.After-goal-at = search in
     let start : tie.Start = search in
-    whole-head _ _ (numbers _ _ _ _ (start .pre) _ (goal-at .goal-at .ensures .0) .target) (else1 .if1 .left)
+    whole-head _ _ (stored-bounds _ _ _ _ (start .pre) _ (goal-at .goal-at .ensures .0) .target) (else1 .if1 .left)
 
 match-goal-requires : tie.Need-match-goal-requires
 match-goal-requires c κs = search needs
@@ -53,7 +53,7 @@ put-goal-requires c κs =
     let end-at : tie.After-end-at = search in
     let goal-at : tie.After-goal-at = search in
     let start : tie.Start = search in
-    let n = numbers _ _ _ _ (start .pre) _ (goal-at .goal-at .ensures .0) in (
+    let n = stored-bounds _ _ _ _ (start .pre) _ (goal-at .goal-at .ensures .0) in (
       omega (arith, n .room, start .pre .ready .bounds .whole),
       fits-match _ _ _ _ (c .match-goal .ensures) (omega (arith, end-at .end-at .ensures .within, start .pre .ready .bounds .short))
           (omega (arith, end-at2 .end-at2 .ensures .within, start .pre .ready .bounds .whole))
@@ -78,7 +78,7 @@ put-goal-requires-2 : tie.Need-put-goal-requires-2
 put-goal-requires-2 c κs =
     let goal-at : tie.After-goal-at = search in
     let start : tie.Start = search in
-    let n = numbers _ _ _ _ (start .pre) _ (goal-at .goal-at .ensures .0) in (
+    let n = stored-bounds _ _ _ _ (start .pre) _ (goal-at .goal-at .ensures .0) in (
       omega (arith, n .room, start .pre .ready .bounds .whole),
       fits-match _ _ _ _ (c .match-goal2 .ensures)
           (omega (arith, goal-at .goal-at .ensures .1 .part, n .part-low, start .pre .ready .bounds .short))

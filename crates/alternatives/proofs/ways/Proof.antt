@@ -1,7 +1,7 @@
 -- `alternatives::ways` meets its contract. The end of the target tells how many records it has, and the end of the head where the
 -- argument begins, whose skeleton is a skeleton in every state that stands there. Assumes nothing.
-use Rattle.alternatives.proofs.Applications.{numbers, argument-walkable, argument-source, locals, counted}
-use Rattle.alternatives.proofs.Applications.{depths-room, target-place, argument-place, argument-slice}
+use Rattle.alternatives.proofs.Applications.{stored-bounds, argument-walkable, argument-source, locals, counted}
+use Rattle.alternatives.proofs.Applications.{depths-room, target-place, argument-place, argument-whole-slice}
 use borrow.Author.Needs.{needs}
 use Rattle.alternatives.proofs.ways.Statement.{statement}
 use Rattle.alternatives.proofs.ways.Tie as tie
@@ -15,13 +15,13 @@ add-head c = search needs
 end-at-requires : tie.Need-end-at-requires
 end-at-requires c κs =
     let start : tie.Start = search in
-    numbers _ _ _ _ (start .pre) _ (c .before .goal-at .ensures .0) .target
+    stored-bounds _ _ _ _ (start .pre) _ (c .before .goal-at .ensures .0) .target
 
 end-at-requires-2 : tie.Need-end-at-requires-2
 end-at-requires-2 c κs =
     let goal-at : tie.After-goal-at = search in
     let start : tie.Start = search in
-    numbers _ _ _ _ (start .pre) _ (goal-at .goal-at .ensures .0) .head
+    stored-bounds _ _ _ _ (start .pre) _ (goal-at .goal-at .ensures .0) .head
 
 sub-part : tie.Need-sub-part
 sub-part c = search (needs, argument-place)
@@ -33,7 +33,7 @@ part-part-end : tie.Need-part-part-end
 part-part-end c = search needs
 
 is-rigid-requires : tie.Need-is-rigid-requires
-is-rigid-requires c κs = search (needs, argument-slice)
+is-rigid-requires c κs = search (needs, argument-whole-slice)
 
 ask-part-requires : tie.Need-ask-part-requires
 ask-part-requires c κs =

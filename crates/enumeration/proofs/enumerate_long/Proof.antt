@@ -1,7 +1,7 @@
 -- `enumeration::enumerate_long` meets its contract: the lines found are those of the one full listing, decide whether it has room,
 -- and are then all in the search's own tables. Assumes nothing.
 use native.Mathlib.Omega.{arith}
-use Rattle.enumeration.proofs.Searches.{no-lines, copies, answered, listable-kept}
+use Rattle.enumeration.proofs.Searches.{no-lines, copyable, answered, listable-kept}
 use borrow.Author.Needs.{needs}
 use Rattle.enumeration.proofs.enumerate_long.Statement.{statement}
 use Rattle.enumeration.proofs.enumerate_long.Tie as tie
@@ -51,7 +51,7 @@ copy-lines-requires c κs =
     let known = table .before .before .before in
     let start = known .before .before .before in
     λ r.
-    copies _ _ (start .pre .pattern-checked) (start .pre .recipe-checked) _ _ _ _ _ _ (found .collect .ensures) (else1 .if1 .left)
+    copyable _ _ (start .pre .pattern-checked) (start .pre .recipe-checked) _ _ _ _ _ _ (found .collect .ensures) (else1 .if1 .left)
     (omega (arith, start .pre .lines-most)) (omega (arith, r, start .pre .values-most)) _ _ _ (omega arith) (omega (arith, r))
     (listable-kept _ _ _ _ _ (start .pre) _ (found .collect .kept .1 .1 .1 .1 .1 .0))
 

@@ -3,7 +3,7 @@
 use native.Mathlib.Omega.{arith}
 use Rattle.records.proofs.Tests.{says}
 use Rattle.enumeration.specs.Steps.{Short}
-use Rattle.enumeration.proofs.Searches.{copies, answered, listable-kept}
+use Rattle.enumeration.proofs.Searches.{copyable, answered, listable-kept}
 use borrow.Author.Needs.{needs}
 use Rattle.enumeration.proofs.enumerate_short.Statement.{statement}
 use Rattle.enumeration.proofs.enumerate_short.Tie as tie
@@ -55,7 +55,7 @@ copy-lines-requires c κs =
     let h =
     says (Short (found .collect .result .lines) (found .collect .result .records) _) _ _ (short .is-short .ensures) (then1 .if1 .taken) in
     λ r.
-    copies _ _ (start .pre .pattern-checked) (start .pre .recipe-checked) _ _ _ _ _ _ (found .collect .ensures) (h .0)
+    copyable _ _ (start .pre .pattern-checked) (start .pre .recipe-checked) _ _ _ _ _ _ (found .collect .ensures) (h .0)
     (omega (arith, few .few-lines .ensures, h .0)) (omega (arith, h .1)) _ _ _ (omega (arith, few .few-lines .ensures, h .0))
     (omega (arith, r)) (listable-kept _ _ _ _ _ (start .pre) _ (found .collect .kept .1 .1 .1 .1 .1 .0))
 

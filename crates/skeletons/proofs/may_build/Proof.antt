@@ -1,6 +1,6 @@
 -- `skeletons::may_build` meets its contract: the skeleton is applied to the argument's term, and what it gives is compared with the target.
 -- By the laws of an applied skeleton. Assumes nothing.
-use Rattle.skeletons.proofs.Applying.{argument-whole, applied, built-within, built-comparable, built-answer}
+use Rattle.skeletons.proofs.Applying.{argument-whole, skeleton-applied, built-within, built-comparable, built-answer}
 use borrow.Author.Needs.{needs}
 use Rattle.skeletons.proofs.may_build.Statement.{statement}
 use Rattle.skeletons.proofs.may_build.Tie as tie
@@ -18,7 +18,7 @@ part-apply-end : tie.Need-part-apply-end
 part-apply-end c = search needs
 
 apply-requires : tie.Need-apply-requires
-apply-requires c κs = search (needs, applied)
+apply-requires c κs = search (needs, skeleton-applied)
 
 mul-n : tie.Need-mul-n
 mul-n c = search needs

@@ -1,7 +1,7 @@
 -- `steps::apply_into` meets its contract. The three runs of bytes are the table of the application, since a shifted target has the
 -- target's records and fits the array. Assumes nothing.
 use native.Mathlib.Omega.{arith}
-use Rattle.steps.proofs.Descents.{apply-source, apply-most, copy-room, local-room, applied}
+use Rattle.steps.proofs.Descents.{apply-source, apply-most, copy-room, local-room, expanded}
 use borrow.Author.Needs.{needs}
 use Rattle.steps.proofs.apply_into.Statement.{statement}
 use Rattle.steps.proofs.apply_into.Tie as tie
@@ -72,7 +72,7 @@ same-length : tie.Need-same-length
 same-length c = search needs
 
 returns : tie.Need-returns
-returns c = search (needs, applied)
+returns c = search (needs, expanded)
 
 pub apply-into-spec : {M : Type 1} → statement M
 apply-into-spec =

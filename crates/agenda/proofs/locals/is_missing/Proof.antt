@@ -1,9 +1,9 @@
--- `alternatives::is_missing` meets its contract. A local that the argument's target doesn't use is looked for in the head. Assumes
+-- `agenda::locals::is_missing` meets its contract. A local that the argument's target doesn't use is looked for in the head. Assumes
 -- nothing.
-use Rattle.alternatives.proofs.Missing.{missing-unused, missing-none}
+use Rattle.agenda.proofs.Missing.{missing-unused, missing-none}
 use borrow.Author.Needs.{needs}
-use Rattle.alternatives.proofs.is_missing.Statement.{statement}
-use Rattle.alternatives.proofs.is_missing.Tie as tie
+use Rattle.agenda.proofs.locals.is_missing.Statement.{statement}
+use Rattle.agenda.proofs.locals.is_missing.Tie as tie
 
 returns : tie.Need-returns
 returns c = missing-none _ _ _ _ _

@@ -11,8 +11,7 @@ use Rattle.terms.specs.Term.{Term, uses}
 use Rattle.records.specs.Parts.{slice, Part}
 use Rattle.shifting.specs.Locals.{Marks, Marked}
 use Rattle.shifting.proofs.Locals.{marking-at, mark-true, mark-false}
-use Rattle.agenda.specs.Locals.{Unused}
-use Rattle.alternatives.specs.Applications.{Missing, Misses}
+use Rattle.agenda.specs.Locals.{Unused, Missing, Misses}
 
 pub missing-unused : (P : List ℕ) (i k m n : ℕ) (b : Bool) → ¬ (n ≡ 1) → Unused P i k m b → Missing P i k m n b
 unfolding Missing Unused

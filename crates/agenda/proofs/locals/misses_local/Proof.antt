@@ -1,10 +1,10 @@
--- `alternatives::misses_local` meets its contract. The loop stops at the first local that is missing; only that answer says
+-- `agenda::locals::misses_local` meets its contract. The loop stops at the first local that is missing; only that answer says
 -- something. Assumes nothing.
 use Prim.Native.Nat.{_≤_, _-_}
-use Rattle.alternatives.proofs.Missing.{misses-found, misses-none}
+use Rattle.agenda.proofs.Missing.{misses-found, misses-none}
 use borrow.Author.Needs.{needs}
-use Rattle.alternatives.proofs.misses_local.Statement.{statement}
-use Rattle.alternatives.proofs.misses_local.Tie as tie
+use Rattle.agenda.proofs.locals.misses_local.Statement.{statement}
+use Rattle.agenda.proofs.locals.misses_local.Tie as tie
 
 abbrev Inv-loop : tie.InvT-loop
 Inv-loop p i work j e target argument k₀ k = k ≤ 32
