@@ -6,8 +6,8 @@ use mathlib.Core.Option.{Option, none, some}
 use mathlib.Core.List.{List, [], _∷_, _++_, append-assoc}
 use Prim.Native.Nat.{ℕ, suc, _+_, _*_, _%_, _<_, _≤_}
 use native.Mathlib.Omega.{arith}
-use lib.ListN.{length, getD, take, drop, set, List·getD-append, take-append-drop}
-use lib.Seq.{sets, sets-eq, take-take, take-add, take-at, drop-at, length-sets, length-take-le, getD-append-add, getD-take, take-set-le}
+use lib.ListN.{length, getD, take, drop, List·getD-append, take-append-drop}
+use lib.Seq.{sets, sets-eq, take-take, take-add, take-at, drop-at, length-sets, length-take-le, getD-append-add, getD-take}
 use Rattle.terms.specs.Term.{Term, size}
 use Rattle.terms.specs.Figures.{variables}
 use Rattle.terms.specs.Table.{encode}
@@ -21,6 +21,7 @@ use Rattle.records.proofs.Parts.{part}
 use Rattle.assignments.specs.declared.Entry.{Entry}
 use Rattle.assignments.specs.declared.Entry.the-variants.{Open, Assigned}
 use Rattle.assignments.specs.Held.{EntryHeld, Holds}
+use Rattle.shifting.proofs.Lowering.{take-sets}
 use Rattle.agenda.specs.declared.Agenda.{Agenda}
 use Rattle.agenda.specs.declared.StoredGoal.{StoredGoal}
 use Rattle.agenda.specs.Stored.{storedBytes, StoredAt}
@@ -136,10 +137,6 @@ state-kept n P W X s a gs hs l k x = record {
 }
 
 -- bytes that were stored
-pub take-sets : (vs l : List ℕ) (at n : ℕ) → n ≤ at → take n (sets l at vs) ≡ take n l
-take-sets [] l at n h = refl
-take-sets (v ∷ vs) l at n h = take-sets vs (set l at v) (suc at) n (omega arith) ∙ take-set-le n l at v h
-
 pub getD-stored : (vs l : List ℕ) (at i : ℕ) → i < length vs → at + length vs ≤ length l → getD (sets l at vs) (at + i) 0 ≡ getD vs i 0
 getD-stored vs l at i h k =
     let p : length (take at l) ≡ at = length-take-le at l (omega arith) in
@@ -158,7 +155,7 @@ part-stored t l at h =
 -- storing at or above top keeps what is below
 pub kept-sets : (vs W X : List ℕ) (at top : ℕ) → X ≡ sets W at vs → top ≤ at → top ≤ length W → Kept W X top
 kept-sets vs W X at top e h r = record {
-  same = ap (take top) e ∙ take-sets vs W at top h;
+  same = ap (take top) e ∙ take-sets vs W top at h;
   from = r;
   to = omega (arith, ap length e, length-sets W at vs);
 }

@@ -16,7 +16,7 @@ use lib.ListN.{length, getD}
 use lib.Seq.{sets}
 use Rattle.terms.specs.Figures.{tableBytes}
 use Rattle.terms.specs.Term.{Term, lam, substitute, uses}
-use Rattle.terms.specs.Table.{bytes}
+use Rattle.terms.specs.Table.{bytes, abstractionKind}
 use Rattle.matching.specs.Bodies.{Some}
 use Rattle.records.specs.Parts.{Part, Whole}
 use Rattle.records.specs.Tests.{Says}
@@ -46,7 +46,8 @@ pub record Pushes (W : List ℕ) (s : Agenda) (r : StoredGoal) (b : List ℕ) : 
   pub part : r .part < 1024
 
 pub record StoredPushed (W : List ℕ) (s : Agenda) (r : StoredGoal) (b : List ℕ) (X : List ℕ) (s′ : Agenda) : Type 0 where
-  pub stored : X ≡ sets (sets W (s .top) (bytes 1 0 b)) (s .top + 4 + length b) (storedBytes (storedTarget r (s .top) (s .easy)))
+  pub stored :
+      X ≡ sets (sets W (s .top) (bytes abstractionKind 0 b)) (s .top + 4 + length b) (storedBytes (storedTarget r (s .top) (s .easy)))
   pub agenda : s′ ≡ afterStored s r (s .top + 4 + length b)
 
 abbrev pub Solves : Term → Term → Term → Type 0

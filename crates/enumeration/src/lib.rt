@@ -165,9 +165,9 @@ fn enumerate_short(
     enumerate_long(pattern, recipe, lines, values, work)
 }
 
-// Writes the full listing, or refuses if it has no room. What is searched is the pattern's reduct, whose redexes with a rigid argument are
-// contracted: it has the same full listing, and the search doesn't have to guess where such an argument stood. A reduct that is too long
-// for a pattern isn't needed.
+// Writes the full listing, or refuses if it has no room. What is searched is the pattern's reduct, in which redexes that needn't wait for
+// the sweep are contracted: it has the same full listing, and the search doesn't have to guess where their arguments stood. Where the
+// reduct is too long for a pattern, the pattern itself is searched.
 pub fn enumerate(
     pattern: &[u8],
     recipe: &[u8],

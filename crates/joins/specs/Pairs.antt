@@ -15,6 +15,7 @@ use Prim.Native.Nat.{ℕ, zero, suc, _+_, _*_, _≤_}
 use lib.ListN.{length, getD}
 use Rattle.terms.specs.Figures.{patternRecords}
 use Rattle.terms.specs.Term.{Term, var, loc}
+use Rattle.terms.specs.Table.{constantKind}
 use Rattle.terms.specs.Listing.{In}
 use Rattle.matching.specs.Repeated.{spine, firsts, seconds, PairsApart as AreApart, atConstants}
 use Rattle.records.specs.Record.{numberAt}
@@ -48,8 +49,8 @@ pub record Adding (P : List ℕ) (q : Pairs) : Type 0 where
 
 pub record Added (P : List ℕ) (q r : Pairs) : Type 0 where
   pub is : r ≡ record { first = q .first; second = q .second; count = q .count + 1 }
-  pub first : getD P (q .first + 4 * (q .count + 1)) 0 ≡ 3
-  pub second : getD P (q .second + 4 * (q .count + 1)) 0 ≡ 3
+  pub first : getD P (q .first + 4 * (q .count + 1)) 0 ≡ constantKind
+  pub second : getD P (q .second + 4 * (q .count + 1)) 0 ≡ constantKind
   pub differ : ¬ (numberAt P (q .first + 4 * (q .count + 1)) ≡ numberAt P (q .second + 4 * (q .count + 1)))
   pub other : ¬ In (numberAt P (q .first + 4 * (q .count + 1)), numberAt P (q .second + 4 * (q .count + 1))) (pairsOf P q)
 

@@ -1,11 +1,10 @@
-// The reduct of a pattern: its redexes contracted where the argument is rigid,
-// or where the local stands only as the argument of a constant.
+// The reduct of a pattern: redexes contracted where the argument is rigid, or where the local is only the argument of a constant.
 //
 // Such redexes make the search exponential, and they needn't wait for the sweep: a rigid argument never sweeps to an abstraction, and below
 // a constant an abstraction meets no argument, so that the reduct has the pattern's own listing, as `matching` shows. The crate goes
 // bottom-up through the parts of a table and writes the reduct of each into an array of its own. It promises that what it writes is the
 // table of the reduct, and says "too long" where that of some part is above 32 records. It rests on `records` for single records and parts,
-// on `shifting` for the test of an argument, and on `sweeping` for the substitution.
+// on `shifting` for the test of an argument, and on `substitution` for the contraction.
 //
 // A local that is itself a head is not guarded: `@ \ @ #0 k0 \ k1` doesn't match `k1`, and its contracted form would. Nor is one below
 // another local, as what is put for that may be an abstraction. Where the reduct would be longer than a pattern may be the pattern itself

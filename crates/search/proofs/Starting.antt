@@ -29,9 +29,9 @@ use Rattle.search.specs.Collected.{Tallied, nothing, Collects, Collected
 use Rattle.search.specs.Searched.{Begins, Searched}
 use Rattle.search.proofs.Tallies.{tallied-same}
 
-holds-open : (W : List ℕ) (top n : ℕ) → Holds W top (replicate n Open) (openLine n)
-holds-open W top zero = tt
-holds-open W top (suc n) = (tt, holds-open W top n)
+holds-none : (W : List ℕ) (top n : ℕ) → Holds W top (replicate n Open) (openLine n)
+holds-none W top zero = tt
+holds-none W top (suc n) = (tt, holds-none W top n)
 
 pub recipe-short : (p t : List ℕ) (limit : ℕ) (L X W : List ℕ) → Collects p t limit L X W → length t ≤ 4 * recipeRecords
 recipe-short p t limit L X W c = omega (arith, ap length (c .recipe .table .0), encode-length (c .recipe .tree), c .recipe .most)
@@ -95,7 +95,7 @@ module _ (p t : List ℕ) (limit : ℕ) (L X W : List ℕ) (c : Collects p t lim
             subst Normal y-is (c .recipe .normal),
           ) refl;
       deferred = refl;
-      entries = holds-open W₂ (length t + 8) variables;
+      entries = holds-none W₂ (length t + 8) variables;
       line = length-blank variables;
       assigns = assigns-blank (OccursIn p) variables;
       room = omega (arith, y-length, short, few);

@@ -43,7 +43,7 @@ pub record Plain (P : List ℕ) (i : ℕ) : Type 0 where
 
 pub record Names (P W : List ℕ) (s : Agenda) (a : List Entry) (r : StoredGoal) (i : ℕ) : Type 0 where
   pub opens : Opens P W s a r
-  pub kind : getD P (r .part) 0 ≡ 4
+  pub kind : getD P (r .part) 0 ≡ variableKind
   pub number : i ≡ numberAt P (r .part)
   pub below : i < variables
 

@@ -2,8 +2,8 @@
 //
 // An easy goal has one way to go on: a local or a constant is compared with its target, a variable takes it or is compared with its value,
 // an abstraction and a rigid application hand their parts on, and a flexible application is deferred. The crate promises that the agenda it
-// leaves has exactly the assignments of the one before, or that there are none.
-// It rests on `agenda` for goals, and on `matching` for one step of matching.
+// leaves has exactly the assignments of the one before, or that there are none. It rests on `agenda` for goals, and on `matching` for one
+// step of matching.
 
 use agenda::Agenda;
 use agenda::Binding;

@@ -3,8 +3,8 @@
 // It goes bottom-up through the parts of a table. The swept form of each part is written into an array of its own, and a redex is
 // contracted once, its size being known before anything is written. The crate promises that what it writes is the swept form of the pattern
 // with the assigned values filled in, and that it says "too long" exactly if the swept form of some part is above 256 records, also where
-// that part is then thrown away. It rests on `records` for single records and parts, on
-// `substitution` for the contraction of a redex, and on `assignments` for the entries.
+// that part is then thrown away. It rests on `records` for single records and parts, on `substitution` for the contraction of a redex, and
+// on `assignments` for the entries.
 
 use assignments::Entry;
 use records::Kind;
