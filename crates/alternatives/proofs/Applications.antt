@@ -46,14 +46,14 @@ use Rattle.agenda.specs.Moves.{Question, Move, Moved, Failed, Branched}
 use Rattle.abstractions.proofs.Depths.{depths-at, depth-written}
 use Rattle.abstractions.specs.Occurrences.{DepthSource, WroteDepths}
 use Rattle.alternatives.specs.Ways.{Way, HasWays, HasDepths, HeadLacks, Fitting}
-use Rattle.builds.specs.Refuting.{SkeletonSource, PartSkeleton}
+use Rattle.deciding.specs.Refuting.{SkeletonSource, PartSkeleton}
 use Rattle.builds.specs.Builds.{Pushes, StoredPushed, storedTarget, afterStored}
 use Rattle.alternatives.specs.Applications.{ApplicationDeferred, Counted}
 use Rattle.agenda.specs.Stored.{storedMatch, storedBuild}
 use Rattle.agenda.specs.Locals.{Locals, Lacks}
 use Rattle.agenda.proofs.Frame.{Kept, part-kept, part-stored, target-kept, chain-kept, holds-kept, kept-sets, kept-then, length-stored}
 use Rattle.agenda.proofs.Frame.{goal-stored, chain-match}
-use Rattle.builds.proofs.Refutations.{line-values, extended-values, source-at, skeleton-at}
+use Rattle.deciding.proofs.Refutations.{line-values, extended-values, source-at, skeleton-at}
 
 -- the head and the argument of an application that stands in a table
 pub application-parts : (l : List ℕ) (at : ℕ) (f b : Term) → Part l at (app f b) → Part l (at + 4) f × Part l (at + 4 + 4 * size f) b

@@ -53,7 +53,7 @@ use Rattle.agenda.specs.Heads.{Agree}
 use Rattle.agenda.specs.Stored.{storedMatch, storedBuild}
 use Rattle.agenda.proofs.Frame.{Kept, part-kept, part-stored, target-kept, chain-kept, holds-kept, kept-sets, kept-then, length-stored}
 use Rattle.agenda.proofs.Frame.{goal-stored, chain-match, chain-build}
-use Rattle.builds.proofs.Refutations.{skeleton-part}
+use Rattle.deciding.proofs.Refutations.{skeleton-part}
 use Rattle.alternatives.proofs.Applications.{application-parts, argument-from, stored-as, live, died, ApplicationSite, MatchState}
 use Rattle.alternatives.proofs.Applications.{site, opened}
 use Rattle.alternatives.proofs.Applications.{from, stored-bounds, argument-ends, dead}

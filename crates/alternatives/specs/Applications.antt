@@ -28,7 +28,7 @@ use Rattle.agenda.specs.declared.Agenda.{Agenda}
 use Rattle.agenda.specs.declared.Ways.{Ways}
 use Rattle.agenda.specs.State.{targetBytes, State, Ready, patternAt, relinking}
 use Rattle.alternatives.specs.Ways.{HasWays, HasDepths, HeadLacks, Fitting}
-use Rattle.builds.specs.Refuting.{Prefix}
+use Rattle.deciding.specs.Refuting.{Prefix}
 
 pub record ApplicationDeferred (P W : List ℕ) (s : Agenda) (a : List Entry) : Type 0 where
   pub ready : Ready relinking P W s a

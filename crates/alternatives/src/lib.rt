@@ -48,7 +48,7 @@ pub fn ways(pattern: &[u8], work: &[u8], agenda: Agenda, entries: [Entry; VARIAB
     let part = &pattern[argument..];
     let rigid = shifting::is_rigid(part);
     let walk = records::ask_part(part, Ask::Below, PATTERN_RECORDS);
-    let skeleton = builds::refuting::skeleton_of(part, walk, work, entries);
+    let skeleton = deciding::skeleton_of(part, walk, work, entries);
     let lacking = agenda::locals::lacks_local(pattern, head, work, target);
     let mut depths = [0u8; VALUE_RECORDS];
     abstractions::depths_into(&work[target..], 0, &mut depths, 0);

@@ -1,4 +1,2 @@
 pub mod Builds
 pub mod Choices
-pub mod Deciding
-pub mod Refuting

@@ -1,18 +1,11 @@
-// Goals to build, and goals that what is known of their parts decides.
+// Goals to build.
 //
-// A goal to build asks for a head, an abstraction, that comes to the target with an argument put in: its bodies are the target with some
-// copies of the argument replaced. The crate plans and writes bodies; finds the skeleton of a goal's part, what its swept form has for
-// certain while variables are open; and decides or refuses goals by it. It promises that the agenda it leaves has exactly the assignments
-// of the one before, or of the body that it is for; or that there are none. It rests on `agenda` for goals, on `skeletons` and
-// `abstractions` for the terms, and on `matching` for the mathematics.
+// Such a goal asks for a head, an abstraction, that comes to the target with an argument put in: its bodies are the target with some copies
+// of the argument replaced. The crate plans and writes bodies, and tells whether a given head solves the goal. It promises that the agenda
+// it leaves has exactly the assignments of the one before, or of the body that it is for; or that there are none. It rests on `agenda` for
+// goals, on `abstractions` for bodies, and on `matching` for the mathematics.
 //
-// A goal whose part's skeleton has no hole is decided at once: no way is tried and no body is gone through. That is so where no variable is
-// open, and where the value of an assigned variable drops the open ones. Sweeping needs locals of small numbers; a state doesn't say that
-// of the pattern, so the walk that finds the part's end asks it. A part with a form above 256 records is left to the search. Where the
-// argument uses a local that the head lacks, the one body left is written with every choice made.
-
-pub mod deciding;
-pub mod refuting;
+// Where the argument uses a local that the head lacks, the one body left is written with every choice made.
 
 use agenda::Agenda;
 use agenda::Branch;

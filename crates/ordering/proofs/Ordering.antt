@@ -22,7 +22,7 @@ use Rattle.agenda.specs.declared.StoredGoal.{StoredGoal}
 use Rattle.agenda.specs.Stored.{storedBytes, StoredAt, StoredFits}
 use Rattle.agenda.specs.State.{patternAt, nextAt, GoalAt, Easy, Deferred, Node, Chain, weight, weights, Ready}
 use Rattle.ordering.specs.Forwarding.{Forwarded}
-use Rattle.builds.specs.Deciding.{HasEntries}
+use Rattle.deciding.specs.Deciding.{HasEntries}
 use Rattle.shifting.proofs.Locals.{marks-at}
 use Rattle.agenda.specs.Locals.{Locals}
 use Rattle.ordering.specs.Ordering.{Reaches, Reaches.here, Reaches.further, linked, Branches, Weighs, Ranks, Drops, Dropped}

@@ -74,7 +74,7 @@ fn cost(pattern: &[u8], work: &[u8], at: usize, entries: [Entry; VARIABLES]) -> 
     let goal = agenda::goal_at(work, at);
     let part = goal.part;
     let end = records::end_at(pattern, part);
-    if builds::deciding::is_assigned(&pattern[part..end], entries) {
+    if deciding::is_assigned(&pattern[part..end], entries) {
         return 0;
     }
     if goal.kind == StoredGoal::MATCH {

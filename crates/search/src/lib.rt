@@ -307,7 +307,7 @@ fn cheapest(
         (now (values .entry)) done (now (work .exit)) (now (lines .exit)) (now (values .exit)) r ⌝ }
 {
     let t = ordering::order::bring_forward(pattern, work, agenda, entries);
-    let decided = builds::deciding::decide(pattern, work, t, entries);
+    let decided = deciding::decide(pattern, work, t, entries);
     match decided {
         Decision::Failed => {
             return done;

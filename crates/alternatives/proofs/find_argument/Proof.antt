@@ -7,7 +7,7 @@ use Rattle.alternatives.proofs.Applications.{stored-bounds, argument-wh
 use Rattle.alternatives.proofs.Arguments.{placed-at, places, depth, few-records, part-whole, unlike, no-argument, ending, looks}
 use Rattle.alternatives.proofs.Arguments.{top-whole, target-within, top-within}
 use Rattle.alternatives.proofs.Arguments.{comparable, unfitting, again, lacking, found}
-use Rattle.builds.proofs.Refutations.{skeleton-comparable}
+use Rattle.deciding.proofs.Refutations.{skeleton-comparable}
 use borrow.Author.Needs.{needs}
 use Rattle.alternatives.proofs.find_argument.Statement.{statement}
 use Rattle.alternatives.proofs.find_argument.Tie as tie

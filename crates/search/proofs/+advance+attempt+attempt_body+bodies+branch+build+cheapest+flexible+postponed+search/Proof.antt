@@ -59,7 +59,7 @@ use Rattle.alternatives.proofs.way.Reads as way-reads
 use Rattle.alternatives.proofs.ways.Reads as ways-reads
 use Rattle.builds.proofs.body.Reads as body-reads
 use Rattle.builds.proofs.plan.Reads as plan-reads
-use Rattle.builds.proofs.deciding.decide.Reads as decide-reads
+use Rattle.deciding.proofs.decide.Reads as decide-reads
 use Rattle.ordering.proofs.order.bring_forward.Reads as bring-forward-reads
 use Rattle.ordering.proofs.repeated.force.Reads as force-reads
 use Rattle.steps.proofs.step.Reads as step-reads

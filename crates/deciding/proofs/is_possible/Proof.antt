@@ -1,9 +1,9 @@
--- `builds::refuting::is_possible` meets its contract: each way out is one law of goals that a skeleton refuses, by the goal's kind and the
+-- `deciding::is_possible` meets its contract: each way out is one law of goals that a skeleton refuses, by the goal's kind and the
 -- skeleton's first record. Assumes nothing.
-use Rattle.builds.proofs.Refutations.{target-place, argument-place, possible, possible-match, possible-other, possible-build}
+use Rattle.deciding.proofs.Refutations.{target-place, argument-place, possible, possible-match, possible-other, possible-build}
 use borrow.Author.Needs.{needs}
-use Rattle.builds.proofs.refuting.is_possible.Statement.{statement}
-use Rattle.builds.proofs.refuting.is_possible.Tie as tie
+use Rattle.deciding.proofs.is_possible.Statement.{statement}
+use Rattle.deciding.proofs.is_possible.Tie as tie
 
 sub-target : tie.Need-sub-target
 sub-target c = search (needs, target-place)

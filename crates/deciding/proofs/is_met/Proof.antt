@@ -1,9 +1,9 @@
--- `builds::deciding::is_met` meets its contract. Tables are equal exactly if their terms are; to be asked as a solution the swept form is
+-- `deciding::is_met` meets its contract. Tables are equal exactly if their terms are; to be asked as a solution the swept form is
 -- written at the top, where nothing stands. Assumes nothing.
-use Rattle.builds.proofs.Decisions.{target-whole, compared-match, solving-swept, compared-build}
+use Rattle.deciding.proofs.Decisions.{target-whole, compared-match, solving-swept, compared-build}
 use borrow.Author.Needs.{needs}
-use Rattle.builds.proofs.deciding.is_met.Statement.{statement}
-use Rattle.builds.proofs.deciding.is_met.Tie as tie
+use Rattle.deciding.proofs.is_met.Statement.{statement}
+use Rattle.deciding.proofs.is_met.Tie as tie
 
 end-at-requires : tie.Need-end-at-requires
 end-at-requires c κs = search (needs, target-whole)

@@ -1,9 +1,9 @@
--- `builds::refuting::skeleton_of` meets its contract. A closed part has the skeleton that is written for it, and a hole is a skeleton of
+-- `deciding::skeleton_of` meets its contract. A closed part has the skeleton that is written for it, and a hole is a skeleton of
 -- any. Assumes nothing.
-use Rattle.builds.proofs.Refutations.{hole-sketch, part-ends, skeleton-input, part-sketch}
+use Rattle.deciding.proofs.Refutations.{hole-sketch, part-ends, skeleton-input, part-sketch}
 use borrow.Author.Needs.{needs}
-use Rattle.builds.proofs.refuting.skeleton_of.Statement.{statement}
-use Rattle.builds.proofs.refuting.skeleton_of.Tie as tie
+use Rattle.deciding.proofs.skeleton_of.Statement.{statement}
+use Rattle.deciding.proofs.skeleton_of.Tie as tie
 
 enum-known-walk : tie.Need-enum-known-walk
 enum-known-walk c = search needs

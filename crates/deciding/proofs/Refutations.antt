@@ -46,8 +46,8 @@ use Rattle.agenda.specs.declared.StoredGoal.{StoredGoal}
 use Rattle.agenda.specs.Stored.{StoredAt}
 use Rattle.agenda.specs.State.{GoalAt, Sat, Bounds, Ready, relinking}
 use Rattle.agenda.specs.Moves.{Decided}
-use Rattle.builds.specs.Refuting.{SkeletonSource, Prefix, PartSkeleton, Judges, SkeletonRefuses, Possible}
-use Rattle.builds.proofs.Decisions.{held-given, partOf, GoalOpened, opened, from, put, SweptForm}
+use Rattle.deciding.specs.Refuting.{SkeletonSource, Prefix, PartSkeleton, Judges, SkeletonRefuses, Possible}
+use Rattle.deciding.proofs.Decisions.{held-given, partOf, GoalOpened, opened, from, put, SweptForm}
 
 -- the values of the variables that are assigned
 module _ (P W : List ℕ) (s : Agenda) (a : List Entry) (l : Line) (bounds : Bounds P W s) (h : Holds W (s .top) a l) (t : Term) where

@@ -1,8 +1,8 @@
--- `builds::deciding::is_open` meets its contract. The record's kind shows whether it is a variable, and its number which. Assumes nothing.
-use Rattle.builds.proofs.Decisions.{entry-low, entry-open-at, assigned-not-open}
+-- `deciding::is_open` meets its contract. The record's kind shows whether it is a variable, and its number which. Assumes nothing.
+use Rattle.deciding.proofs.Decisions.{entry-low, entry-open-at, assigned-not-open}
 use borrow.Author.Needs.{needs}
-use Rattle.builds.proofs.deciding.is_open.Statement.{statement}
-use Rattle.builds.proofs.deciding.is_open.Tie as tie
+use Rattle.deciding.proofs.is_open.Statement.{statement}
+use Rattle.deciding.proofs.is_open.Tie as tie
 
 mul-at : tie.Need-mul-at
 mul-at c = search needs

@@ -1,15 +1,15 @@
--- `builds::deciding::is_assigned` meets its contract. The loop's invariant: no record passed is an open variable. Assumes nothing.
+-- `deciding::is_assigned` meets its contract. The loop's invariant: no record passed is an open variable. Assumes nothing.
 use Prim.Native.Nat.{ℕ, _≤_, _<_, _-_, _/_}
 use mathlib.Core.Path.{_≡_, refl}
 use native.Mathlib.Omega.{arith}
 use borrow.Author.Count.{below-more}
 use lib.ListN.{length}
 use Rattle.records.proofs.Tests.{says}
-use Rattle.builds.specs.Deciding.{OpenAt}
-use Rattle.builds.proofs.Decisions.{open-here, none-open}
+use Rattle.deciding.specs.Deciding.{OpenAt}
+use Rattle.deciding.proofs.Decisions.{open-here, none-open}
 use borrow.Author.Needs.{needs}
-use Rattle.builds.proofs.deciding.is_assigned.Statement.{statement}
-use Rattle.builds.proofs.deciding.is_assigned.Tie as tie
+use Rattle.deciding.proofs.is_assigned.Statement.{statement}
+use Rattle.deciding.proofs.is_assigned.Tie as tie
 
 abbrev Inv-loop : tie.InvT-loop
 Inv-loop part a n k₀ k = (n ≡ length part / 4) × (k ≤ n) × ((j : ℕ) → j < k → ¬ OpenAt part a j)

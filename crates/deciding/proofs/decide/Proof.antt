@@ -1,13 +1,13 @@
--- `builds::deciding::decide` meets its contract. The part's skeleton is its swept form if it has no hole, and is compared with the goal's
+-- `deciding::decide` meets its contract. The part's skeleton is its swept form if it has no hole, and is compared with the goal's
 -- targets; else it may refuse the goal. Each way out is one law. Assumes nothing.
 use mathlib.Core.Path.{refl}
 use native.Mathlib.Omega.{arith}
 use borrow.Author.Tests.{not-false}
-use Rattle.builds.proofs.Decisions.{part-place, walkable, decided-open, comparing, decided-dead, decided-live}
-use Rattle.builds.proofs.Refutations.{part-source, skeleton-tree, judges, decided-refused, exact-form}
+use Rattle.deciding.proofs.Decisions.{part-place, walkable, decided-open, comparing, decided-dead, decided-live}
+use Rattle.deciding.proofs.Refutations.{part-source, skeleton-tree, judges, decided-refused, exact-form}
 use borrow.Author.Needs.{needs}
-use Rattle.builds.proofs.deciding.decide.Statement.{statement}
-use Rattle.builds.proofs.deciding.decide.Tie as tie
+use Rattle.deciding.proofs.decide.Statement.{statement}
+use Rattle.deciding.proofs.decide.Tie as tie
 
 goal-at-requires : tie.Need-goal-at-requires
 goal-at-requires c κs = search needs

@@ -43,8 +43,8 @@ use Rattle.agenda.specs.declared.StoredGoal.{StoredGoal}
 use Rattle.agenda.specs.Stored.{StoredAt}
 use Rattle.agenda.specs.State.{GoalAt, State, Sat, Bounds, Ready, Target, Easy, Deferred, Chain, weights, relinking}
 use Rattle.agenda.specs.Moves.{Move, Moved, Failed, Decided}
 use Rattle.builds.specs.Builds.{Solving, Solved}
-use Rattle.builds.specs.Deciding.{HasEntries, OpenAt, AllAssigned, TargetStands, Comparing, FormCompared}
+use Rattle.deciding.specs.Deciding.{HasEntries, OpenAt, AllAssigned, TargetStands, Comparing, FormCompared}
 use Rattle.agenda.proofs.Frame.{Kept, part-kept, chain-kept, holds-kept, kept-sets, length-stored, part-stored}
 use Rattle.assignments.proofs.Held.{holds-held}
 
