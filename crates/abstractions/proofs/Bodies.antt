@@ -21,7 +21,7 @@ use Rattle.records.specs.declared.Walk.{Walk}
 use Rattle.records.specs.declared.Walk.the-variants.{Upto, No}
 use Rattle.records.specs.Parts.{slice, Part, Whole, Ends}
 use Rattle.records.proofs.Parts.{size-some, whole, kind-at}
-use Rattle.records.proofs.Slices.{part-slice, whole-slice, slice-ends, slice-length, head-slice, body-slice}
+use Rattle.records.proofs.Slices.{part-slice, whole-slice, slice-length, head-slice, body-slice}
 use Rattle.substitution.specs.Writers.{NumbersFit, Wrote}
 use Rattle.copying.proofs.Stores.{written-then}
 use Rattle.shifting.specs.Tests.{PartsComparable, Shifted, PartsCompared}
@@ -315,9 +315,6 @@ module _ (l m : List ℕ) (at e : ℕ) (d : ℕ) where
   }
 
   module _ (r n : ℕ) (x : CopiesCounted (slice l at) d (slice m e) r n) where
-    pub counted-ends-at : Ends l at (at + r)
-    counted-ends-at = slice-ends l at r (x .ends)
-
     pub counted-at : (t y : Term) → Part l at t → Part m e y → n ≡ copies y d t
     counted-at t y u v = x .exact t y (part-slice l at t u) (part-slice m e y v)
 
@@ -328,9 +325,6 @@ module _ (l m : List ℕ) (at e : ℕ) (d : ℕ) where
 
   module _ (c : List ℕ) (k : ℕ) (out : List ℕ) (o : ℕ) (after : List ℕ) (r end j : ℕ)
       (x : Body (slice l at) d (slice m e) c k out o after r end j) where
-    pub body-ends-at : Ends l at (at + r)
-    body-ends-at = slice-ends l at r (x .ends)
-
     pub body-number-at : (t y : Term) → Part l at t → Part m e y → j ≡ k + copies y d t
     body-number-at t y u v = x .number t y (part-slice l at t u) (part-slice m e y v)
 

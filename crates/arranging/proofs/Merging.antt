@@ -284,9 +284,6 @@ pub record MergingOn (A B X out : List ℕ) (i j : ℕ) (now : List ℕ) : Type 
   pub merged : (final : List ℕ) → Merged (drop i A) (drop j B) X now (i + j) final → Merged A B X out 0 final
 
 module _ (A B X out : List ℕ) where
-  pub going-start : Merging A 0 B 0 X → MergingOn A B X out 0 0 out
-  going-start x = record { merging = x; long = refl; merged = λ final m. m }
-
   pub going-on :
       (i j k m : ℕ) (now after : List ℕ) → MergingOn A B X out i j now → length after ≡ length now → MergedLine A i B j X now after k m
       → MergingOn A B X out k m after

@@ -16,70 +16,72 @@ use Rattle.records.specs.Tests.{Asks, Walked}
 use Rattle.records.specs.declared.Ask.the-variants.{Other}
 use Rattle.records.specs.declared.Walk.{Walk}
 use Rattle.records.specs.declared.Walk.the-variants.{Upto, No}
-use Rattle.records.proofs.Parts.{kind-at, abstraction, whole-body}
-use Rattle.records.proofs.Slices.{whole-slice, slice-length, slice-upto, slice-no}
+use Rattle.records.proofs.Parts.{kind-at, abstraction}
+use Rattle.records.proofs.Slices.{part-slice, body-slice, slice-length}
 use Rattle.shifting.specs.declared.Places.{Places}
 use Rattle.shifting.specs.declared.Pairing.{Pairing}
 use Rattle.shifting.specs.declared.Pairing.the-variants as pairing
 use Rattle.shifting.specs.Substitution.{Substitutes, Substituted}
-use Rattle.shifting.proofs.Substitution.{substitutes-at, substituted-yes-at, substituted-no-at}
+use Rattle.shifting.proofs.Substitution.{walk-reached, refused}
 use Rattle.builds.specs.Builds.{Solving, Solved}
 
-module _ (W : List ℕ) (v e t : ℕ) where
-  pub solved-other : ¬ (getD W v 0 ≡ 1) → Solved W v e t false
-  solved-other n = record { is = λ x y z p q r s. n (kind-at W v x p ∙ ap kind (s .1)) }
+module _ (h e t : List ℕ) where
+  pub solved-other : ¬ (getD h 0 0 ≡ 1) → Solved h e t false
+  solved-other n = record { is = λ x y z p q r s. n (kind-at h 0 x p ∙ ap kind (s .1)) }
 
-  module _ (k : getD W v 0 ≡ 1) where
-    pub body-whole : Solving W v e t → Whole W (v + 4)
-    body-whole s = whole-body W v (s .value) k
+  module _ (k : getD h 0 0 ≡ 1) where
+    pub asking : Solving h e t → Whole (slice h 4) 0 × (0 + length (slice h 4) ≤ tableBytes)
+    asking s = (body-slice h (s .head) k, omega (arith, s .head-most, slice-length h 4))
 
-    pub asking : Solving W v e t → Whole (slice W (v + 4)) 0 × (0 + length (slice W (v + 4)) ≤ tableBytes)
-    asking s = (whole-slice W (v + 4) (body-whole s), omega (arith, s .most, slice-length W (v + 4)))
-
-    pub substituting : Solving W v e t → Substitutes (slice W (v + 4)) 0 (slice W e) (slice W t)
-    substituting s = substitutes-at W W W (v + 4) 0 e t (body-whole s) (s .argument) (s .target) (omega (arith, s .most))
-        (omega (arith, s .most))
+    pub substituting : Solving h e t → Substitutes (slice h 4) 0 e t
+    substituting s = record {
+      body = body-slice h (s .head) k;
+      argument = s .argument;
+      target = s .target;
+      most = s .target-most;
+      shallow = omega (arith, s .head-most, slice-length h 4);
+    }
 
     pub record SolutionValue (x : Term) : Type 0 where
       pub b : Term
       pub is : x ≡ lam b
-      pub part : Part W (v + 4) b
+      pub part : Part (slice h 4) 0 b
 
-    value : (x : Term) → Part W v x → SolutionValue x
-    value x p = let u = abstraction W v x p k in record { b = u .b; is = u .is; part = u .body }
+    value : (x : Term) → Part h 0 x → SolutionValue x
+    value x p = let u = abstraction h 0 x p k in record { b = u .b; is = u .is; part = part-slice h 4 (u .b) (u .body) }
 
-    module _ (w : Walk) (g : Walked (slice W (v + 4)) 0 (Asks Other 0) w) where
-      pub solved-unused : (h : ℕ) → w ≡ Upto h → Solved W v e t false
+    module _ (w : Walk) (g : Walked (slice h 4) 0 (Asks Other 0) w) where
+      pub solved-unused : (n : ℕ) → w ≡ Upto n → Solved h e t false
       unfolding Walked
-      solved-unused h q = record {
+      solved-unused n q = record {
         is = λ x y z p _ _ s.
             let u = value x p in
-            let m = slice-upto W (v + 4) (Asks Other 0) h w q g .1 (u .b) (u .part) in
+            let m = subst (Walked (slice h 4) 0 (Asks Other 0)) q g .1 (u .b) (u .part) in
             let i : s .0 ≡ u .b = lam-inj (s .0) (u .b) (sym (s .1) ∙ u .is) in
             subst T (sym (s .3) ∙ ap (uses 0) i ∙ m) tt;
       }
 
-      used : w ≡ No → (b : Term) → Part W (v + 4) b → uses 0 b ≡ true
+      used : w ≡ No → (b : Term) → Part (slice h 4) 0 b → uses 0 b ≡ true
       unfolding Walked
-      used q b p = either (uses 0 b) (slice-no W (v + 4) (Asks Other 0) w q g b p)
+      used q b p = either (uses 0 b) (subst (Walked (slice h 4) 0 (Asks Other 0)) q g b p)
         where
           either : (c : Bool) → ¬ (c ≡ false) → c ≡ true
           either true n = refl
           either false n = absurd (n refl)
 
-      module _ (q : w ≡ No) (r : Pairing) (h : Substituted (slice W (v + 4)) 0 (slice W e) (slice W t) r) where
-        pub solved-yes : (n : Places) → r ≡ pairing.Upto n → Solved W v e t true
+      module _ (q : w ≡ No) (r : Pairing) (f : Substituted (slice h 4) 0 e t r) where
+        pub solved-yes : (n : Places) → r ≡ pairing.Upto n → Solved h e t true
         solved-yes n o = record {
           is = λ x y z p i j.
               let u = value x p in
-              let m = substituted-yes-at W W W (v + 4) 0 e t r h n o (u .b) y z (u .part) i j in
+              let m = walk-reached (slice h 4) 0 e t n r o f .replaced (u .b) y z (u .part) i j in
               (u .b, u .is, sym m, used q (u .b) (u .part));
         }
 
-        pub solved-no : r ≡ pairing.No → Solved W v e t false
+        pub solved-no : r ≡ pairing.No → Solved h e t false
         solved-no o = record {
           is = λ x y z p i j s.
               let u = value x p in
               let m : s .0 ≡ u .b = lam-inj (s .0) (u .b) (sym (s .1) ∙ u .is) in
-              substituted-no-at W W W (v + 4) 0 e t r h o (u .b) y z (u .part) i j (sym (s .2) ∙ ap (substitute 0 y) m);
+              refused (slice h 4) 0 e t r o f (u .b) y z (u .part) i j (sym (s .2) ∙ ap (substitute 0 y) m);
         }

@@ -6,8 +6,8 @@
 --   Pushes W s r b              there is room for the abstraction over the body with the table b, and for a goal
 --   StoredPushed W s r b X s′   that abstraction was written at the top, and then the goal that the part of r sweeps to it
 --   Solves x e t                the term x is an abstraction that uses its local, and comes to t with e put in
---   Solving W v e t             terms stand in W from bytes v, e and t on
---   Solved W v e t r            r says whether the term at byte v of W solves those at bytes e and t
+--   Solving h e t               h, e and t begin with terms whose locals can be compared
+--   Solved h e t r              r says whether the term that h begins with solves those that e and t begin with
 use mathlib.Core.Path.{_≡_}
 use mathlib.Core.Bool.{Bool, true}
 use mathlib.Core.List.{List}
@@ -53,11 +53,12 @@ pub record StoredPushed (W : List ℕ) (s : Agenda) (r : StoredGoal) (b : List �
 abbrev pub Solves : Term → Term → Term → Type 0
 Solves x e t = (b : Term) × (x ≡ lam b) × (substitute 0 e b ≡ t) × (uses 0 b ≡ true)
 
-pub record Solving (W : List ℕ) (v e t : ℕ) : Type 0 where
-  pub value : Whole W v
-  pub argument : Whole W e
-  pub target : Whole W t
-  pub most : length W ≤ tableBytes
+pub record Solving (h e t : List ℕ) : Type 0 where
+  pub head : Whole h 0
+  pub argument : Whole e 0
+  pub target : Whole t 0
+  pub head-most : length h ≤ tableBytes
+  pub target-most : length t ≤ tableBytes
 
-pub record Solved (W : List ℕ) (v e t : ℕ) (r : Bool) : Type 0 where
-  pub is : (x y z : Term) → Part W v x → Part W e y → Part W t z → Says r (Solves x y z)
+pub record Solved (h e t : List ℕ) (r : Bool) : Type 0 where
+  pub is : (x y z : Term) → Part h 0 x → Part e 0 y → Part t 0 z → Says r (Solves x y z)

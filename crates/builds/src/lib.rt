@@ -100,20 +100,20 @@ pub fn body(
     Branch::Next(push_abstraction(work, agenda, goal, &b[0..n]))
 }
 
-// Whether the term at byte v is an abstraction that uses its local and comes to the target with the argument put in.
-pub fn is_solved(work: &[u8], v: usize, argument: usize, target: usize) -> bool
-    requires { ⌜ Solving (now work) v argument target ⌝ }
-    ensures { λ r. ⌜ Solved (now (work .entry)) v argument target r ⌝ }
+// Whether `head` is an abstraction that uses its local and comes to the target with the argument put in.
+pub fn is_solved(head: &[u8], argument: &[u8], target: &[u8]) -> bool
+    requires { ⌜ Solving (now head) (now argument) (now target) ⌝ }
+    ensures { λ r. ⌜ Solved (now (head .entry)) (now (argument .entry)) (now (target .entry)) r ⌝ }
 {
-    if work[v] != Kind::ABSTRACTION.code {
+    if head[0] != Kind::ABSTRACTION.code {
         return false;
     }
-    let body = &work[v + RECORD..];
+    let body = &head[RECORD..];
     let unused = records::ask_part(body, Ask::Other, 0);
     if let Walk::Upto(_) = unused {
         return false;
     }
-    let pairing = shifting::is_substituted(body, 0, &work[argument..], &work[target..]);
+    let pairing = shifting::is_substituted(body, 0, argument, target);
     match pairing {
         Pairing::Upto(_) => true,
         Pairing::No => false,

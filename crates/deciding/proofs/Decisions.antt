@@ -12,14 +12,13 @@ use mathlib.Core.Logic.{_↔_}
 use Prim.Native.Nat.{ℕ, suc, _+_, _-_, _*_, _/_, _%_, _<_, _≤_}
 use native.Mathlib.Omega.{arith}
 use lib.ListN.{length, getD, take, drop}
-use lib.Seq.{sets}
 use Rattle.terms.specs.Figures.{variables, patternRecords, tableBytes}
 use Rattle.terms.specs.Term.{Term, size, Below}
 use Rattle.terms.specs.Sweep.{sweep, fill}
 use Rattle.terms.specs.Table.{encode}
 use Rattle.terms.specs.Assignment.{entry}
 use Rattle.terms.specs.Listing.{Line}
-use Rattle.terms.proofs.Table.{encode-length, encode-one}
+use Rattle.terms.proofs.Table.{encode-one}
 use Rattle.terms.proofs.Occurs.{occurs-below}
 use Rattle.matching.specs.Lists.{Values, Extends}
 use Rattle.matching.specs.Goals.{Goal, Goal.match, Goal.build, Meets}
@@ -27,8 +26,8 @@ use Rattle.matching.proofs.Known.{known-match, known-build}
 use Rattle.records.specs.Record.{numberAt}
 use Rattle.records.specs.Parts.{slice, Part, Whole, Ends}
 use Rattle.records.specs.Tests.{Says, Tells}
-use Rattle.records.proofs.Parts.{part-bytes, whole, size-some}
-use Rattle.records.proofs.Slices.{whole-slice, slice-length}
+use Rattle.records.proofs.Parts.{part-bytes, whole, size-some, at-start}
+use Rattle.records.proofs.Slices.{part-slice, whole-slice, slice-length}
 use Rattle.assignments.specs.declared.Span.{Span}
 use Rattle.assignments.specs.declared.Entry.{Entry}
 use Rattle.assignments.specs.declared.Entry.the-variants.{Open, Assigned}
@@ -44,8 +43,8 @@ use Rattle.agenda.specs.Stored.{StoredAt}
 use Rattle.agenda.specs.State.{GoalAt, State, Sat, Bounds, Ready, Target, Easy, Deferred, Chain, weights, relinking}
 use Rattle.agenda.specs.Moves.{Move, Moved, Failed, Decided}
 use Rattle.builds.specs.Builds.{Solving, Solved}
-use Rattle.deciding.specs.Deciding.{HasEntries, OpenAt, AllAssigned, TargetStands, Comparing, FormCompared}
-use Rattle.agenda.proofs.Frame.{Kept, part-kept, chain-kept, holds-kept, kept-sets, length-stored, part-stored}
+use Rattle.deciding.specs.Deciding.{HasEntries, OpenAt, AllAssigned, Comparing, FormCompared}
+use Rattle.agenda.proofs.Frame.{Kept, chain-kept, holds-kept}
 use Rattle.assignments.proofs.Held.{holds-held}
 
 -- the variables of a table, record by record
@@ -78,18 +77,13 @@ pub assigned-not-open : (l : List ℕ) (a : List Entry) (k i : ℕ) (x : Span) �
 assigned-not-open l a k i x q e o = open-span (sym (o .is) ∙ ap (λ (j : ℕ). getD a j Open) (sym q) ∙ e)
 
 -- the swept form against the targets
-module _ (W : List ℕ) (s : Agenda) (r : StoredGoal) (b : List ℕ) (x : Comparing W s r b) where
-  pub target-whole : Whole W (r .target)
-  target-whole = whole W (r .target) (x .target .0) (x .target .1 .part)
-
+module _ (W : List ℕ) (r : StoredGoal) (b : List ℕ) (x : Comparing W r b) where
   pub compared-match : r .kind ≡ 0 → (end : ℕ) (q : Bool) → Ends W (r .target) end → Same b (take (end - r .target) (drop (r .target) W)) q
-      → FormCompared W s r b W q
+      → FormCompared W r b q
   unfolding Same
   compared-match k end q m c = record {
-    matches = λ _ x t e y. go q c x t e (part-bytes W (r .target) (end - r .target) t (y .part) (omega (arith, m .exact t (y .part))));
+    matches = λ _ x t e y. go q c x t e (part-bytes W (r .target) (end - r .target) t y (omega (arith, m .exact t y)));
     builds = λ n. absurd (n k);
-    kept = refl;
-    same-length = refl;
   }
     where
       go : (q : Bool) → Same b (take (end - r .target) (drop (r .target) W)) q → (x t : Term) → b ≡ encode x
@@ -97,43 +91,24 @@ module _ (W : List ℕ) (s : Agenda) (r : StoredGoal) (b : List ℕ) (x : Compar
       go true c x t e f = encode-one x t (sym e ∙ c ∙ f)
       go false c x t e f = λ z. c (e ∙ ap encode z ∙ sym f)
 
-  -- the swept form is written at the top
-  module _ (n : ¬ (r .kind ≡ 0)) (X : List ℕ) (e : X ≡ sets W (s .top) b) where
-    top-low : s .top + length b ≤ length W
-    top-low = omega (arith, x .room, x .whole, x .most)
+  module _ (n : ¬ (r .kind ≡ 0)) where
+    pub argument-within : r .argument ≤ length W
+    argument-within = omega (arith, x .argument n .least)
 
-    kept-top : Kept W X (s .top)
-    kept-top = kept-sets b W X (s .top) (s .top) e (omega arith) (omega (arith, top-low))
+    pub solving-swept : Solving b (slice W (r .argument)) (slice W (r .target))
+    solving-swept = record {
+      head = whole b 0 (x .tree) (at-start b (x .tree) (x .bytes));
+      argument = whole-slice W (r .argument) (x .argument n);
+      target = whole-slice W (r .target) (x .target);
+      head-most = omega (arith, x .most);
+      target-most = omega (arith, slice-length W (r .target), x .whole);
+    }
 
-    pub same-length : length X ≡ length W
-    same-length = length-stored b W X (s .top) e
-
-    swept-part : (y : Term) → b ≡ encode y → Part X (s .top) y
-    swept-part y q =
-        subst (λ (Y : List ℕ). Part Y (s .top) y) (ap (sets W (s .top)) (sym q) ∙ sym e)
-        (part-stored y W (s .top) (omega (arith, top-low, ap length q, encode-length y)))
-
-    stays : (at : ℕ) (t : Term) → TargetStands W (s .top) at t → Part X at t
-    stays at t y = part-kept W X (s .top) kept-top at t (y .below) (y .part)
-
-    pub solving-swept : Solving X (s .top) (r .argument) (r .target)
-    solving-swept =
-        let v = swept-part (x .tree) (x .bytes) in
-        let p = stays (r .argument) (x .argument n .0) (x .argument n .1) in
-        let q = stays (r .target) (x .target .0) (x .target .1) in
-        record {
-          value = whole X (s .top) (x .tree) v;
-          argument = whole X (r .argument) (x .argument n .0) p;
-          target = whole X (r .target) (x .target .0) q;
-          most = omega (arith, same-length, x .whole);
-        }
-
-    pub compared-build : (q : Bool) → Solved X (s .top) (r .argument) (r .target) q → FormCompared W s r b X q
+    pub compared-build : (q : Bool) → Solved b (slice W (r .argument)) (slice W (r .target)) q → FormCompared W r b q
     compared-build q d = record {
       matches = λ k. absurd (n k);
-      builds = λ _ y e t g v w. d .is y e t (swept-part y g) (stays (r .argument) e v) (stays (r .target) t w);
-      kept = kept-top .same;
-      same-length = same-length;
+      builds = λ _ y e t g v w.
+          d .is y e t (at-start b y g) (part-slice W (r .argument) e v) (part-slice W (r .target) t w);
     }
 
 abbrev pub partOf : Goal → Term
@@ -197,10 +172,10 @@ module _ (P W : List ℕ) (s : Agenda) (a : List Entry) (ready : Ready relinking
 
   -- the swept form against the goal
   module _ (b : List ℕ) (f : SweptForm b) where
-    stands : (k i j : ℕ) (t : Term) → i ≡ j → Target W (s .top) k j t → TargetStands W (s .top) i t
-    stands k i j t p x = subst (λ (m : ℕ). TargetStands W (s .top) m t) (sym p) (record { part = x .part; below = x .below })
+    stands : (k i j : ℕ) (t : Term) → i ≡ j → Target W (s .top) k j t → Part W i t
+    stands k i j t p x = subst (λ (m : ℕ). Part W m t) (sym p) (x .part)
 
-    comparable : (gs hs : List Goal) (l : Line) (g : Goal) → GoalOpened gs l g hs → Comparing W s r b
+    comparable : (gs hs : List Goal) (l : Line) (g : Goal) → GoalOpened gs l g hs → Comparing W r b
     comparable gs hs l (match u v) x =
         let k = x .deferred .0 .goal in
         record {
@@ -208,8 +183,7 @@ module _ (P W : List ℕ) (s : Agenda) (a : List Entry) (ready : Ready relinking
           bytes = f .bytes;
           most = f .most;
           whole = ready .bounds .whole;
-          room = omega (arith, x .room, size-some u);
-          target = (v, stands (size u) (r .target) _ v (y .target) (k .target));
+          target = whole W (r .target) v (stands (size u) (r .target) _ v (y .target) (k .target));
           argument = λ d. absurd (d (y .kind ∙ k .kind));
         }
     comparable gs hs l (build u v w) x =
@@ -219,15 +193,14 @@ module _ (P W : List ℕ) (s : Agenda) (a : List Entry) (ready : Ready relinking
           bytes = f .bytes;
           most = f .most;
           whole = ready .bounds .whole;
-          room = omega (arith, x .room, size-some u);
-          target = (v, stands (suc (size u)) (r .target) _ v (y .target) (k .target));
-          argument = λ d. (w, stands (suc (size u)) (r .argument) _ w (y .argument) (k .argument));
+          target = whole W (r .target) v (stands (suc (size u)) (r .target) _ v (y .target) (k .target));
+          argument = λ d. whole W (r .argument) w (stands (suc (size u)) (r .argument) _ w (y .argument) (k .argument));
         }
 
-    pub comparing : Comparing W s r b
-    comparing = from (Comparing W s r b) comparable
+    pub comparing : Comparing W r b
+    comparing = from (Comparing W r b) comparable
 
-    module _ (X : List ℕ) (u : Bool) (m : FormCompared W s r b X u) where
+    module _ (u : Bool) (m : FormCompared W r b u) where
       says-same : (A B : Type 0) (i : Bool) → B ↔ A → Says i A → Says i B
       says-same A B true e x = e .1 x
       says-same A B false e x = λ v. x (e .0 v)
@@ -245,22 +218,22 @@ module _ (P W : List ℕ) (s : Agenda) (a : List Entry) (ready : Ready relinking
           (stands (suc (size p)) (r .argument) _ e (y .argument) (c .argument))
           (stands (suc (size p)) (r .target) _ t (y .target) (c .target)))
 
-      pub decided-dead : u ≡ false → Decided relinking P W s a X Decision.Failed
+      pub decided-dead : u ≡ false → Decided relinking P W s a W Decision.Failed
       unfolding Decided
       decided-dead false-is = record {
         none = λ gs hs l z φ v. opened gs l (λ us. ¬ Sat gs us l φ) (λ g us x k.
             subst (λ (i : Bool). Says i (Meets g φ)) false-is (verdict gs us l g x φ v (k .2)) (k .1 .0)) hs z;
-        kept = m .kept;
+        kept = refl;
       }
 
       abbrev next : Agenda
       next = record { top = s .top + 4; easy = s .easy; deferred = r .next }
 
-      kept-below : Kept W X (s .top)
+      kept-below : Kept W W (s .top)
       kept-below = record {
-        same = m .kept;
+        same = refl;
         from = omega (arith, ready .bounds .whole, ready .bounds .top);
-        to = omega (arith, m .same-length, ready .bounds .whole, ready .bounds .top);
+        to = omega (arith, ready .bounds .whole, ready .bounds .top);
       }
 
       spare : (gs hs : List Goal) (g : Goal) → s .top + weights 8 gs + weights 0 (g ∷ hs) ≤ tableBytes + relinking
@@ -268,18 +241,18 @@ module _ (P W : List ℕ) (s : Agenda) (a : List Entry) (ready : Ready relinking
       spare gs hs (match p t) x = omega (arith, x, size-some p)
       spare gs hs (build f t e) x = omega (arith, x, size-some f)
 
-      move : u ≡ true → Move relinking P W s a Sat X next a
+      move : u ≡ true → Move relinking P W s a Sat W next a
       move true-is = record {
-        go = λ gs hs l. opened gs l (λ us. Moved P X next a (Sat gs us l)) (λ g us x.
+        go = λ gs hs l. opened gs l (λ us. Moved P W next a (Sat gs us l)) (λ g us x.
             record {
               gs = gs;
               hs = us;
               line = l;
               state = record {
-                easy = chain-kept W X (s .top) kept-below (s .top + 4) (omega arith) P Easy (s .easy) gs (x .easy);
-                deferred = chain-kept W X (s .top) kept-below (s .top + 4) (omega arith) P Deferred (r .next) us
+                easy = chain-kept W W (s .top) kept-below (s .top + 4) (omega arith) P Easy (s .easy) gs (x .easy);
+                deferred = chain-kept W W (s .top) kept-below (s .top + 4) (omega arith) P Deferred (r .next) us
                     (subst (λ (i : ℕ). Chain Deferred P W (s .top) i us) (sym (y .next)) (x .deferred .1));
-                entries = holds-kept W X (s .top) kept-below (s .top + 4) (omega arith) a l (x .entries);
+                entries = holds-kept W W (s .top) kept-below (s .top + 4) (omega arith) a l (x .entries);
                 line = x .line;
                 assigns = x .assigns;
                 room = omega (arith, spare gs us g (x .room));
@@ -289,11 +262,11 @@ module _ (P W : List ℕ) (s : Agenda) (a : List Entry) (ready : Ready relinking
                 λ k. (k .0, (subst (λ (i : Bool). Says i (Meets g φ)) true-is (verdict gs us l g x φ v (k .2)), k .1), k .2),
               );
             }) hs;
-        kept = m .kept;
+        kept = refl;
         higher = omega arith;
         falls = omega (arith, top-low);
         bounds = record {
-          whole = m .same-length ∙ ready .bounds .whole;
+          whole = ready .bounds .whole;
           short = ready .bounds .short;
           top = top-low;
           start = omega (arith, ready .bounds .start);
@@ -305,19 +278,19 @@ module _ (P W : List ℕ) (s : Agenda) (a : List Entry) (ready : Ready relinking
         };
       }
         where
-          top-low : s .top + 4 ≤ 65536
-          top-low = from (s .top + 4 ≤ 65536) (λ gs hs l g x. omega (arith, spare gs hs g (x .room)))
+          top-low : s .top + 4 ≤ tableBytes
+          top-low = from (s .top + 4 ≤ tableBytes) (λ gs hs l g x. omega (arith, spare gs hs g (x .room)))
 
           next-low : (r .next < s .deferred) × (r .next % 4 ≡ 0)
           next-low = from ((r .next < s .deferred) × (r .next % 4 ≡ 0))
               (λ gs hs l g x. (omega (arith, y .next, x .deferred .0 .falls), omega (arith, y .next)))
 
       pub decided-live : u ≡ true
-          → Decided relinking P W s a X (Decision.Next (record { top = s .top + 4; easy = s .easy; deferred = r .next }))
+          → Decided relinking P W s a W (Decision.Next (record { top = s .top + 4; easy = s .easy; deferred = r .next }))
       unfolding Decided
       decided-live true-is = move true-is
 
 -- the test doesn't apply
-pub decided-open : (P W : List ℕ) (s : Agenda) (a : List Entry) (X : List ℕ) → X ≡ W → Decided relinking P W s a X Decision.Open
+pub decided-open : (P W : List ℕ) (s : Agenda) (a : List Entry) → Decided relinking P W s a W Decision.Open
 unfolding Decided
-decided-open P W s a X e = e
+decided-open P W s a = refl

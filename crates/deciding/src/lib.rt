@@ -109,31 +109,25 @@ pub fn is_assigned(part: &[u8], entries: [Entry; VARIABLES]) -> bool
 }
 
 // Whether the swept part meets the goal: it is the target, or it solves the goal to build.
-// Above the top of the agenda the work area may change.
-fn is_met(work: &mut [u8], agenda: Agenda, goal: StoredGoal, swept: &[u8]) -> bool
-    requires { ⌜ Comparing (now work) agenda goal (now swept) ⌝ }
-    ensures { λ r. ⌜ FormCompared (now (work .entry)) agenda goal (now (swept .entry)) (now (work .exit)) r ⌝ }
+fn is_met(work: &[u8], goal: StoredGoal, swept: &[u8]) -> bool
+    requires { ⌜ Comparing (now work) goal (now swept) ⌝ }
+    ensures { λ r. ⌜ FormCompared (now (work .entry)) goal (now (swept .entry)) r ⌝ }
 {
     let target = goal.target;
     if goal.kind == StoredGoal::MATCH {
         let end = records::end_at(work, target);
         return copying::same_bytes(swept, &work[target..end]);
     }
-    copying::copy_into(swept, work, agenda.top);
-    builds::is_solved(work, agenda.top, goal.argument, target)
+    let argument = goal.argument;
+    builds::is_solved(swept, &work[argument..], &work[target..])
 }
 
 // Decides the first deferred goal, if the skeleton of its part has no hole or refuses the goal. A skeleton without a hole is the swept
 // form, also where an assigned variable's value drops open variables. A part without open variables has one, unless a form is above 256
 // records.
-pub fn decide(
-    pattern: &[u8],
-    work: &mut [u8],
-    agenda: Agenda,
-    entries: [Entry; VARIABLES],
-) -> Decision
+pub fn decide(pattern: &[u8], work: &[u8], agenda: Agenda, entries: [Entry; VARIABLES]) -> Decision
     requires { ⌜ Ready relinking (now pattern) (now work) agenda entries × (0 < agenda .deferred) ⌝ }
-    ensures { λ r. ⌜ Decided relinking (now (pattern .entry)) (now (work .entry)) agenda entries (now (work .exit)) r ⌝ }
+    ensures { λ r. ⌜ Decided relinking (now (pattern .entry)) (now (work .entry)) agenda entries (now (work .entry)) r ⌝ }
 {
     let goal = agenda::goal_at(work, agenda.deferred);
     let i = goal.part;
@@ -148,7 +142,7 @@ pub fn decide(
         }
         return Decision::Failed;
     }
-    if is_met(work, agenda, goal, &c[0..n]) {
+    if is_met(work, goal, &c[0..n]) {
         // a record's room is left free, so that the agenda's top rises at each step
         return Decision::Next(Agenda {
             top: agenda.top + RECORD,

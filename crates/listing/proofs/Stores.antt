@@ -1,6 +1,6 @@
 -- Lines stored one after another: their number and their records, and the tables that they leave where all fit and where none does. By
 -- induction on the lines, from what one line more leaves. Assumes nothing.
-use mathlib.Core.Path.{_≡_, refl, sym, ap, ap₂, _∙_}
+use mathlib.Core.Path.{_≡_, refl, sym, ap, _∙_}
 use mathlib.Core.Bool.{Bool, true, false, cond}
 use mathlib.Core.List.{List, [], _∷_, _++_}
 use mathlib.Core.Logic.{inl, inr}
@@ -17,7 +17,7 @@ use Rattle.listing.specs.declared.Tally.{Tally}
 use Rattle.listing.specs.Outcome.{lineRecords, Outcome, outcome, fits, lineWritten, counted, store, stores, Storable, LineStored}
 use Rattle.listing.specs.Outcome.{Tables}
 use Rattle.listing.proofs.Writers.{line-bytes-length, line-values-length}
-use Rattle.listing.proofs.Storing.{holds-few, store-lines-full, store-fits}
+use Rattle.listing.proofs.Storing.{holds-few, store-fits}
 
 pub stores-append : (o : Outcome) (ls ms : List Line) → stores o (ls ++ ms) ≡ stores (stores o ls) ms
 stores-append o [] ms = refl
@@ -147,15 +147,6 @@ stores-begin lines values ls e h k =
   where
     begins : (xs q p : List ℕ) (n : ℕ) → length xs ≡ n → p ≡ xs ++ q → p ≡ xs ++ drop n p
     begins xs q p n i b = b ∙ ap (xs ++_) (sym (ap (drop n) b ∙ drop-at xs q n i))
-
--- empty tables: every line is counted and nothing is written
-pub stores-empty : (t : Tally) (ls : List Line)
-    → stores (outcome [] [] t) ls ≡ outcome [] [] (record { lines = t .lines + length ls; records = t .records + valuesRecords ls })
-stores-empty t [] = ap₂ (λ (i j : ℕ). outcome [] [] (record { lines = i; records = j })) (omega arith) (omega arith)
-stores-empty t (l ∷ ls) =
-    ap (λ (o : Outcome). stores o ls) (store-lines-full (outcome [] [] t) l (omega arith))
-    ∙ stores-empty (record { lines = t .lines + 1; records = t .records + lineValueRecords l }) ls
-    ∙ ap₂ (λ (i j : ℕ). outcome [] [] (record { lines = i; records = j })) (omega arith) (omega arith)
 
 -- a tally after a found line: one line more, and still few enough records
 pub found-tally :

@@ -22,7 +22,7 @@ use Rattle.refusals.specs.Lent.{overwritten}
 use Rattle.refusals.proofs.Passing.{pattern-passed, recipe-passed}
 use Rattle.enumeration.specs.declared.ListAnswer.{ListAnswer}
 use Rattle.enumeration.specs.Written.{lentLines, lentRecords}
-use Rattle.matcher.specs.Operations.{lentForList, Listed}
+use Rattle.matcher.specs.Operations.{Listed}
 use Rattle.matcher.proofs.Determined.{listed-one}
 
 -- 1. `@ p0 p1`, `k0`: p0=`\ #0`, p1=`k0`; then p0=`\ k0`, p1 open

@@ -1,7 +1,7 @@
 -- Nothing is left free: two answers that meet what list promises on the same lent tables are equal, and so are two contents of the line
 -- table and of the value table. There is one full listing only, and at most one row of refusal is given. So for a pattern without variables
 -- the answer is one line of zero bytes or none. Assumes nothing.
-use mathlib.Core.Path.{_≡_, refl, sym, ap, _∙_, subst}
+use mathlib.Core.Path.{_≡_, sym, ap, _∙_, subst}
 use mathlib.Core.List.{List, [], _∷_}
 use mathlib.Core.Logic.{_⊎_, inl, inr}
 use Prim.Native.Nat.{ℕ, _*_}

@@ -20,9 +20,6 @@ use Rattle.matching.proofs.Lines.{openLine, length-blank, extends-blank
 use Rattle.matching.proofs.Lists.{lists-same, lists-more, lists-none, lists-one, lists-or, lists-some, lists-and}
 use Rattle.matching.proofs.Lister.{solve, lists-solve}
 
-abbrev pub Searches : List Goal → Line → Predicate
-Searches gs l φ = All gs φ × Extends φ l
-
 module _ (n : ℕ) (S : ℕ → Type 0) where
   lists-match : (p t : Term) → Suits n S p → Normal t → Lists n S (Sweeps p t) (solve n p t)
   lists-match p t s h = lists-more n S (λ i. Occurs i p) (Sweeps p t) (solve n p t) (s .1) (lists-solve n p t (s .0) h)

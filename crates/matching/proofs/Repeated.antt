@@ -16,7 +16,7 @@ use native.Mathlib.Decide.{decLt, ℕ-discrete}
 use lib.Dec.{T, ltb, eqb}
 use lib.ListN.{length}
 use borrow.Author.Tests.{lt-ltb, le-ltb, eq-eqb, ne-eqb, eqb-true, ltb-false}
-use Rattle.terms.specs.Term.{Term, app, lam, loc, con, var, Normal, Closed, Ground, Value, size, shift, unshift, substitute, isAbstraction}
+use Rattle.terms.specs.Term.{Term, app, lam, loc, con, var, Normal, Closed, Ground, size, shift, unshift, substitute, isAbstraction}
 use Rattle.terms.specs.Sweep.{sweep, contract, fill}
 use Rattle.terms.specs.Listing.{In}
 use Rattle.terms.proofs.Tests.{by-ltb, by-eqb}
@@ -508,9 +508,6 @@ module _ (ps : List (ℕ × ℕ)) (t u b : Term) (e : join 0 ps t u ≡ some b) 
 
   pub enclose-ground : Ground t → Ground (enclose (length ps) b)
   enclose-ground h = ground-enclose (length ps) b (ground-replace 0 (firsts ps) b (rw (join-sound ps 0 t u b e .0) h))
-
-  pub enclose-value : Value t → Value (enclose (length ps) b)
-  enclose-value v = (enclose-closed 0 (v .0), enclose-normal (v .1), enclose-ground (v .2))
 
   pub both-meets : (i : ℕ) (φ : ℕ → Term) → Normal (φ i) → Normal t → φ i ≡ enclose (length ps) b → Both ps i t u φ
   both-meets i φ v h q =

@@ -87,9 +87,10 @@ pub record Puts (P : Text) (out : List ℕ) (at r : ℕ) (after : List ℕ) : Ty
 pub record OpenBefore (l : List ℕ) (i : ℕ) : Type 0 where
   pub each : (v : ℕ) → v < i → entryAt l v ≡ Open
 
--- three numbers of at most 20 digits, two blanks, the records of a whole value table and the line's end, rounded up
+-- the digits of the records of a whole value table with a blank for each; three numbers of at most 20 digits, blanks between them, the
+-- line's end, rounded up
 abbrev pub room : ℕ
-room = 147520
+room = 9 * (tableBytes / 4) + 64
 
 pub record SpansWithin (l s : List ℕ) : Type 0 where
   pub whole : length l ≡ 4 * variables

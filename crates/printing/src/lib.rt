@@ -10,6 +10,7 @@ use assignments::LINE;
 use assignments::Span;
 use libc::STDOUT_FILENO;
 use records::RECORD;
+use records::TABLE_BYTES;
 use records::VARIABLES;
 ghost use mathlib.Core.Path.{_≡_};
 ghost use mathlib.Core.List.{[], _∷_};
@@ -24,9 +25,15 @@ ghost use Rattle.printing.specs.Text.{Is, Decimal, Numbers, Entry as Ent
 ghost use Rattle.printing.specs.Text.{OpenBefore, room, SpansWithin, Printable};
 ghost use Rattle.assignments.specs.declared.Entry.{Entry as assignments·Entry};
 
-// Room for the longest printed line: three numbers, the records of a whole value table, a blank before each but the first,
-// and the line's end.
-const ROOM: usize = 147520;
+// Room for the longest printed line: nine characters for each record of a whole value table, its digits and a blank; and three numbers and
+// the line's end.
+const ROOM: usize = 9 * (TABLE_BYTES / RECORD) + 64;
+
+fn text_room() -> [u8; ROOM]
+    ensures { λ r. ⌜ length r ≡ room ⌝ }
+{
+    [0u8; ROOM]
+}
 
 // The base of a byte's digits.
 const SIXTEEN: u8 = 16;
@@ -249,12 +256,12 @@ fn print_lines(out: &mut [u8], n: usize, lines: &[u8], values: &[u8])
 pub fn print_listing(n: usize, lines: &[u8], values: &[u8])
     requires { ⌜ Printable n (now lines) (now values) ⌝ }
 {
-    let mut out = [0u8; ROOM];
+    let mut out = text_room();
     print_lines(&mut out, n, lines, values);
 }
 
 // Prints a refusal by its number.
 pub fn print_refusal(number: u64) {
-    let mut out = [0u8; ROOM];
+    let mut out = text_room();
     print_labelled(&mut out, b"refused", number as usize);
 }

@@ -10,7 +10,7 @@ use lib.Dec.{T, eqb}
 use lib.ListN.{length, getD}
 use borrow.Author.Tests.{ltb-true, ltb-false, not-true, not-false, eq-eqb, ne-eqb}
 use Rattle.terms.specs.Figures.{numbers}
-use Rattle.terms.specs.Term.{Term, app, lam, loc, con, var, size, uses, isInnermost, isEta, isAbstraction, Normal}
+use Rattle.terms.specs.Term.{Term, app, lam, loc, con, var, size, uses, isInnermost, isEta, Normal}
 use Rattle.terms.specs.Table.{encode}
 use Rattle.terms.proofs.Table.{kind, numberOf, encode-length}
 use Rattle.terms.proofs.Tests.{or-false, and-true}
@@ -232,13 +232,6 @@ head-leaf k n m (lam b) e = absurd (m e)
 head-leaf k n m (loc i) e = (tt, tt)
 head-leaf k n m (con i) e = (tt, tt)
 head-leaf k n m (var i) e = (tt, tt)
-
-no-abstraction : (k : ℕ) → ¬ (k ≡ 1) → (t : Term) → k ≡ kind t → T (not (isAbstraction t))
-no-abstraction k m (app f a) e = tt
-no-abstraction k m (lam b) e = absurd (m e)
-no-abstraction k m (loc i) e = tt
-no-abstraction k m (con i) e = tt
-no-abstraction k m (var i) e = tt
 
 pub head-two : (f a : Term) → Head (app f a) ↔ (Head f × Normal a)
 head-two f a = (λ x. ((x .1 .0, x .1 .1), x .1 .2), λ x. (tt, (x .0 .0, x .0 .1, x .1)))

@@ -1,7 +1,7 @@
 // Tables of 4-byte records: read, written and judged.
 //
 // A term is a table of records in the order head before argument, so a table is read by the kinds of its records alone. The crate has
-// the kinds, one record read and written, the parts of a table, tests of the term that a table holds (closed, normal, uses a local), and
+// the kinds, one record read and written, the parts of a table, tests of the term that a table holds (closed, normal, whether a local is used), and
 // the checks by which bytes from outside come in. It promises that each check gives exactly the first of document 01's causes 1 to 7 that
 // holds, for any bytes at all, and that each test answers for the very term whose table it was lent. It rests on the definitions of
 // `terms`; that a record begins with its kind is used throughout, how its other bytes lie only by the functions of one record.
@@ -11,14 +11,13 @@
 // can meet it.
 
 ghost use mathlib.Core.Path.{_≡_};
-ghost use mathlib.Core.Bool.{true, false};
 ghost use mathlib.Core.Option.{some};
 ghost use mathlib.Core.List.{[]};
-ghost use Prim.Native.Nat.{_+_, _-_, _*_, _≤_, _<_};
+ghost use Prim.Native.Nat.{_+_, _*_, _≤_, _<_};
 ghost use lib.ListN.{length, getD};
 ghost use lib.Seq.{sets};
 ghost use Rattle.terms.specs.Figures.{numbers, tableBytes};
-ghost use Rattle.terms.specs.Term.{Term, uses, isEta, Normal, Closed};
+ghost use Rattle.terms.specs.Term.{Term, isEta, Normal, Closed};
 ghost use Rattle.terms.specs.Refusal.{BadLength, pattern, recipe, recipeRows};
 ghost use Rattle.terms.specs.Table.{encode, bytes, allowed, goodRecords, applicationKind, abstractionKind, variableKind};
 ghost use Rattle.terms.specs.Layout.{wordAt};
@@ -333,18 +332,6 @@ pub fn is_closed(s: &[u8], depth: usize) -> bool
     match walk {
         Walk::Upto(_) => true,
         Walk::No => false,
-    }
-}
-
-// Whether the term s uses local n.
-pub fn uses_local(s: &[u8], n: usize) -> bool
-    requires { ⌜ Tree (now s) × (n + length (now s) ≤ tableBytes) ⌝ }
-    ensures { λ r. ⌜ Equals (now (s .entry)) (uses n) r ⌝ }
-{
-    let walk = ask_part(s, Ask::Other, n);
-    match walk {
-        Walk::Upto(_) => false,
-        Walk::No => true,
     }
 }
 

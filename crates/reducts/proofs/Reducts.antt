@@ -131,9 +131,6 @@ module _ (l m : List ℕ) (x : Reducible l) where
       let c : Closed (x .depth) (lam (v .b)) = subst (Closed (x .depth)) (v .is) (x .closed) in
       part (v .b) (suc (x .depth)) (h (v .b) (v .bytes)) (omega (arith, ap size (v .is), x .shallow)) c
 
-pub reducible-tree : (l : List ℕ) → Reducible l → Tree l
-reducible-tree l x = record { tree = x .tree; bytes = x .bytes; least = x .least }
-
 -- a pattern is reducible
 pub reducible : (l : List ℕ) (t : Term) → IsTable l t → size t ≤ patternRecords → Reducible l
 reducible l t x h = record {

@@ -17,7 +17,7 @@ use records::Kind;
 use records::RECORD;
 use sweeping::Length;
 ghost use mathlib.Core.Path.{_≡_};
-ghost use Prim.Native.Nat.{_+_, _≤_};
+ghost use Prim.Native.Nat.{_≤_};
 ghost use lib.ListN.{length, getD};
 ghost use Rattle.terms.specs.Table.{applicationKind, abstractionKind};
 ghost use Rattle.sweeping.specs.Swept.{SweptParts};

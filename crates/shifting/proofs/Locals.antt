@@ -14,7 +14,7 @@ use Rattle.terms.specs.Term.{Term, app, lam, size, uses, Closed}
 use Rattle.records.specs.Record.{numberAt}
 use Rattle.records.specs.Parts.{slice, Part, Whole, Ends}
 use Rattle.records.proofs.Parts.{whole}
-use Rattle.records.proofs.Slices.{part-slice, slice-ends}
+use Rattle.records.proofs.Slices.{part-slice}
 use Rattle.records.proofs.Tests.{part-other}
 use Rattle.substitution.proofs.Writers.{Other, local-at}
 use Rattle.shifting.specs.Locals.{Marks, Marked, Zeros}
@@ -141,9 +141,6 @@ module _ (l : List ℕ) (at depth : ℕ) where
   marks-at n t x c s = marks-of (slice l at) depth n t (part-slice l at t x) c s
 
   module _ (before after : List ℕ) (r : ℕ) (x : Marked (slice l at) depth before after r) where
-    pub marked-ends-at : Ends l at (at + r)
-    marked-ends-at = slice-ends l at r (x .ends)
-
     pub marked-at : (t : Term) → Part l at t → (j : ℕ) → j < length before
         → getD after j 0 ≡ cond (uses (j + depth) t) 1 (getD before j 0)
     marked-at t w = x .marks t (part-slice l at t w)

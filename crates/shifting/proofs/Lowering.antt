@@ -304,15 +304,8 @@ module _ (l : List ℕ) (at c d o : ℕ) where
   }
 
   module _ (out after : List ℕ) (r : Walk) (x : Lowered (slice l at) c d out o after r) where
-    pub lowered-walked-at : Walked l at (Movable d c) (further at r)
-    lowered-walked-at = slice-walked l at (Movable d c) r (x .walked)
-
     pub lowered-wrote-at : (h : ℕ) → r ≡ Upto h → Wrote (unshift d) l at c out o after (at + h) (o + h)
     unfolding Leaves
     lowered-wrote-at h i =
         let w : Leaves (slice l at) c d out o after (Upto h) = subst (Leaves (slice l at) c d out o after) i (x .leaves) in
         slice-wrote (unshift d) l at c out o after h (o + h) w
-
-    pub lowered-kept : r ≡ No → take o after ≡ take o out
-    unfolding Leaves
-    lowered-kept i = let w : Leaves (slice l at) c d out o after No = subst (Leaves (slice l at) c d out o after) i (x .leaves) in w

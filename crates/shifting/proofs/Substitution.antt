@@ -16,7 +16,7 @@ use Rattle.records.specs.declared.Walk.the-variants as walk
 use Rattle.records.specs.Record.{numberAt}
 use Rattle.records.specs.Parts.{slice, Part, Whole, Ends}
 use Rattle.records.proofs.Parts.{whole, kind-at, number-at}
-use Rattle.records.proofs.Slices.{part-slice, whole-slice, slice-ends, slice-length}
+use Rattle.records.proofs.Slices.{part-slice, whole-slice, slice-length}
 use Rattle.substitution.proofs.Writers.{Other, local-at}
 use Rattle.shifting.specs.declared.Places.{Places}
 use Rattle.shifting.specs.declared.Pairing.{Pairing}
@@ -263,30 +263,3 @@ module _ (b : List ℕ) (k : ℕ) (e t : List ℕ) where
       unfolding Substituted
       substituted-other-no h = λ x y z p s v g.
           h (i ∙ number-at b 0 x p ∙ ap numberOf (sym (g ∙ other-substitute k y x (above x p))) ∙ sym (number-at t 0 z v) ∙ sym j)
-
--- parts of tables, handed on as slices
-module _ (l m n : List ℕ) (b k e t : ℕ) where
-  pub substitutes-at : Whole l b → Whole m e → Whole n t → length n ≤ t + tableBytes → k + length l ≤ b + tableBytes
-      → Substitutes (slice l b) k (slice m e) (slice n t)
-  substitutes-at x y z f s = record {
-    body = whole-slice l b x;
-    argument = whole-slice m e y;
-    target = whole-slice n t z;
-    most = omega (arith, slice-length n t);
-    shallow = omega (arith, slice-length l b, x .least);
-  }
-
-  module _ (r : Pairing) (q : Substituted (slice l b) k (slice m e) (slice n t) r) where
-    pub substituted-ends-at : (p : Places) → r ≡ Upto p → Ends l b (b + p .first) × Ends n t (t + p .second)
-    substituted-ends-at p i =
-        let w = walk-reached (slice l b) k (slice m e) (slice n t) p r i q in
-        (slice-ends l b (p .first) (w .body-ends), slice-ends n t (p .second) (w .target-ends))
-
-    pub substituted-yes-at : (p : Places) → r ≡ Upto p → (x y z : Term) → Part l b x → Part m e y → Part n t z → Replaced k x y z
-    substituted-yes-at p i x y z f g h =
-        walk-reached (slice l b) k (slice m e) (slice n t) p r i q .replaced x y z (part-slice l b x f) (part-slice m e y g)
-        (part-slice n t z h)
-
-    pub substituted-no-at : r ≡ No → (x y z : Term) → Part l b x → Part m e y → Part n t z → ¬ Replaced k x y z
-    substituted-no-at i x y z f g h =
-        refused (slice l b) k (slice m e) (slice n t) r i q x y z (part-slice l b x f) (part-slice m e y g) (part-slice n t z h)

@@ -9,7 +9,7 @@ use records::Kind;
 use records::RECORD;
 use records::Walk;
 ghost use mathlib.Core.Path.{_≡_};
-ghost use Prim.Native.Nat.{_+_, _≤_, _<_};
+ghost use Prim.Native.Nat.{_≤_, _<_};
 ghost use lib.ListN.{length, getD};
 ghost use Rattle.terms.specs.Table.{localKind};
 ghost use Rattle.terms.specs.Figures.{numbers};

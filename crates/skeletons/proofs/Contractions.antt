@@ -13,7 +13,6 @@ use Rattle.terms.specs.Sweep.{contract}
 use Rattle.terms.specs.Table.{encode}
 use Rattle.matching.specs.Skeletons.{isUnsure}
 use Rattle.matching.proofs.Skeletons.{fits-apply, fits-abstract, closed-apply, closed-abstract}
-use Rattle.records.specs.Parts.{Tree}
 use Rattle.records.specs.Tests.{Equals}
 use Rattle.records.proofs.Parts.{size-some, at-start}
 use Rattle.sweeping.specs.declared.Length.{Length}
@@ -93,9 +92,6 @@ module _ (f a out : List ℕ) (r : Length) (mid : List ℕ) (w : ContractsApplic
           }
 
 -- an abstraction
-pub abstracted-tree : (b : List ℕ) → SweptBody b → Tree b
-abstracted-tree b x = record { tree = x .body; bytes = x .bytes; least = x .least }
-
 pub abstracts-unsure : (b out : List ℕ) (n : ℕ) (after : List ℕ) → Hole out n after → WritesAbstraction b out n after
 abstracts-unsure b out n after h = record {
   written = λ x e. hole-writes (AbstractionSkeleton x) out out after n (any-abstraction x) refl h;

@@ -4,21 +4,22 @@ use mathlib.Core.Path.{_≡_, refl, sym, ap, _∙_, subst}
 use mathlib.Core.Bool.{Bool, true, false, _&&_, _||_}
 use mathlib.Core.Logic.{_↔_}
 use mathlib.Core.List.{List}
-use Prim.Native.Nat.{ℕ, _-_}
+use Prim.Native.Nat.{ℕ}
 use native.Mathlib.Omega.{arith}
 use lib.Dec.{T, eqb}
 use lib.ListN.{getD}
 use borrow.Author.Tests.{eq-eqb, ne-eqb}
 use Rattle.terms.specs.Term.{Term, app, lam, loc, con, var, isInnermost}
+use Rattle.terms.specs.Table.{encode}
 use Rattle.terms.proofs.Tests.{or-false}
 use Rattle.matching.specs.Skeletons.{hasVariable, isAny, isUnsure}
 use Rattle.matching.proofs.Skeletons.{isVariable}
 use Rattle.records.specs.declared.Walk.{Walk}
 use Rattle.records.specs.declared.Walk.the-variants.{Upto, No}
 use Rattle.records.specs.Record.{numberAt}
-use Rattle.records.specs.Parts.{slice, Part, Whole, Ends, Tree}
+use Rattle.records.specs.Parts.{slice, Part, Whole, Tree}
 use Rattle.records.specs.Tests.{Tells, Equals, Walked}
-use Rattle.records.proofs.Parts.{kind-at, number-at, at-start, application, argument-part, tree-whole, whole-head, whole-argument}
+use Rattle.records.proofs.Parts.{kind-at, number-at, at-start, application, tree-whole, whole-head}
 use Rattle.records.proofs.Slices.{part-slice}
 use Rattle.records.proofs.Tests.{not-false-true}
 use Rattle.substitution.proofs.Writers.{local-at}
@@ -94,34 +95,34 @@ module _ (b : List ℕ) where
     pub head-whole : Tree b → Whole b 4
     head-whole x = whole-head b 0 (tree-whole b x) z
 
-    module _ (next : ℕ) (u : Ends b 4 next) where
-      pub argument-whole : Tree b → Whole b next
-      argument-whole x = whole-argument b 0 next (tree-whole b x) z u
+    -- g is the table of its argument
+    module _ (g : List ℕ) (u : (f a : Term) → b ≡ encode (app f a) → g ≡ encode a) where
+      argument : (t : Term) (e : b ≡ encode t) → let v = application b 0 t (at-start b t e) z in Part g 0 (v .a)
+      argument t e = let v = application b 0 t (at-start b t e) z in at-start g (v .a) (u (v .f) (v .a) (e ∙ ap encode (v .is)))
 
-      pub unsure-argument : getD b next 0 ≡ 4 → (m : ℕ) → m ≡ numberAt b next → Equals b isUnsure (eqb m 0)
+      pub unsure-argument : getD g 0 0 ≡ 4 → (m : ℕ) → m ≡ numberAt g 0 → Equals b isUnsure (eqb m 0)
       unsure-argument k m i t e =
           let v = application b 0 t (at-start b t e) z in
-          rw (v .is, hole-at b next (v .a) (argument-part b 0 next t u v) k)
-          (ap (λ (n : ℕ). eqb n 0) i ∙ or-none (eqb (numberAt b next) 0))
+          rw (v .is, hole-at g 0 (v .a) (argument t e) k) (ap (λ (n : ℕ). eqb n 0) i ∙ or-none (eqb (numberAt g 0) 0))
 
-      other-argument : (a : Term) (h : Bool) → Part b next a → ¬ (getD b next 0 ≡ 4) → ¬ (getD b next 0 ≡ 2)
+      other-argument : (a : Term) (h : Bool) → Part g 0 a → ¬ (getD g 0 0 ≡ 4) → ¬ (getD g 0 0 ≡ 2)
           → false ≡ (isAny a || (isInnermost a && h))
       other-argument (app f c) h x n m = refl
       other-argument (lam c) h x n m = refl
-      other-argument (loc i) h x n m = absurd (m (kind-at b next (loc i) x))
+      other-argument (loc i) h x n m = absurd (m (kind-at g 0 (loc i) x))
       other-argument (con i) h x n m = refl
-      other-argument (var i) h x n m = absurd (n (kind-at b next (var i) x))
+      other-argument (var i) h x n m = absurd (n (kind-at g 0 (var i) x))
 
-      pub sure-argument : ¬ (getD b next 0 ≡ 4) → ¬ (getD b next 0 ≡ 2) → Equals b isUnsure false
+      pub sure-argument : ¬ (getD g 0 0 ≡ 4) → ¬ (getD g 0 0 ≡ 2) → Equals b isUnsure false
       sure-argument n m t e =
           let v = application b 0 t (at-start b t e) z in
-          rw (v .is) (other-argument (v .a) (hasVariable (v .f)) (argument-part b 0 next t u v) n m)
+          rw (v .is) (other-argument (v .a) (hasVariable (v .f)) (argument t e) n m)
 
-      module _ (k : getD b next 0 ≡ 2) (m : ℕ) (i : m ≡ numberAt b next) where
+      module _ (k : getD g 0 0 ≡ 2) (m : ℕ) (i : m ≡ numberAt g 0) where
         pub sure-outer : ¬ (m ≡ 0) → Equals b isUnsure false
         sure-outer h t e =
             let v = application b 0 t (at-start b t e) z in
-            rw (v .is, local-at b next m (v .a) (argument-part b 0 next t u v) k i, ne-eqb m 0 h)
+            rw (v .is, local-at g 0 m (v .a) (argument t e) k i, ne-eqb m 0 h)
 
         module _ (h : m ≡ 0) (w : Walk) (x : Walked (slice b 4) 0 Exact w) where
           pub sure-exact : (j : ℕ) → w ≡ Upto j → Equals b isUnsure false
@@ -129,7 +130,7 @@ module _ (b : List ℕ) where
               let v = application b 0 t (at-start b t e) z in
               rw (
                 v .is,
-                local-at b next m (v .a) (argument-part b 0 next t u v) k i,
+                local-at g 0 m (v .a) (argument t e) k i,
                 eq-eqb m 0 h,
                 walked-yes (slice b 4) 0 Exact w x (v .f) (part-slice b 4 (v .f) (v .head)) j q,
               )
@@ -137,5 +138,5 @@ module _ (b : List ℕ) where
           pub unsure-inexact : w ≡ No → Equals b isUnsure true
           unsure-inexact q t e =
               let v = application b 0 t (at-start b t e) z in
-              rw (v .is, local-at b next m (v .a) (argument-part b 0 next t u v) k i, eq-eqb m 0 h)
+              rw (v .is, local-at g 0 m (v .a) (argument t e) k i, eq-eqb m 0 h)
               (not-false-true (hasVariable (v .f)) (walked-not (slice b 4) 0 Exact w x (v .f) (part-slice b 4 (v .f) (v .head)) q))

@@ -19,7 +19,7 @@ use Rattle.matching.specs.Skeletons.{Fits}
 use Rattle.matching.proofs.Targets.{closed-more}
 use Rattle.matching.proofs.Skeletons.{fits-refl, closed-apply, closed-abstract}
 use Rattle.records.specs.Record.{numberAt}
-use Rattle.records.specs.Parts.{Part, Tree}
+use Rattle.records.specs.Parts.{Part}
 use Rattle.records.specs.Tests.{Says, Tells}
 use Rattle.records.proofs.Parts.{size-some, part, kind-at, at-start, leaf-size, application-of, abstraction-of}
 use Rattle.assignments.specs.declared.Span.{Span}
@@ -140,9 +140,6 @@ module _ (l m s : List ℕ) (a : List Entry) (x : SkeletonInput l s a) where
       let g : GivenValues s a (x .φ) (lam (v .b)) = subst (GivenValues s a (x .φ)) (v .is) (x .gives) in
       skeleton-input (v .b) (suc (x .depth)) (h (v .b) (v .bytes)) (omega (arith, ap size (v .is)))
       (omega (arith, ap size (v .is), x .shallow)) c b g
-
-pub input-tree : (l s : List ℕ) (a : List Entry) → SkeletonInput l s a → Tree l
-input-tree l s a x = record { tree = x .tree; bytes = x .bytes; least = x .least }
 
 -- a skeleton of n records that stands in p from byte 0 on
 record Result (s : List ℕ) (a : List Entry) (t : Term) (p : List ℕ) (n : ℕ) : Type 0 where

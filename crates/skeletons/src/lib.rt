@@ -125,14 +125,14 @@ fn is_unsure(b: &[u8]) -> bool
     if kind != Kind::APPLICATION.code {
         return false;
     }
-    let argument = records::end_at(b, RECORD);
-    if b[argument] == Kind::VARIABLE.code {
-        return records::number_at(b, argument) == ANY;
+    let argument = records::argument_of(b);
+    if argument[0] == Kind::VARIABLE.code {
+        return records::number_at(argument, 0) == ANY;
     }
-    if b[argument] != Kind::LOCAL.code {
+    if argument[0] != Kind::LOCAL.code {
         return false;
     }
-    if records::number_at(b, argument) != 0 {
+    if records::number_at(argument, 0) != 0 {
         return false;
     }
     let head = exact_part(&b[RECORD..]);
@@ -216,7 +216,8 @@ fn skeleton_abstraction(
     abstract_over(&body[0..n], out)
 }
 
-// Writes the skeleton of the part s, with the values that a has in the value table, into out from byte 0 on. Gives its number of records.
+// Writes the skeleton of the part s, with the values that the entries have in the value table, into out from byte 0 on. Gives its number of
+// records.
 // Constants and locals are their own skeletons.
 pub fn skeleton(
     s: &[u8],

@@ -1,6 +1,6 @@
 -- Writing a changed term: what the parts of a source are, and what was written for a term when its parts were. By the term's kind, which
 -- its first record shows; the laws hold of every change that follows the binders. Assumes nothing.
-use mathlib.Core.Path.{_≡_, refl, sym, ap, ap₂, _∙_, subst}
+use mathlib.Core.Path.{_≡_, refl, sym, ap, _∙_, subst}
 use mathlib.Core.List.{List, []}
 use Prim.Native.Nat.{ℕ, suc, _+_, _-_, _*_, _≤_, _<_}
 use native.Mathlib.Omega.{arith}
@@ -12,7 +12,7 @@ use Rattle.terms.specs.Figures.{constants}
 use Rattle.terms.specs.Term.{Term, app, lam, loc, con, var, size, shift}
 use Rattle.terms.specs.Table.{bytes, encode}
 use Rattle.terms.proofs.Substitute.{substitute-here, substitute-low, substitute-high}
-use Rattle.terms.proofs.Table.{kind, numberOf, encode-length}
+use Rattle.terms.proofs.Table.{encode-length}
 use Rattle.records.specs.Record.{numberAt}
 use Rattle.records.specs.Parts.{slice, Part, Whole}
 use Rattle.records.proofs.Parts.{size-some, whole, part-bytes, kind-at, number-at, at-start, application, abstraction, argument-part}
@@ -152,14 +152,6 @@ module _ (g : ℕ → Term → Term) (change : Change g) (l : List ℕ) (at k : 
         is = by-other (λ t. (o + 4 ≡ o + 4 * size (g k t)) × (p ≡ sets out o (encode (g k t)))) l at z
             (λ m w. rw (change .constant k m) (omega arith, b (con m) w))
             (λ m w. rw (change .variable k m) (omega arith, b (var m) w))
-
-    pub wrote-other : (p : List ℕ) (n : ℕ) → Whole l at → Other l at → n ≡ numberAt l at → p ≡ sets out o (bytes (getD l at 0) n [])
-        → Wrote g l at k out o p (at + 4) (o + 4)
-    wrote-other p n x z e b =
-        kept p x z (by-other (λ t. p ≡ sets out o (encode t)) l at z (λ m w. own (con m) w refl) (λ m w. own (var m) w refl))
-      where
-        own : (t : Term) → Part l at t → encode t ≡ bytes (kind t) (numberOf t) [] → p ≡ sets out o (encode t)
-        own t w f = b ∙ ap₂ (λ (i j : ℕ). sets out o (bytes i j [])) (kind-at l at t w) (e ∙ number-at l at t w) ∙ ap (sets out o) (sym f)
 
 -- a part that l begins with, and its parts as slices
 module _ (g : ℕ → Term → Term) (change : Change g) (l : List ℕ) (k : ℕ) where

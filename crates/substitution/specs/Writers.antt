@@ -31,7 +31,7 @@ count k (loc n) = cond (eqb n k) 1 0
 count k (con n) = 0
 count k (var n) = 0
 
--- the numbers of numbers and variables fit where they are copied from a record
+-- the numbers of constants and variables fit where they are copied from a record
 abbrev pub NumbersFit : Term → Type 0
 NumbersFit (app f a) = NumbersFit f × NumbersFit a
 NumbersFit (lam b) = NumbersFit b

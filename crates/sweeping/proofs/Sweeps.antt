@@ -2,7 +2,7 @@
 -- long. By the part's kind, which its first record shows. Assumes nothing.
 use mathlib.Core.Path.{_≡_, refl, sym, ap, _∙_, subst}
 use mathlib.Core.Bool.{Bool, true, false, cond, _||_}
-use mathlib.Core.Logic.{_⊎_, inl, inr, ⊎-elim}
+use mathlib.Core.Logic.{inl, inr, ⊎-elim}
 use mathlib.Core.List.{List}
 use Prim.Native.Nat.{ℕ, suc, _+_, _-_, _*_, _≤_, _<_}
 use native.Mathlib.Omega.{arith}
@@ -19,7 +19,6 @@ use Rattle.terms.proofs.Sweep.{sweep-normal, fill-same}
 use Rattle.terms.proofs.Locals.{closed-sweep}
 use Rattle.terms.proofs.Table.{encode-length}
 use Rattle.records.specs.Record.{numberAt}
-use Rattle.records.specs.Parts.{Tree}
 use Rattle.records.proofs.Parts.{size-some, kind-at, number-at, at-start, leaf-size, application-of, abstraction-of}
 use Rattle.assignments.specs.Entries.{Given, Gives}
 use Rattle.assignments.specs.declared.Entry.{Entry}
@@ -112,9 +111,6 @@ module _ (l m s : List ℕ) (a : List Entry) (x : Sweepable l s a) where
       let c : Closed (x .depth) (lam (v .b)) = subst (Closed (x .depth)) (v .is) (x .closed) in
       let g : Gives s a (x .φ) (lam (v .b)) = subst (Gives s a (x .φ)) (v .is) (x .gives) in
       ready (v .b) (suc (x .depth)) (h (v .b) (v .bytes)) (omega (arith, ap size (v .is), x .shallow)) c g
-
-pub ready-tree : (l s : List ℕ) (a : List Entry) → Sweepable l s a → Tree l
-ready-tree l s a x = record { tree = x .tree; bytes = x .bytes; least = x .least }
 
 pub ready-fillable : (l s : List ℕ) (a : List Entry) → Fillable l s a → Sweepable l s a
 ready-fillable l s a x = record {

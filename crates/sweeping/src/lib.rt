@@ -11,10 +11,9 @@ use records::Kind;
 use records::RECORD;
 use records::VARIABLES;
 ghost use mathlib.Core.Path.{_≡_};
-ghost use mathlib.Core.Bool.{false, not, _&&_};
-ghost use Prim.Native.Nat.{_+_, _-_, _*_};
-ghost use lib.ListN.{length, getD};
-ghost use Rattle.terms.specs.Term.{Term, loc, isEta, isAbstraction};
+ghost use mathlib.Core.Bool.{not, _&&_};
+ghost use lib.ListN.{getD};
+ghost use Rattle.terms.specs.Term.{Term, isEta, isAbstraction};
 ghost use Rattle.terms.specs.Table.{encode, applicationKind, abstractionKind};
 ghost use Rattle.terms.specs.Sweep.{headOf};
 ghost use Rattle.assignments.specs.Entries.{Given};
@@ -117,7 +116,7 @@ fn write_value(
 {
     let e = entries[i];
     match e {
-        // never so: entries variable that occurs is assigned
+        // never so: a variable that occurs is assigned
         Entry::Open => Length::TooLong,
         Entry::Assigned(span) => {
             copying::copy_into(assignments::value_of(values, span), out, 0);
@@ -194,7 +193,7 @@ fn sweep_part(
     Length::Records(1)
 }
 
-// Writes the swept form of the pattern s, filled with the values that a has in the value table, into out from byte 0 on.
+// Writes the swept form of the pattern s, filled with the values that the entries have in the value table, into out from byte 0 on.
 pub fn sweep(
     s: &[u8],
     values: &[u8],

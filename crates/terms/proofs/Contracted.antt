@@ -4,7 +4,7 @@
 --   Contracted t   no part of t is a proper eta-redex
 use mathlib.Core.Path.{_≡_, refl, sym, ap, subst}
 use mathlib.Core.Bool.{Bool, true, false, not, cond, _&&_}
-use Prim.Native.Nat.{ℕ, suc, _+_, _-_}
+use Prim.Native.Nat.{ℕ, suc, _+_}
 use lib.Dec.{T}
 use borrow.Author.Tests.{eqb-true}
 use Rattle.terms.specs.Term.{Term, app, lam, loc, con, var, shift, unshift, substitute, uses, isAbstraction, isInnermost, isEta}

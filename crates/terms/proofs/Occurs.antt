@@ -1,6 +1,6 @@
 -- Variables that occur in a term are below its bound, it is decided which occur, and values for those that do make a total assignment. By
 -- induction on the term. Assumes nothing.
-use mathlib.Core.Logic.{_⊎_, ⊎-elim}
+use mathlib.Core.Logic.{⊎-elim}
 use Prim.Native.Nat.{ℕ, _<_}
 use native.Mathlib.Omega.{arith}
 use native.Mathlib.Decide.{ℕ-discrete}

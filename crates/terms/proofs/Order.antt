@@ -187,21 +187,6 @@ rising-same (l ∷ ls) (m ∷ ms) u v f g =
     ap₂ _∷_ e (rising-same ls ms (u .1) (v .1) (λ x p. same-tail l m x ls ms u e p (f x (inr p)))
     (λ x p. same-tail m l x ms ls v (sym e) p (g x (inr p))))
 
--- how many lines
-place-length : (l m : Line) (ms rest : List Line) (o : Compared Less l m) → ¬ In l (m ∷ ms) → length rest ≡ suc (length ms)
-    → length (place l m ms rest o) ≡ suc (suc (length ms))
-place-length l m ms rest (lt o) h e = refl
-place-length l m ms rest (eq o) h e = absurd (h (inl (o)))
-place-length l m ms rest (gt o) h e = ap suc e
-
-insert-length : (l : Line) (ms : List Line) → ¬ In l ms → length (insert l ms) ≡ suc (length ms)
-insert-length l [] h = refl
-insert-length l (m ∷ ms) h = place-length l m ms (insert l ms) (order l m) h (insert-length l ms (λ p. h (inr p)))
-
-pub sort-length : (ls : List Line) → Distinct ls → length (sort ls) ≡ length ls
-sort-length [] h = refl
-sort-length (l ∷ ls) h = insert-length l (sort ls) (λ p. h .0 (sort-in l ls p)) ∙ ap suc (sort-length ls (h .1))
-
 -- lines that are found, none twice, are no more than all
 without : (l : Line) (ms : List Line) → In l ms
     → (rs : List Line) × (length ms ≡ suc (length rs)) × ((x : Line) → In x ms → (x ≡ l) ⊎ In x rs)

@@ -5,8 +5,6 @@
 use records::Kind;
 use records::RECORD;
 use records::VARIABLES;
-ghost use Prim.Native.Nat.{_≤_};
-ghost use lib.ListN.{length};
 
 // The kind of a record that isn't there.
 const NONE: u8 = 255;

@@ -1,4 +1,4 @@
--- `listing::sort` meets its contract. Each half is shorter than the whole, and both halves in order, merged, are the whole in order.
+-- `arranging::sort` meets its contract. Each half is shorter than the whole, and both halves in order, merged, are the whole in order.
 -- Assumes nothing.
 use mathlib.Core.Path.{_∙_, refl}
 use Prim.Native.Nat.{_≤_, _/_, _*_}

@@ -1,4 +1,4 @@
--- `listing::arrange` meets its contract. The found lines are lines whose values stand in the value table; sorting keeps that, and laying
+-- `arranging::arrange` meets its contract. The found lines are lines whose values stand in the value table; sorting keeps that, and laying
 -- out the values makes the tables of the sorted lines. Assumes nothing.
 use mathlib.Core.Path.{refl}
 use native.Mathlib.Omega.{arith}

@@ -1,4 +1,4 @@
--- `listing::compare` meets its contract. The loop's invariant: the bytes passed are equal; each return is at the first byte that differs,
+-- `arranging::compare` meets its contract. The loop's invariant: the bytes passed are equal; each return is at the first byte that differs,
 -- or at the end of a table. Assumes nothing.
 use native.Mathlib.Omega.{arith}
 use Prim.Native.Nat.{_≤_, _-_}

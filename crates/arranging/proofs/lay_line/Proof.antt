@@ -1,4 +1,4 @@
--- `listing::lay_line` meets its contract. The entries read from the line are those of the line that stands there, so writing them writes
+-- `arranging::lay_line` meets its contract. The entries read from the line are those of the line that stands there, so writing them writes
 -- the same line with its values in their new place. Assumes nothing.
 use Rattle.arranging.proofs.Laying.{lay-write, laid-line}
 use borrow.Author.Needs.{needs}

@@ -1,4 +1,4 @@
--- `listing::lay_lines` meets its contract. The loop's invariant: the lines that are left stand as they did, and writing them behind those
+-- `arranging::lay_lines` meets its contract. The loop's invariant: the lines that are left stand as they did, and writing them behind those
 -- passed gives the tables of all lines; the measure is the number of lines left. Assumes nothing.
 use Prim.Native.Nat.{_≤_, _-_}
 use native.Mathlib.Omega.{arith}

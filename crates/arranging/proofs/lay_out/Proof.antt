@@ -1,4 +1,4 @@
--- `listing::lay_out` meets its contract. The work area begins with a copy of the values, so the lines stand with them there as they did.
+-- `arranging::lay_out` meets its contract. The work area begins with a copy of the values, so the lines stand with them there as they did.
 -- Assumes nothing.
 use Rattle.arranging.proofs.Laying.{lay-lines, laid-out}
 use borrow.Author.Needs.{needs}

@@ -1,4 +1,4 @@
--- `listing::left_is_next` meets its contract: a table with no line left cannot have the next one, and else the earlier of the two first
+-- `arranging::left_is_next` meets its contract: a table with no line left cannot have the next one, and else the earlier of the two first
 -- lines is it. Assumes nothing.
 use Rattle.arranging.proofs.Merging.{merging-begin, chosen-right, chosen-left, chosen-earlier}
 use borrow.Author.Needs.{needs}

@@ -1,4 +1,4 @@
--- `listing::merge` meets its contract. The loop's invariant: lines stand in both tables from the places reached on, and merging them behind
+-- `arranging::merge` meets its contract. The loop's invariant: lines stand in both tables from the places reached on, and merging them behind
 -- what is written merges the whole. Assumes nothing.
 use Prim.Native.Nat.{_+_, _-_}
 use native.Mathlib.Omega.{arith}

@@ -1,4 +1,4 @@
--- `listing::merge_halves` meets its contract: the bytes merged in the work area are as many as the lines have, and are copied over them.
+-- `arranging::merge_halves` meets its contract: the bytes merged in the work area are as many as the lines have, and are copied over them.
 -- Assumes nothing.
 use Rattle.arranging.proofs.Sorting.{merges-parts, merged-back}
 use borrow.Author.Needs.{needs}

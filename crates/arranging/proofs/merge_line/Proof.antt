@@ -1,4 +1,4 @@
--- `listing::merge_line` meets its contract: what is written is the first of the lines that are left, so that merging the others behind it
+-- `arranging::merge_line` meets its contract: what is written is the first of the lines that are left, so that merging the others behind it
 -- merges all. Assumes nothing.
 use Rattle.arranging.proofs.Merging.{left-some, right-some, merged-line-left, merged-line-right}
 use borrow.Author.Needs.{needs}

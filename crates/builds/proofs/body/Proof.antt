@@ -7,11 +7,6 @@ use Rattle.builds.proofs.Building.{stored-pushed, target-within, argume
 use borrow.Author.Needs.{needs}
 use Rattle.builds.proofs.body.Statement.{statement}
 use Rattle.builds.proofs.body.Tie as tie
-use Rattle.abstractions.proofs.body_into.Reads as body-into-reads
-use Rattle.builds.proofs.any_chosen.Reads as any-chosen-reads
-use Rattle.builds.proofs.push_abstraction.Reads as push-abstraction-reads
-use Rattle.agenda.proofs.goal_at.Reads as goal-at-reads
-use Rattle.records.proofs.is_eta.Reads as is-eta-reads
 
 goal-at-requires : tie.Need-goal-at-requires
 goal-at-requires c κs = search needs

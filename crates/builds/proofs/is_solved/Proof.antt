@@ -1,4 +1,4 @@
--- `builds::is_solved` meets its contract. The value's first record, the walk over its body and the walk over body and target decide
+-- `builds::is_solved` meets its contract. The head's first record, the walk over its body and the walk over body and target decide
 -- one condition each. Assumes nothing.
 use Rattle.builds.proofs.Solutions.{solved-other, asking, substituting, solved-unused, solved-yes, solved-no}
 use borrow.Author.Needs.{needs}
@@ -9,10 +9,7 @@ shared-slice-read-if1 : tie.Need-shared-slice-read-if1
 shared-slice-read-if1 c = search needs
 
 returns : tie.Need-returns
-returns c = solved-other _ _ _ _ (c .if1 .taken)
-
-add-body : tie.Need-add-body
-add-body c = search needs
+returns c = solved-other _ _ _ (c .if1 .taken)
 
 sub-body : tie.Need-sub-body
 sub-body c = search needs
@@ -27,7 +24,7 @@ ask-part-requires : tie.Need-ask-part-requires
 ask-part-requires c κs =
     let else1 : tie.Else1 = search in
     let start : tie.Start = search in
-    asking _ _ _ _ (else1 .if1 .left) (start .pre)
+    asking _ _ _ (else1 .if1 .left) (start .pre)
 
 enum-told : tie.Need-enum-told
 enum-told c = search needs
@@ -37,24 +34,6 @@ returns-2 c = search (needs, solved-unused)
 
 enum-told-2 : tie.Need-enum-told-2
 enum-told-2 c = search needs
-
-sub-is-substituted : tie.Need-sub-is-substituted
-sub-is-substituted c = search needs
-
-part-is-substituted-start : tie.Need-part-is-substituted-start
-part-is-substituted-start c = search needs
-
-part-is-substituted-end : tie.Need-part-is-substituted-end
-part-is-substituted-end c = search needs
-
-sub-is-substituted-2 : tie.Need-sub-is-substituted-2
-sub-is-substituted-2 c = search needs
-
-part-is-substituted-start-2 : tie.Need-part-is-substituted-start-2
-part-is-substituted-start-2 c = search needs
-
-part-is-substituted-end-2 : tie.Need-part-is-substituted-end-2
-part-is-substituted-end-2 c = search needs
 
 is-substituted-requires : tie.Need-is-substituted-requires
 is-substituted-requires c κs = search (needs, substituting)
@@ -77,7 +56,6 @@ is-solved-spec =
     (tie.spec
     shared-slice-read-if1
     returns
-    add-body
     sub-body
     part-body-start
     part-body-end
@@ -85,12 +63,6 @@ is-solved-spec =
     enum-told
     returns-2
     enum-told-2
-    sub-is-substituted
-    part-is-substituted-start
-    part-is-substituted-end
-    sub-is-substituted-2
-    part-is-substituted-start-2
-    part-is-substituted-end-2
     is-substituted-requires
     enum-told-3
     enum-told-4

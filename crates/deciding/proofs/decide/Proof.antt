@@ -1,6 +1,5 @@
 -- `deciding::decide` meets its contract. The part's skeleton is its swept form if it has no hole, and is compared with the goal's
 -- targets; else it may refuse the goal. Each way out is one law. Assumes nothing.
-use mathlib.Core.Path.{refl}
 use native.Mathlib.Omega.{arith}
 use borrow.Author.Tests.{not-false}
 use Rattle.deciding.proofs.Decisions.{part-place, walkable, decided-open, comparing, decided-dead, decided-live}
@@ -54,14 +53,8 @@ part-is-possible-end c = search needs
 is-possible-requires : tie.Need-is-possible-requires
 is-possible-requires c κs = search (needs, judges)
 
-same-length : tie.Need-same-length
-same-length c = search needs
-
 returns : tie.Need-returns
-returns c = decided-open _ _ _ _ _ refl
-
-same-length-2 : tie.Need-same-length-2
-same-length-2 c = search needs
+returns c = decided-open _ _ _ _
 
 returns-2 : tie.Need-returns-2
 returns-2 c = search (needs, decided-refused)
@@ -86,17 +79,8 @@ is-met-requires c κs =
     (exact-form _ _ _ _ (start .pre .0) (start .pre .1) _ (goal-at .goal-at .ensures .0) _ _ (skeleton-of .skeleton-of .ensures)
     (is-exact .is-exact .result) (not-false _ (else1 .if1 .left)) (is-exact .is-exact .ensures))
 
-add-t41 : tie.Need-add-t41
-add-t41 c =
-    let else1 : tie.Else1 = search in
-    let is-exact : tie.After-is-exact = search in
-    let skeleton-of : tie.After-skeleton-of = search in
-    let goal-at : tie.After-goal-at = search in
-    let start : tie.Start = search in
-    omega arith
-
-same-length-3 : tie.Need-same-length-3
-same-length-3 c = search needs
+add-t33 : tie.Need-add-t33
+add-t33 c = let start : tie.Start = search in omega (arith, start .pre .0 .bounds .top)
 
 returns-3 : tie.Need-returns-3
 returns-3 c =
@@ -108,11 +92,8 @@ returns-3 c =
     let start : tie.Start = search in
     decided-live _ _ _ _ (start .pre .0) (start .pre .1) _ (goal-at .goal-at .ensures .0) _
     (exact-form _ _ _ _ (start .pre .0) (start .pre .1) _ (goal-at .goal-at .ensures .0) _ _ (skeleton-of .skeleton-of .ensures)
-    (is-exact .is-exact .result) (not-false _ (else1 .if1 .left)) (is-exact .is-exact .ensures)) _ _ (is-met .is-met .ensures)
+    (is-exact .is-exact .result) (not-false _ (else1 .if1 .left)) (is-exact .is-exact .ensures)) _ (is-met .is-met .ensures)
     (c .before .if3 .taken)
-
-same-length-4 : tie.Need-same-length-4
-same-length-4 c = search needs
 
 returns-4 : tie.Need-returns-4
 returns-4 c =
@@ -124,7 +105,7 @@ returns-4 c =
     let start : tie.Start = search in
     decided-dead _ _ _ _ (start .pre .0) (start .pre .1) _ (goal-at .goal-at .ensures .0) _
     (exact-form _ _ _ _ (start .pre .0) (start .pre .1) _ (goal-at .goal-at .ensures .0) _ _ (skeleton-of .skeleton-of .ensures)
-    (is-exact .is-exact .result) (not-false _ (else1 .if1 .left)) (is-exact .is-exact .ensures)) _ _ (is-met .is-met .ensures)
+    (is-exact .is-exact .result) (not-false _ (else1 .if1 .left)) (is-exact .is-exact .ensures)) _ (is-met .is-met .ensures)
     (c .if3 .left)
 
 pub decide-spec : {M : Type 1} → statement M
@@ -145,16 +126,12 @@ decide-spec =
     part-is-possible-start
     part-is-possible-end
     is-possible-requires
-    same-length
     returns
-    same-length-2
     returns-2
     sub-is-met
     part-is-met-start
     part-is-met-end
     is-met-requires
-    add-t41
-    same-length-3
+    add-t33
     returns-3
-    same-length-4
     returns-4)

@@ -1,12 +1,12 @@
--- `deciding::is_met` meets its contract. Tables are equal exactly if their terms are; to be asked as a solution the swept form is
--- written at the top, where nothing stands. Assumes nothing.
-use Rattle.deciding.proofs.Decisions.{target-whole, compared-match, solving-swept, compared-build}
+-- `deciding::is_met` meets its contract. Tables are equal exactly if their terms are, and what solves a goal to build is asked of the parts
+-- that stand in the work area. Assumes nothing.
+use Rattle.deciding.proofs.Decisions.{compared-match, argument-within, solving-swept, compared-build}
 use borrow.Author.Needs.{needs}
 use Rattle.deciding.proofs.is_met.Statement.{statement}
 use Rattle.deciding.proofs.is_met.Tie as tie
 
 end-at-requires : tie.Need-end-at-requires
-end-at-requires c κs = search (needs, target-whole)
+end-at-requires c κs = search needs
 
 sub-same-bytes : tie.Need-sub-same-bytes
 sub-same-bytes c = search needs
@@ -20,20 +20,29 @@ part-same-bytes-end c = search needs
 same-bytes-requires : tie.Need-same-bytes-requires
 same-bytes-requires c κs = search needs
 
-same-length : tie.Need-same-length
-same-length c = search needs
-
 returns : tie.Need-returns
 returns c = search (needs, compared-match)
 
-copy-into-requires : tie.Need-copy-into-requires
-copy-into-requires c κs = search needs
+sub-is-solved : tie.Need-sub-is-solved
+sub-is-solved c = search (needs, argument-within)
+
+part-is-solved-start : tie.Need-part-is-solved-start
+part-is-solved-start c = search (needs, argument-within)
+
+part-is-solved-end : tie.Need-part-is-solved-end
+part-is-solved-end c = search needs
+
+sub-is-solved-2 : tie.Need-sub-is-solved-2
+sub-is-solved-2 c = search needs
+
+part-is-solved-start-2 : tie.Need-part-is-solved-start-2
+part-is-solved-start-2 c = search needs
+
+part-is-solved-end-2 : tie.Need-part-is-solved-end-2
+part-is-solved-end-2 c = search needs
 
 is-solved-requires : tie.Need-is-solved-requires
 is-solved-requires c κs = search (needs, solving-swept)
-
-same-length-2 : tie.Need-same-length-2
-same-length-2 c = search needs
 
 returns-2 : tie.Need-returns-2
 returns-2 c = search (needs, compared-build)
@@ -47,9 +56,12 @@ is-met-spec =
     part-same-bytes-start
     part-same-bytes-end
     same-bytes-requires
-    same-length
     returns
-    copy-into-requires
+    sub-is-solved
+    part-is-solved-start
+    part-is-solved-end
+    sub-is-solved-2
+    part-is-solved-start-2
+    part-is-solved-end-2
     is-solved-requires
-    same-length-2
     returns-2)

@@ -3,7 +3,7 @@
 use Prim.Native.Nat.{_+_, _*_}
 use lib.ListN.{length}
 use native.Mathlib.Omega.{arith}
-use Rattle.reducts.proofs.Reducts.{reduct-too-long, reducible-head, reducible-argument, reducible-body, reducible-tree}
+use Rattle.reducts.proofs.Reducts.{reduct-too-long, reducible-head, reducible-argument, reducible-body}
 use Rattle.reducts.proofs.Reducts.{result-few}
 use Rattle.reducts.proofs.Reducts.{result-within, result-fills, parts-applicable, reduces-application, reduces-abstraction}
 use Rattle.reducts.proofs.Reducts.{leaf-length, reduces-leaf}

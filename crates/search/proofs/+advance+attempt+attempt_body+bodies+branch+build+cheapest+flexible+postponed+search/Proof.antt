@@ -603,12 +603,13 @@ cheapest-same-length-4 t c = search needs
 
 cheapest-returns-2 : (t : ℕ) → cheapest-in t cheapest-lts.Need-returns-2
 cheapest-returns-2 t c =
+    let searched : cheapest-in t cheapest-lts.After-search = search in
     let decided : cheapest-in t cheapest-lts.After-decided = search in
     let decide : cheapest-in t cheapest-lts.After-decide = search in
     let bring-forward : cheapest-in t cheapest-lts.After-bring-forward = search in
     let f = bring-forward .bring-forward .ensures in
     let m = decided-next _ _ _ _ _ _ _ (decide .decide .ensures) _ (decided .decided .given .1) in
-    search (needs, searched-forwarded, searched-move)
+    searched-forwarded _ _ _ _ _ _ _ _ _ _ f _ _ _ _ (searched-move _ _ _ _ _ _ _ _ _ _ _ _ _ _ _ _ _ m (searched .search .ensures))
 
 cheapest-enum-told-2 : (t : ℕ) → cheapest-in t cheapest-lts.Need-enum-told-2
 cheapest-enum-told-2 t c = search needs

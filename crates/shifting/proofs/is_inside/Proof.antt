@@ -1,4 +1,4 @@
--- `abstractions::is_inside` meets its contract. A local below the first is none of the binders, and any other is tested against the last.
+-- `shifting::is_inside` meets its contract. A local below the first is none of the binders, and any other is tested against the last.
 -- Assumes nothing.
 use Rattle.shifting.proofs.Lowering.{inside-high}
 use borrow.Author.Needs.{needs}

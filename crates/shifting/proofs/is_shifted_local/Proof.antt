@@ -1,4 +1,4 @@
--- `abstractions::is_shifted_local` meets its contract. By whether the local is below the cutoff, the number that it must have is known.
+-- `shifting::is_shifted_local` meets its contract. By whether the local is below the cutoff, the number that it must have is known.
 -- Assumes nothing.
 use Rattle.shifting.proofs.Tests.{shifted-low, shifted-high}
 use borrow.Author.Needs.{needs}

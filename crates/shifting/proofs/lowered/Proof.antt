@@ -1,4 +1,4 @@
--- `abstractions::lowered` meets its contract. By whether the local is below the binders; one that is not is above all of them. Assumes
+-- `shifting::lowered` meets its contract. By whether the local is below the binders; one that is not is above all of them. Assumes
 -- nothing.
 use native.Mathlib.Omega.{arith}
 use Rattle.shifting.proofs.Lowering.{unshifted-low, unshifted-high, outside}

@@ -2,7 +2,7 @@
 -- nothing.
 use native.Mathlib.Omega.{arith}
 use Rattle.records.proofs.Slices.{whole-slice, slice-length}
-use Rattle.skeletons.proofs.Tests.{unsure-hole, sure-other, head-whole, argument-whole, unsure-argument, sure-argument, sure-outer}
+use Rattle.skeletons.proofs.Tests.{unsure-hole, sure-other, head-whole, unsure-argument, sure-argument, sure-outer}
 use Rattle.skeletons.proofs.Tests.{sure-exact, unsure-inexact}
 use borrow.Author.Needs.{needs}
 use Rattle.skeletons.proofs.is_unsure.Statement.{statement}
@@ -20,41 +20,30 @@ returns c = search (needs, unsure-hole)
 returns-2 : tie.Need-returns-2
 returns-2 c = search (needs, sure-other)
 
-end-at-requires : tie.Need-end-at-requires
-end-at-requires c κs = search (needs, head-whole)
+argument-of-requires : tie.Need-argument-of-requires
+argument-of-requires c κs = search needs
 
 shared-slice-read-if3 : tie.Need-shared-slice-read-if3
-shared-slice-read-if3 c =
-    let else2 : tie.Else2 = search in
-    let start : tie.Start = search in
-    omega (arith, argument-whole _ (else2 .if2 .left) _ (c .before .end-at .ensures) (start .pre .0) .least)
+shared-slice-read-if3 c = search needs
 
 number-at-requires-2 : tie.Need-number-at-requires-2
-number-at-requires-2 c κs =
-    let end-at : tie.After-end-at = search in
-    let else2 : tie.Else2 = search in
-    let start : tie.Start = search in
-    omega (arith, argument-whole _ (else2 .if2 .left) _ (end-at .end-at .ensures) (start .pre .0) .least)
+number-at-requires-2 c κs = search needs
 
 returns-3 : tie.Need-returns-3
 returns-3 c = search (needs, unsure-argument)
 
 shared-slice-read-if4 : tie.Need-shared-slice-read-if4
-shared-slice-read-if4 c =
-    let end-at : tie.After-end-at = search in
-    let else2 : tie.Else2 = search in
-    let start : tie.Start = search in
-    omega (arith, argument-whole _ (else2 .if2 .left) _ (end-at .end-at .ensures) (start .pre .0) .least)
+shared-slice-read-if4 c = search needs
 
 returns-4 : tie.Need-returns-4
-returns-4 c = search (needs, sure-argument)
+returns-4 c =
+    let else3 : tie.Else3 = search in
+    let argument-of : tie.After-argument-of = search in
+    let else2 : tie.Else2 = search in
+    sure-argument _ (else2 .if2 .left) _ (argument-of .argument-of .ensures .1) (else3 .if3 .left) (c .if4 .taken)
 
 number-at-requires-3 : tie.Need-number-at-requires-3
-number-at-requires-3 c κs =
-    let end-at : tie.After-end-at = search in
-    let else2 : tie.Else2 = search in
-    let start : tie.Start = search in
-    omega (arith, argument-whole _ (else2 .if2 .left) _ (end-at .end-at .ensures) (start .pre .0) .least)
+number-at-requires-3 c κs = search needs
 
 returns-5 : tie.Need-returns-5
 returns-5 c = search (needs, sure-outer)
@@ -93,7 +82,7 @@ is-unsure-spec =
     number-at-requires
     returns
     returns-2
-    end-at-requires
+    argument-of-requires
     shared-slice-read-if3
     number-at-requires-2
     returns-3
