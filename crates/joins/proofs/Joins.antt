@@ -1,5 +1,5 @@
 -- Two targets joined, and what abstractions over a body come to. By the first records of the two, which are of one kind where there is a
--- joined term, and by the number of abstractions. Assumes nothing.
+-- joined term, whose parts are handed on as slices; and by the number of abstractions. Assumes nothing.
 use mathlib.Core.Path.{_≡_, refl, sym, ap, ap₂, _∙_, subst}
 use mathlib.Core.Bool.{cond}
 use mathlib.Core.Option.{some, none}
@@ -21,11 +21,13 @@ use Rattle.matching.specs.Repeated.{join, both, below, atConstants}
 use Rattle.matching.proofs.Repeated.{constants-other, join-kinds, join-leaf, size-join, closed-contract}
 use Rattle.matching.proofs.Repeated.{size-contract}
 use Rattle.records.specs.Record.{numberAt}
-use Rattle.records.specs.Parts.{Part, Ends}
+use Rattle.records.specs.Parts.{slice, Part, Ends}
+use Rattle.records.specs.Tests.{Near, further}
 use Rattle.records.specs.declared.Walk.{Walk}
 use Rattle.records.specs.declared.Walk.the-variants.{Upto, No}
-use Rattle.records.proofs.Parts.{size-some, whole, whole-head, whole-body, kind-at, number-at, application, abstraction, Application}
-use Rattle.records.proofs.Parts.{argument-part, ends-app, ends-lam, ends-leaf}
+use Rattle.records.proofs.Parts.{size-some, whole, kind-at, number-at, application, abstraction, Application}
+use Rattle.records.proofs.Parts.{argument-part, ends-app, ends-lam, ends-leaf, constant-at}
+use Rattle.records.proofs.Slices.{part-slice, head-slice, body-slice, slice-ends, slice-length}
 use Rattle.substitution.specs.Writers.{NumbersFit, Source, Single, Wrote}
 use Rattle.sweeping.specs.Swept.{sweptBytes, WrittenForm, SweptBody, ContractsAbstraction}
 use Rattle.sweeping.specs.declared.Length.{Length}
@@ -38,91 +40,100 @@ use Rattle.joins.specs.declared.pairs.Found.{Found}
 use Rattle.joins.specs.declared.pairs.Found.the-variants.{Local, Nothing}
 use Rattle.joins.specs.Pairs.{pairsOf, Locates}
 use Rattle.joins.specs.Joins.{Joins, Alike, Joint, JoinAnswered, Joined, Encloses, Enclosed}
-use Rattle.records.proofs.Parts.{constant-at}
 use Rattle.joins.proofs.Spines.{pairs-length, located-nothing}
 
 pub count-length : (P : List ℕ) (q : Pairs) → length (pairsOf P q) ≡ q .count
 count-length P q = pairs-length P (q .first) (q .second) (q .count)
 
 -- a joined term was written
-joined-upto : {P : List ℕ} {q : Pairs} {W : List ℕ} {t u d h o : ℕ} {out after : List ℕ} {r : Walk} → r ≡ Upto h
-    → Joined P q W t u d out o after r → JoinAnswered P q W t u d out o after (Upto h)
-joined-upto {P} {q} {W} {t} {u} {d} {h} {o} {out} {after} e x = subst (JoinAnswered P q W t u d out o after) e (x .answers)
+joined-upto : {P : List ℕ} {q : Pairs} {F S : List ℕ} {d h o : ℕ} {out after : List ℕ} {r : Walk} → r ≡ Upto h
+    → Joined P q F S d out o after r → JoinAnswered P q F S d out o after (Upto h)
+joined-upto {P} {q} {F} {S} {d} {h} {o} {out} {after} e x = subst (JoinAnswered P q F S d out o after) e (x .answers)
 
-pub joined-ends : {P : List ℕ} {q : Pairs} {W : List ℕ} {t u d h o : ℕ} {out after : List ℕ} {r : Walk} → r ≡ Upto h
-    → Joined P q W t u d out o after r → Ends W t h
+pub joined-ends : {P : List ℕ} {q : Pairs} {F S : List ℕ} {d h o : ℕ} {out after : List ℕ} {r : Walk} → r ≡ Upto h
+    → Joined P q F S d out o after r → Ends F 0 h
 unfolding JoinAnswered
 joined-ends e x = joined-upto e x .0
 
 pub joined-joint :
-    {P : List ℕ} {q : Pairs} {W : List ℕ} {t u d h o : ℕ} {out after : List ℕ} {r : Walk} → r ≡ Upto h → Joined P q W t u d out o after r
-    → (a b : Term) → Part W t a → Part W u b
+    {P : List ℕ} {q : Pairs} {F S : List ℕ} {d h o : ℕ} {out after : List ℕ} {r : Walk} → r ≡ Upto h → Joined P q F S d out o after r
+    → (a b : Term) → Part F 0 a → Part S 0 b
     → Joint P q d a b out o after
 unfolding JoinAnswered
 joined-joint e x = joined-upto e x .1
 
 pub joined-no :
-    {P : List ℕ} {q : Pairs} {W : List ℕ} {t u d o : ℕ} {out after : List ℕ} {r : Walk} → r ≡ No → Joined P q W t u d out o after r
-    → (a b : Term) → Part W t a → Part W u b
+    {P : List ℕ} {q : Pairs} {F S : List ℕ} {d o : ℕ} {out after : List ℕ} {r : Walk} → r ≡ No → Joined P q F S d out o after r
+    → (a b : Term) → Part F 0 a → Part S 0 b
     → join d (pairsOf P q) a b ≡ none
 unfolding JoinAnswered
-joined-no {P} {q} {W} {t} {u} {d} {o} {out} {after} e x =
-    let y : JoinAnswered P q W t u d out o after No = subst (JoinAnswered P q W t u d out o after) e (x .answers) in
+joined-no {P} {q} {F} {S} {d} {o} {out} {after} e x =
+    let y : JoinAnswered P q F S d out o after No = subst (JoinAnswered P q F S d out o after) e (x .answers) in
     y
 
--- the arguments of two applications whose heads are joined
-other-argument :
-    (P : List ℕ) (q : Pairs) (W : List ℕ) (t u d h o : ℕ) (out after : List ℕ) (r : Walk) → r ≡ Upto h
-    → Joined P q W (t + 4) (u + 4) d out o after r → (a b : Term) (v : Application W t a) (w : Application W u b)
-    → Part W (u + (h - t)) (w .a)
-other-argument P q W t u d h o out after r e x a b v w =
-    let j = joined-joint e x (v .f) (w .f) (v .head) (w .head) in
-    let s = size-join (pairsOf P q) d (v .f) (w .f) (j .body) (j .is) in
-    subst (λ (i : ℕ). Part W i (w .a)) (omega (arith, joined-ends e x .exact (v .f) (v .head), s .0, s .1)) (w .argument)
+-- the parts of two applications whose heads are joined: where the first's head ends, the second's does as far on
+module _ (P : List ℕ) (q : Pairs) (F S : List ℕ) (d h o : ℕ) (out after : List ℕ) (r : Walk) (e : r ≡ Upto h)
+    (x : Joined P q (slice F 4) (slice S 4) d out o after r) (a b : Term) (v : Application F 0 a) where
+  first-argument : Part (slice F (4 + h)) 0 (v .a)
+  first-argument = part-slice F (4 + h) (v .a) (argument-part F 0 (4 + h) a (slice-ends F 4 h (joined-ends e x)) v)
+
+  module _ (w : Application S 0 b) where
+    joint-heads : Joint P q d (v .f) (w .f) out o after
+    joint-heads = joined-joint e x (v .f) (w .f) (part-slice F 4 (v .f) (v .head)) (part-slice S 4 (w .f) (w .head))
+
+    heads-size : h ≡ 4 * size (joint-heads .body)
+    heads-size =
+        let s = size-join (pairsOf P q) d (v .f) (w .f) (joint-heads .body) (joint-heads .is) in
+        omega (arith, joined-ends e x .exact (v .f) (part-slice F 4 (v .f) (v .head)), s .0)
+
+    second-argument : Part (slice S (4 + h)) 0 (w .a)
+    second-argument =
+        let s = size-join (pairsOf P q) d (v .f) (w .f) (joint-heads .body) (joint-heads .is) in
+        part-slice S (4 + h) (w .a) (subst (λ (i : ℕ). Part S i (w .a)) (omega (arith, heads-size, s .1)) (w .argument))
 
 -- two constants
 at-constants :
-    (d : ℕ) (ps : List (ℕ × ℕ)) (W : List ℕ) (t u m n : ℕ) → m ≡ numberAt W t → n ≡ numberAt W u → getD W t 0 ≡ 3 → getD W u 0 ≡ 3
-    → (a b : Term) → Part W t a → Part W u b
+    (d : ℕ) (ps : List (ℕ × ℕ)) (F S : List ℕ) (m n : ℕ) → m ≡ numberAt F 0 → n ≡ numberAt S 0 → getD F 0 0 ≡ 3 → getD S 0 0 ≡ 3
+    → (a b : Term) → Part F 0 a → Part S 0 b
     → join d ps a b ≡ atConstants d ps m n
-at-constants d ps W t u m n e f z y a b j l = ap₂ (join d ps) (constant-at W t m a j z e) (constant-at W u n b l y f)
+at-constants d ps F S m n e f z y a b j l = ap₂ (join d ps) (constant-at F 0 m a j z e) (constant-at S 0 n b l y f)
 
-module _ {P : List ℕ} {q : Pairs} {W : List ℕ} {t u d : ℕ} where
+module _ {P : List ℕ} {q : Pairs} {F S : List ℕ} {d : ℕ} where
   -- the parts of what is joined, and the room, as the length of what a writer left
-  module _ {o room rest : ℕ} (s : rest ≡ room) (x : Joins P q W t u d room o) (k : getD W t 0 ≡ getD W u 0) where
-    pub joins-head : getD W t 0 ≡ 0 → Joins P q W (t + 4) (u + 4) d rest (o + 4)
+  module _ {o room rest : ℕ} (s : rest ≡ room) (x : Joins P q F S d room o) (k : getD F 0 0 ≡ getD S 0 0) where
+    pub joins-head : getD F 0 0 ≡ 0 → Joins P q (slice F 4) (slice S 4) d rest (o + 4)
     joins-head z =
-        let v = application W t (x .tree) (x .part) z in
+        let v = application F 0 (x .tree) (x .part) z in
         let f : NumbersFit (shift (q .count) d (app (v .f) (v .a))) =
         subst (λ (a : Term). NumbersFit (shift (q .count) d a)) (v .is) (x .fits) in
-        let w = whole-head W u (x .other) (sym k ∙ z) in
+        let p = part-slice F 4 (v .f) (v .head) in
+        let w = head-slice S (x .other) (sym k ∙ z) in
         record {
           reads = x .reads;
           tree = v .f;
-          part = v .head;
+          part = p;
           other = w;
           fits = f .0;
           enough = omega (arith, ap size (v .is), x .enough);
           shallow = omega (arith, ap size (v .is), x .shallow);
-          least = omega (arith, v .head .some, v .head .within);
+          least = omega (arith, p .some, p .within);
           other-least = w .least;
-          first = omega (arith, ap size (v .is), x .enough, v .head .some);
+          first = omega (arith, ap size (v .is), x .enough, p .some);
           few = x .few;
           most = omega (arith, x .most);
         }
 
     pub joins-argument :
-        {h j : ℕ} {out after : List ℕ} {r : Walk} → getD W t 0 ≡ 0 → r ≡ Upto h → Joined P q W (t + 4) (u + 4) d out j after r
-        → Joins P q W h (u + (h - t)) d rest (o + (h - t))
+        {h j : ℕ} {out after : List ℕ} {r : Walk} → getD F 0 0 ≡ 0 → r ≡ Upto h → Joined P q (slice F 4) (slice S 4) d out j after r
+        → Joins P q (slice F (4 + h)) (slice S (4 + h)) d rest (o + (4 + h))
     joins-argument {h} {j} {out} {after} {r} z e y =
-        let v = application W t (x .tree) (x .part) z in
-        let w = application W u (x .other .tree) (x .other .part) (sym k ∙ z) in
+        let v = application F 0 (x .tree) (x .part) z in
+        let w = application S 0 (x .other .tree) (x .other .part) (sym k ∙ z) in
         let f : NumbersFit (shift (q .count) d (app (v .f) (v .a))) =
         subst (λ (a : Term). NumbersFit (shift (q .count) d a)) (v .is) (x .fits) in
-        let n = joined-ends e y in
-        let m = n .exact (v .f) (v .head) in
-        let p = argument-part W t h (x .tree) n v in
-        let a = whole W (u + (h - t)) (w .a) (other-argument P q W t u d h j out after r e y (x .tree) (x .other .tree) v w) in
+        let m = joined-ends e y .exact (v .f) (part-slice F 4 (v .f) (v .head)) in
+        let p = first-argument P q F S d h j out after r e y (x .tree) (x .other .tree) v in
+        let a = whole (slice S (4 + h)) 0 (w .a) (second-argument P q F S d h j out after r e y (x .tree) (x .other .tree) v w) in
         record {
           reads = x .reads;
           tree = v .a;
@@ -138,170 +149,208 @@ module _ {P : List ℕ} {q : Pairs} {W : List ℕ} {t u d : ℕ} where
           most = omega (arith, x .most);
         }
 
-    pub joins-body : getD W t 0 ≡ 1 → Joins P q W (t + 4) (u + 4) (d + 1) rest (o + 4)
+    -- where the heads end, in what is read and in what is written
+    pub joined-passed :
+        {h j : ℕ} {out after : List ℕ} {r : Walk} → getD F 0 0 ≡ 0 → r ≡ Upto h → Joined P q (slice F 4) (slice S 4) d out j after r
+        → (4 + h ≤ length F) × (4 + h ≤ length S) × (o + (4 + h) ≤ room)
+    joined-passed {h} z e y =
+        let w = joins-argument z e y in (
+          omega (arith, w .least, slice-length F (4 + h)),
+          omega (arith, w .other-least, slice-length S (4 + h)),
+          omega (arith, w .first),
+        )
+
+    pub joins-body : getD F 0 0 ≡ 1 → Joins P q (slice F 4) (slice S 4) (d + 1) rest (o + 4)
     joins-body z =
-        let v = abstraction W t (x .tree) (x .part) z in
+        let v = abstraction F 0 (x .tree) (x .part) z in
         let f : NumbersFit (shift (q .count) d (lam (v .b))) = subst (λ (a : Term). NumbersFit (shift (q .count) d a)) (v .is) (x .fits) in
-        let w = whole-body W u (x .other) (sym k ∙ z) in
+        let p = part-slice F 4 (v .b) (v .body) in
+        let w = body-slice S (x .other) (sym k ∙ z) in
         record {
           reads = x .reads;
           tree = v .b;
-          part = v .body;
+          part = p;
           other = w;
           fits = subst (λ (i : ℕ). NumbersFit (shift (q .count) i (v .b))) (sym (add-one d)) f;
           enough = omega (arith, ap size (v .is), x .enough);
           shallow = omega (arith, ap size (v .is), x .shallow);
-          least = omega (arith, v .body .some, v .body .within);
+          least = omega (arith, p .some, p .within);
           other-least = w .least;
-          first = omega (arith, ap size (v .is), x .enough, v .body .some);
-          few = omega (arith, ap size (v .is), x .shallow, v .body .some);
+          first = omega (arith, ap size (v .is), x .enough, p .some);
+          few = omega (arith, ap size (v .is), x .shallow, p .some);
           most = omega (arith, x .most);
         }
 
-  pub joins-source : {room o : ℕ} → Joins P q W t u d room o → Source (shift (q .count)) W t d room o
+  -- a walk over the arguments, or over the bodies, comes to a byte that a number can say, as the first target ends there
+  module _ {room o : ℕ} (x : Joins P q F S d room o) where
+    pub near-argument :
+        {h i j : ℕ} {out p after : List ℕ} {r : Walk} (s : Walk) → getD F 0 0 ≡ 0 → r ≡ Upto h
+        → Joined P q (slice F 4) (slice S 4) d out i p r → Joined P q (slice F (4 + h)) (slice S (4 + h)) d p j after s → Near (4 + h) s
+    unfolding JoinAnswered
+    near-argument {h} (Upto n) z e y w =
+        let f = ends-app F 0 (4 + h) (4 + h + n) z (slice-ends F 4 h (joined-ends e y)) (slice-ends F (4 + h) n (w .answers .0)) in
+        omega (arith, f .exact (x .tree) (x .part), x .shallow)
+    near-argument No z e y w = tt
+
+    pub near-body : {j : ℕ} {out after : List ℕ} (r : Walk) → getD F 0 0 ≡ 1 → Joined P q (slice F 4) (slice S 4) (d + 1) out j after r
+        → Near 4 r
+    unfolding JoinAnswered
+    near-body (Upto n) z y =
+        omega (arith, ends-lam F 0 (4 + n) z (slice-ends F 4 n (y .answers .0)) .exact (x .tree) (x .part), x .shallow)
+    near-body No z y = tt
+
+  pub joins-source : {room o : ℕ} → Joins P q F S d room o → Source (shift (q .count)) F 0 d room o
   joins-source {room} {o} x =
-      source (shift (q .count)) W t d room o (x .tree) (x .part) (x .fits) (omega (arith, x .shallow))
+      source (shift (q .count)) F 0 d room o (x .tree) (x .part) (x .fits) (omega (arith, x .shallow))
       (omega (arith, x .enough, size-shift (q .count) d (x .tree)))
 
   -- what was written
   module _ {out : List ℕ} {o : ℕ} where
-    pub joined-kinds : ¬ (getD W t 0 ≡ getD W u 0) → Joined P q W t u d out o out No
+    pub joined-kinds : ¬ (getD F 0 0 ≡ getD S 0 0) → Joined P q F S d out o out No
     unfolding JoinAnswered
-    joined-kinds n = record { answers = λ a b y z. join-kinds d (pairsOf P q) a b (λ e. n (kind-at W t a y ∙ e ∙ sym (kind-at W u b z))) }
+    joined-kinds n = record { answers = λ a b y z. join-kinds d (pairsOf P q) a b (λ e. n (kind-at F 0 a y ∙ e ∙ sym (kind-at S 0 b z))) }
 
-    module _ {p m : List ℕ} {r : Walk} (k : getD W t 0 ≡ getD W u 0) (z : getD W t 0 ≡ 0) (e : p ≡ sets out o (bytes 0 0 [])) where
+    module _ {p m : List ℕ} {r : Walk} (k : getD F 0 0 ≡ getD S 0 0) (z : getD F 0 0 ≡ 0) (e : p ≡ sets out o (bytes 0 0 [])) where
       pub joined-application :
-          {h : ℕ} {after : List ℕ} (s : Walk) → r ≡ Upto h → Joined P q W (t + 4) (u + 4) d p (o + 4) m r
-          → Joined P q W h (u + (h - t)) d m (o + (h - t)) after s
-          → Joined P q W t u d out o after s
+          {h : ℕ} {after : List ℕ} {s a : Walk} → r ≡ Upto h → Joined P q (slice F 4) (slice S 4) d p (o + 4) m r
+          → Joined P q (slice F (4 + h)) (slice S (4 + h)) d m (o + (4 + h)) after s → a ≡ further (4 + h) s
+          → Joined P q F S d out o after a
       unfolding JoinAnswered
-      joined-application {h} {after} (Upto i) f x y = record {
-        answers = (
-          ends-app W t h i z (joined-ends f x) (y .answers .0),
-          λ a b j l.
-              let v = application W t a j z in
-              let w = application W u b l (sym k ∙ z) in
-              let c = joined-joint f x (v .f) (w .f) (v .head) (w .head) in
-              let g = y .answers .1 (v .a) (w .a) (argument-part W t h a (joined-ends f x) v)
-              (other-argument P q W t u d h (o + 4) p m r f x a b v w) in
-              let s = size-join (pairsOf P q) d (v .f) (w .f) (c .body) (c .is) in
-              let n : o + (h - t) ≡ o + length (bytes 0 0 (encode (c .body))) =
-              omega (arith, encode-length (c .body), joined-ends f x .exact (v .f) (v .head), s .0) in
-              record {
-                body = app (c .body) (g .body);
-                is = ap₂ (join d (pairsOf P q)) (v .is) (w .is) ∙ ap₂ both (c .is) (g .is);
-                bytes =
-                    written-then (bytes 0 0 (encode (c .body))) (encode (g .body)) out m after o (o + (h - t))
-                    (written-then (bytes 0 0 []) (encode (c .body)) out p m o (o + 4) e (c .bytes) refl) (g .bytes) n;
-              },
-        );
-      }
-      joined-application {h} No f x y = record {
-        answers = λ a b j l.
-            let v = application W t a j z in
-            let w = application W u b l (sym k ∙ z) in
-            let c = joined-joint f x (v .f) (w .f) (v .head) (w .head) in
-            ap₂ (join d (pairsOf P q)) (v .is) (w .is)
-            ∙ ap₂ both (c .is)
-            (y .answers (v .a) (w .a) (argument-part W t h a (joined-ends f x) v) (other-argument P q W t u d h (o + 4) p m r f x a b v w));
-      }
+      joined-application {h} {after} {s} f x y u = subst (Joined P q F S d out o after) (sym u) (go s y)
+        where
+          go : (s : Walk) → Joined P q (slice F (4 + h)) (slice S (4 + h)) d m (o + (4 + h)) after s
+              → Joined P q F S d out o after (further (4 + h) s)
+          go (Upto i) y = record {
+            answers = (
+              ends-app F 0 (4 + h) (4 + h + i) z (slice-ends F 4 h (joined-ends f x)) (slice-ends F (4 + h) i (y .answers .0)),
+              λ a b j l.
+                  let v = application F 0 a j z in
+                  let w = application S 0 b l (sym k ∙ z) in
+                  let c = joint-heads P q F S d h (o + 4) p m r f x a b v w in
+                  let g = y .answers .1 (v .a) (w .a) (first-argument P q F S d h (o + 4) p m r f x a b v)
+                  (second-argument P q F S d h (o + 4) p m r f x a b v w) in
+                  let n : o + (4 + h) ≡ o + length (bytes 0 0 (encode (c .body))) =
+                  omega (arith, encode-length (c .body), heads-size P q F S d h (o + 4) p m r f x a b v w) in
+                  record {
+                    body = app (c .body) (g .body);
+                    is = ap₂ (join d (pairsOf P q)) (v .is) (w .is) ∙ ap₂ both (c .is) (g .is);
+                    bytes =
+                        written-then (bytes 0 0 (encode (c .body))) (encode (g .body)) out m after o (o + (4 + h))
+                        (written-then (bytes 0 0 []) (encode (c .body)) out p m o (o + 4) e (c .bytes) refl) (g .bytes) n;
+                  },
+            );
+          }
+          go No y = record {
+            answers = λ a b j l.
+                let v = application F 0 a j z in
+                let w = application S 0 b l (sym k ∙ z) in
+                let c = joint-heads P q F S d h (o + 4) p m r f x a b v w in
+                ap₂ (join d (pairsOf P q)) (v .is) (w .is)
+                ∙ ap₂ both (c .is) (y .answers (v .a) (w .a) (first-argument P q F S d h (o + 4) p m r f x a b v)
+                (second-argument P q F S d h (o + 4) p m r f x a b v w));
+          }
 
-      pub joined-stop : r ≡ No → Joined P q W (t + 4) (u + 4) d p (o + 4) m r → Joined P q W t u d out o m No
+      pub joined-stop : r ≡ No → Joined P q (slice F 4) (slice S 4) d p (o + 4) m r → Joined P q F S d out o m No
       unfolding JoinAnswered
       joined-stop f x = record {
         answers = λ a b j l.
-            let v = application W t a j z in
-            let w = application W u b l (sym k ∙ z) in
+            let v = application F 0 a j z in
+            let w = application S 0 b l (sym k ∙ z) in
             ap₂ (join d (pairsOf P q)) (v .is) (w .is)
-            ∙ ap (λ c. both c (join d (pairsOf P q) (v .a) (w .a))) (joined-no f x (v .f) (w .f) (v .head) (w .head));
+            ∙ ap (λ c. both c (join d (pairsOf P q) (v .a) (w .a)))
+            (joined-no f x (v .f) (w .f) (part-slice F 4 (v .f) (v .head)) (part-slice S 4 (w .f) (w .head)));
       }
 
     pub joined-abstraction :
-        {p m : List ℕ} (r : Walk) → getD W t 0 ≡ getD W u 0 → getD W t 0 ≡ 1 → p ≡ sets out o (bytes 1 0 [])
-        → Joined P q W (t + 4) (u + 4) (d + 1) p (o + 4) m r
-        → Joined P q W t u d out o m r
+        {p m : List ℕ} {r a : Walk} → getD F 0 0 ≡ getD S 0 0 → getD F 0 0 ≡ 1 → p ≡ sets out o (bytes 1 0 [])
+        → Joined P q (slice F 4) (slice S 4) (d + 1) p (o + 4) m r → a ≡ further 4 r
+        → Joined P q F S d out o m a
     unfolding JoinAnswered
-    joined-abstraction {p} {m} (Upto h) k z e x = record {
-      answers = (
-        ends-lam W t h z (x .answers .0),
-        λ a b j l.
-            let v = abstraction W t a j z in
-            let w = abstraction W u b l (sym k ∙ z) in
-            let c = x .answers .1 (v .b) (w .b) (v .body) (w .body) in
-            record {
-              body = lam (c .body);
-              is =
-                  ap₂ (join d (pairsOf P q)) (v .is) (w .is) ∙ ap (λ (i : ℕ). below (join i (pairsOf P q) (v .b) (w .b))) (sym (add-one d))
-                  ∙ ap below (c .is);
-              bytes = written-then (bytes 1 0 []) (encode (c .body)) out p m o (o + 4) e (c .bytes) refl;
-            },
-      );
-    }
-    joined-abstraction No k z e x = record {
-      answers = λ a b j l.
-          let v = abstraction W t a j z in
-          let w = abstraction W u b l (sym k ∙ z) in
-          ap₂ (join d (pairsOf P q)) (v .is) (w .is) ∙ ap (λ (i : ℕ). below (join i (pairsOf P q) (v .b) (w .b))) (sym (add-one d))
-          ∙ ap below (x .answers (v .b) (w .b) (v .body) (w .body));
-    }
+    joined-abstraction {p} {m} {r} k z e x u = subst (Joined P q F S d out o m) (sym u) (go r x)
+      where
+        under : (a b : Term) → join d (pairsOf P q) (lam a) (lam b) ≡ below (join (d + 1) (pairsOf P q) a b)
+        under a b = ap (λ (i : ℕ). below (join i (pairsOf P q) a b)) (sym (add-one d))
+
+        go : (r : Walk) → Joined P q (slice F 4) (slice S 4) (d + 1) p (o + 4) m r → Joined P q F S d out o m (further 4 r)
+        go (Upto h) x = record {
+          answers = (
+            ends-lam F 0 (4 + h) z (slice-ends F 4 h (x .answers .0)),
+            λ a b j l.
+                let v = abstraction F 0 a j z in
+                let w = abstraction S 0 b l (sym k ∙ z) in
+                let c = x .answers .1 (v .b) (w .b) (part-slice F 4 (v .b) (v .body)) (part-slice S 4 (w .b) (w .body)) in
+                record {
+                  body = lam (c .body);
+                  is = ap₂ (join d (pairsOf P q)) (v .is) (w .is) ∙ under (v .b) (w .b) ∙ ap below (c .is);
+                  bytes = written-then (bytes 1 0 []) (encode (c .body)) out p m o (o + 4) e (c .bytes) refl;
+                },
+          );
+        }
+        go No x = record {
+          answers = λ a b j l.
+              let v = abstraction F 0 a j z in
+              let w = abstraction S 0 b l (sym k ∙ z) in
+              ap₂ (join d (pairsOf P q)) (v .is) (w .is) ∙ under (v .b) (w .b)
+              ∙ ap below (x .answers (v .b) (w .b) (part-slice F 4 (v .b) (v .body)) (part-slice S 4 (w .b) (w .body)));
+        }
 
     -- single records
-    pub joined-differ : {m n : ℕ} → m ≡ numberAt W t → n ≡ numberAt W u → Alike P q W t u d → ¬ (m ≡ n) → Joined P q W t u d out o out No
+    pub joined-differ : {m n : ℕ} → m ≡ numberAt F 0 → n ≡ numberAt S 0 → Alike P q F S d → ¬ (m ≡ n) → Joined P q F S d out o out No
     unfolding JoinAnswered
     joined-differ e f x h = record {
       answers = λ a b j l.
           x .is a b j l
-          ∙ ap (λ c. cond c (some (shift (q .count) d a)) none) (ne-eqb (numberAt W t) (numberAt W u) (λ i. h (e ∙ i ∙ sym f)));
+          ∙ ap (λ c. cond c (some (shift (q .count) d a)) none) (ne-eqb (numberAt F 0) (numberAt S 0) (λ i. h (e ∙ i ∙ sym f)));
     }
 
     pub joined-same :
-        {m n room next end : ℕ} {after : List ℕ} → m ≡ numberAt W t → n ≡ numberAt W u → Joins P q W t u d room o → Single W t
-        → Alike P q W t u d → m ≡ n
-        → Wrote (shift (q .count)) W t d out o after next end → Joined P q W t u d out o after (Upto (t + 4))
+        {m n room next end : ℕ} {after : List ℕ} → m ≡ numberAt F 0 → n ≡ numberAt S 0 → Joins P q F S d room o → Single F 0
+        → Alike P q F S d → m ≡ n
+        → Wrote (shift (q .count)) F 0 d out o after next end → Joined P q F S d out o after (Upto 4)
     unfolding JoinAnswered
     joined-same e f x s y h w = record {
       answers = (
-        ends-leaf W t (s .no-application) (s .no-abstraction) (whole W t (x .tree) (x .part)),
+        ends-leaf F 0 (s .no-application) (s .no-abstraction) (whole F 0 (x .tree) (x .part)),
         λ a b j l. record {
           body = shift (q .count) d a;
-          is = y .is a b j l ∙ ap (λ c. cond c (some (shift (q .count) d a)) none) (eq-eqb (numberAt W t) (numberAt W u) (sym e ∙ h ∙ f));
+          is = y .is a b j l ∙ ap (λ c. cond c (some (shift (q .count) d a)) none) (eq-eqb (numberAt F 0) (numberAt S 0) (sym e ∙ h ∙ f));
           bytes = w .bytes a j;
         },
       );
     }
 
     pub joined-pair :
-        {m n room k : ℕ} {r : Found} {after : List ℕ} → m ≡ numberAt W t → n ≡ numberAt W u → getD W t 0 ≡ 3 → getD W u 0 ≡ 3
-        → Joins P q W t u d room o
-        → Locates (pairsOf P q) m n d r → r ≡ Local k → after ≡ sets out o (bytes 2 k []) → Joined P q W t u d out o after (Upto (t + 4))
+        {m n room k : ℕ} {r : Found} {after : List ℕ} → m ≡ numberAt F 0 → n ≡ numberAt S 0 → getD F 0 0 ≡ 3 → getD S 0 0 ≡ 3
+        → Joins P q F S d room o
+        → Locates (pairsOf P q) m n d r → r ≡ Local k → after ≡ sets out o (bytes 2 k []) → Joined P q F S d out o after (Upto 4)
     unfolding JoinAnswered Locates
     joined-pair {m} {n} {room} {k} e f z y x w i v =
         let s : Locates (pairsOf P q) m n d (Local k) = subst (Locates (pairsOf P q) m n d) i w in
         record {
           answers = (
-            ends-leaf W t (λ c. omega arith) (λ c. omega arith) (whole W t (x .tree) (x .part)),
-            λ a b j l. record { body = loc k; is = at-constants d (pairsOf P q) W t u m n e f z y a b j l ∙ s .0; bytes = v },
+            ends-leaf F 0 (λ c. omega arith) (λ c. omega arith) (whole F 0 (x .tree) (x .part)),
+            λ a b j l. record { body = loc k; is = at-constants d (pairsOf P q) F S m n e f z y a b j l ∙ s .0; bytes = v },
           );
         }
 
   pub alike-constants :
-      {m n : ℕ} {r : Found} → m ≡ numberAt W t → n ≡ numberAt W u → getD W t 0 ≡ 3 → getD W u 0 ≡ 3 → Locates (pairsOf P q) m n d r
-      → r ≡ Nothing → Alike P q W t u d
+      {m n : ℕ} {r : Found} → m ≡ numberAt F 0 → n ≡ numberAt S 0 → getD F 0 0 ≡ 3 → getD S 0 0 ≡ 3 → Locates (pairsOf P q) m n d r
+      → r ≡ Nothing → Alike P q F S d
   alike-constants {m} {n} {r} e f z y w i = record {
     is = λ a b j l.
-        at-constants d (pairsOf P q) W t u m n e f z y a b j l
+        at-constants d (pairsOf P q) F S m n e f z y a b j l
         ∙ constants-other d (pairsOf P q) m n (located-nothing (pairsOf P q) m n d r w i)
         ∙ ap₂ (λ (x y : ℕ). cond (eqb x y) (some (con m)) none) e f
-        ∙ ap (λ (c : Term). cond (eqb (numberAt W t) (numberAt W u)) (some (shift (q .count) d c)) none) (sym (constant-at W t m a j z e));
+        ∙ ap (λ (c : Term). cond (eqb (numberAt F 0) (numberAt S 0)) (some (shift (q .count) d c)) none) (sym (constant-at F 0 m a j z e));
   }
 
-  pub alike-other : getD W t 0 ≡ getD W u 0 → ¬ (getD W t 0 ≡ 0) → ¬ (getD W t 0 ≡ 1) → ¬ (getD W t 0 ≡ 3) → Alike P q W t u d
+  pub alike-other : getD F 0 0 ≡ getD S 0 0 → ¬ (getD F 0 0 ≡ 0) → ¬ (getD F 0 0 ≡ 1) → ¬ (getD F 0 0 ≡ 3) → Alike P q F S d
   alike-other k x y z = record {
     is = λ a b j l.
-        let e = kind-at W t a j in
-        join-leaf d (q .count) (pairsOf P q) a b (count-length P q) (sym e ∙ k ∙ kind-at W u b l) (λ i. x (e ∙ i))
+        let e = kind-at F 0 a j in
+        join-leaf d (q .count) (pairsOf P q) a b (count-length P q) (sym e ∙ k ∙ kind-at S 0 b l) (λ i. x (e ∙ i))
         (λ i. y (e ∙ i)) (λ i. z (e ∙ i))
-        ∙ ap₂ (λ (m n : ℕ). cond (eqb m n) (some (shift (q .count) d a)) none) (sym (number-at W t a j)) (sym (number-at W u b l));
+        ∙ ap₂ (λ (m n : ℕ). cond (eqb m n) (some (shift (q .count) d a)) none) (sym (number-at F 0 a j)) (sym (number-at S 0 b l));
   }
 
 pub local-fits : (ps : List (ℕ × ℕ)) (m n d k : ℕ) (r : Found) → Locates ps m n d r → r ≡ Local k → d + 33 ≤ numbers → k < numbers

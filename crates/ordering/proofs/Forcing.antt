@@ -20,10 +20,11 @@ use Rattle.matching.specs.Repeated.{spine, firsts, seconds, enclose}
 use Rattle.matching.proofs.Targets.{closed-more, closed-shift}
 use Rattle.matching.proofs.Repeated.{length-firsts, size-spine, suits-spine, size-join, size-enclose}
 use Rattle.matching.proofs.Repeated.{join-closed, enclose-normal, enclose-closed, enclose-ground, goals-forced, goals-none}
-use Rattle.records.specs.Parts.{Part, Whole}
+use Rattle.records.specs.Parts.{slice, Part, Whole}
 use Rattle.records.specs.declared.Walk.{Walk}
 use Rattle.records.specs.declared.Walk.the-variants.{Upto, No}
 use Rattle.records.proofs.Parts.{part-one, whole}
+use Rattle.records.proofs.Slices.{part-slice}
 use Rattle.assignments.specs.declared.Entry.{Entry}
 use Rattle.copying.proofs.Stores.{stored}
 use Rattle.sweeping.proofs.Contraction.{closed-fits, table-length}
@@ -298,14 +299,22 @@ module _ {P W : List ℕ} {s : Agenda} {a : List Entry} (x : Ready 0 P W s a) wh
     first-even : r .pairs .first % 4 ≡ 0
     first-even = omega (arith, y .repeated .first-ends .exact (firstPart P (r .pairs) (y .repeated .number)) (meant .first .stands))
 
+    -- their targets begin in the work area
+    pub first-target : {one : StoredGoal} → StoredAt W (r .first) one → one .target ≤ length W
+    first-target i = omega (arith, i .target, meant .first .target .part .within)
+
+    pub second-target : {two : StoredGoal} → StoredAt W (r .second) two → two .target ≤ length W
+    second-target j = omega (arith, j .target, meant .second .target .part .within)
+
     module _ {one two : StoredGoal} (i : StoredAt W (r .first) one) (j : StoredAt W (r .second) two) where
-      target-part : Part W (one .target) (meant .t)
-      target-part = rw (i .target) (meant .first .target .part)
+      target-part : Part (slice W (one .target)) 0 (meant .t)
+      target-part = rw (i .target) (part-slice W (targetAt W (r .first)) (meant .t) (meant .first .target .part))
 
-      other-part : Part W (two .target) (meant .u)
-      other-part = rw (j .target) (meant .second .target .part)
+      other-part : Part (slice W (two .target)) 0 (meant .u)
+      other-part = rw (j .target) (part-slice W (targetAt W (r .second)) (meant .u) (meant .second .target .part))
 
-      pub forced-joins : {room : ℕ} → room ≡ 4 * valueRecords → Joins P (r .pairs) W (one .target) (two .target) 0 room 0
+      pub forced-joins : {room : ℕ} → room ≡ 4 * valueRecords
+          → Joins P (r .pairs) (slice W (one .target)) (slice W (two .target)) 0 room 0
       forced-joins e =
           let t = meant .first .target in
           let n = r .pairs .count in
@@ -314,7 +323,7 @@ module _ {P W : List ℕ} {s : Agenda} {a : List Entry} (x : Ready 0 P W s a) wh
             reads = record { first = y .repeated .first-ends .within; second = y .repeated .second-ends .within; short = x .bounds .short };
             tree = meant .t;
             part = target-part;
-            other = whole W (two .target) (meant .u) other-part;
+            other = whole (slice W (two .target)) 0 (meant .u) other-part;
             fits =
                 closed-fits (m + n) (shift n 0 (meant .t)) (closed-shift n 0 m (m + n) (meant .t) refl (t .closed))
                 (omega (arith, t .short, t .few, part-size, size-shift n 0 (meant .t)));
@@ -327,7 +336,8 @@ module _ {P W : List ℕ} {s : Agenda} {a : List Entry} (x : Ready 0 P W s a) wh
             most = omega arith;
           }
 
-      module _ {out after : List ℕ} {w : Walk} (z : Joined P (r .pairs) W (one .target) (two .target) 0 out 0 after w) where
+      module _ {out after : List ℕ} {w : Walk}
+          (z : Joined P (r .pairs) (slice W (one .target)) (slice W (two .target)) 0 out 0 after w) where
         -- no value comes to both targets
         pub decided-failed : w ≡ No → Decided 0 P W s a W decision.Failed
         unfolding Decided
@@ -352,14 +362,11 @@ module _ {P W : List ℕ} {s : Agenda} {a : List Entry} (x : Ready 0 P W s a) wh
           kept = refl;
         }
 
-        module _ {end : ℕ} (e : w ≡ Upto end) where
-          pub target-ends : one .target + 4 ≤ end
-          target-ends = joined-ends e z .more
+        module _ {n : ℕ} (e : w ≡ Upto n) where
+          target-size : n ≡ 4 * size (meant .t)
+          target-size = omega (arith, joined-ends e z .exact (meant .t) target-part)
 
-          target-size : end ≡ one .target + 4 * size (meant .t)
-          target-size = joined-ends e z .exact (meant .t) target-part
-
-          pub target-within : end - one .target ≤ 4 * valueRecords
+          pub target-within : n ≤ 4 * valueRecords
           target-within = omega (arith, target-size, meant .first .target .short)
 
           joint : Joint P (r .pairs) 0 (meant .t) (meant .u) out 0 after
@@ -369,15 +376,15 @@ module _ {P W : List ℕ} {s : Agenda} {a : List Entry} (x : Ready 0 P W s a) wh
           body-size = size-join (pairsOf P (r .pairs)) 0 (meant .t) (meant .u) (joint .body) (joint .is) .0
 
           module _ (l : length out ≡ 4 * valueRecords) where
-            body-bytes : take (end - one .target - 0) (drop 0 after) ≡ encode (joint .body)
+            body-bytes : take (n - 0) (drop 0 after) ≡ encode (joint .body)
             body-bytes =
-                stored out after (encode (joint .body)) (end - one .target) (joint .bytes)
+                stored out after (encode (joint .body)) n (joint .bytes)
                 (omega (arith, encode-length (joint .body), body-size, target-size)) (omega (arith, target-within))
 
-            pub forced-encloses : Encloses (take (end - one .target - 0) (drop 0 after)) (r .pairs .count) (length W) (s .top)
+            pub forced-encloses : Encloses (take (n - 0) (drop 0 after)) (r .pairs .count) (length W) (s .top)
             forced-encloses =
                 let t = meant .first .target in
-                let n = table-length (take (end - one .target - 0) (drop 0 after)) (joint .body) body-bytes in
+                let c = table-length (take (n - 0) (drop 0 after)) (joint .body) body-bytes in
                 let m = patternRecords - size (firstPart P (r .pairs) (y .repeated .number)) in
                 record {
                   body = joint .body;
@@ -409,9 +416,9 @@ module _ {P W : List ℕ} {s : Agenda} {a : List Entry} (x : Ready 0 P W s a) wh
                 )
 
             module _ {X : List ℕ} {o : ℕ}
-                (v : Enclosed (take (end - one .target - 0) (drop 0 after)) (r .pairs .count) W (s .top) X o) where
-              enclosed : Enclosed (take (end - one .target - 0) (drop 0 after)) (length (pairsOf P (r .pairs))) W (s .top) X o
-              enclosed = subst (λ (k : ℕ). Enclosed (take (end - one .target - 0) (drop 0 after)) k W (s .top) X o)
+                (v : Enclosed (take (n - 0) (drop 0 after)) (r .pairs .count) W (s .top) X o) where
+              enclosed : Enclosed (take (n - 0) (drop 0 after)) (length (pairsOf P (r .pairs))) W (s .top) X o
+              enclosed = subst (λ (k : ℕ). Enclosed (take (n - 0) (drop 0 after)) k W (s .top) X o)
                   (sym (count-length P (r .pairs))) v
 
               value-stored : X ≡ sets W (s .top) (encode value)

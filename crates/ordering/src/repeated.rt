@@ -89,13 +89,13 @@ pub fn force(
     let pairs = r.pairs;
     let first = agenda::goal_at(work, r.first);
     let second = agenda::goal_at(work, r.second);
-    let target = first.target;
+    let t = first.target;
+    let u = second.target;
     let mut b = [0u8; TARGET_BYTES];
-    let walk = joins::joining::join_into(pattern, pairs, work, target, second.target, 0, &mut b, 0);
-    let Walk::Upto(end) = walk else {
+    let walk = joins::joining::join_into(pattern, pairs, &work[t..], &work[u..], 0, &mut b, 0);
+    let Walk::Upto(n) = walk else {
         return Decision::Failed;
     };
-    let n = end - target;
     let top = joins::joining::enclose_into(&b[0..n], pairs.count, work, agenda.top);
     let one = crate::order::without(work, top, agenda.deferred, r.first);
     let both = crate::order::without(work, one.top, one.list, r.second);

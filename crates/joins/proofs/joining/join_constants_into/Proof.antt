@@ -22,10 +22,8 @@ put-record-requires : tie.Need-put-record-requires
 put-record-requires c κs =
     let found : tie.After-found = search in
     let find-pair : tie.After-find-pair = search in
+    let start : tie.Start = search in
     (omega arith, local-fits _ _ _ _ _ _ (find-pair .find-pair .ensures) (found .found .given .1) (omega arith))
-
-add-t18 : tie.Need-add-t18
-add-t18 c = search needs
 
 enum-told : tie.Need-enum-told
 enum-told c = search needs
@@ -63,7 +61,6 @@ join-constants-into-spec =
     find-pair-requires
     enum-known-found
     put-record-requires
-    add-t18
     enum-told
     same-leaf-into-requires
     same-length

@@ -1,6 +1,5 @@
 -- `joins::joining::same_leaf_into` meets its contract. Two records of one kind are joined exactly if their numbers are equal, as the
 -- shifted record. Assumes nothing.
-use Rattle.substitution.proofs.Writers.{source-slice, single-slice, slice-wrote}
 use Rattle.joins.proofs.Joins.{joins-source, joined-differ, joined-same}
 use borrow.Author.Needs.{needs}
 use Rattle.joins.proofs.joining.same_leaf_into.Statement.{statement}
@@ -15,26 +14,14 @@ number-at-requires-2 c κs = search needs
 returns : tie.Need-returns
 returns c = search (needs, joined-differ)
 
-sub-shift-leaf-into : tie.Need-sub-shift-leaf-into
-sub-shift-leaf-into c = search needs
-
-part-shift-leaf-into-start : tie.Need-part-shift-leaf-into-start
-part-shift-leaf-into-start c = search needs
-
-part-shift-leaf-into-end : tie.Need-part-shift-leaf-into-end
-part-shift-leaf-into-end c = search needs
-
 shift-leaf-into-requires : tie.Need-shift-leaf-into-requires
-shift-leaf-into-requires c κs = search (needs, source-slice, single-slice, joins-source)
-
-add-t10 : tie.Need-add-t10
-add-t10 c = search needs
+shift-leaf-into-requires c κs = search (needs, joins-source)
 
 same-length : tie.Need-same-length
 same-length c = search needs
 
 returns-2 : tie.Need-returns-2
-returns-2 c = search (needs, slice-wrote, joined-same)
+returns-2 c = search (needs, joined-same)
 
 pub same-leaf-into-spec : {M : Type 1} → statement M
 same-leaf-into-spec =
@@ -43,10 +30,6 @@ same-leaf-into-spec =
     number-at-requires
     number-at-requires-2
     returns
-    sub-shift-leaf-into
-    part-shift-leaf-into-start
-    part-shift-leaf-into-end
     shift-leaf-into-requires
-    add-t10
     same-length
     returns-2)

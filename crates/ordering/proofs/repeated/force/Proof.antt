@@ -1,9 +1,9 @@
 -- `ordering::repeated::force` meets its contract. The value that comes to both targets is the only one, so that one goal for it has the
 -- assignments of the two, whose room it takes. Assumes nothing.
 use native.Mathlib.Omega.{arith}
-use Rattle.ordering.proofs.Forcing.{ready-listed, found, decided-open, first-room, second-room, forced-joins, decided-failed}
-use Rattle.ordering.proofs.Forcing.{target-ends, target-within, forced-encloses, forced-drops, forced-drops-two, forced-room}
-use Rattle.ordering.proofs.Forcing.{forced-whole, forced-fits, decided-next}
+use Rattle.ordering.proofs.Forcing.{ready-listed, found, decided-open, first-room, second-room, first-target, second-target}
+use Rattle.ordering.proofs.Forcing.{forced-joins, decided-failed, target-within, forced-encloses, forced-drops, forced-drops-two}
+use Rattle.ordering.proofs.Forcing.{forced-room, forced-whole, forced-fits, decided-next}
 use borrow.Author.Needs.{needs}
 use Rattle.ordering.proofs.repeated.force.Statement.{statement}
 use Rattle.ordering.proofs.repeated.force.Tie as tie
@@ -29,6 +29,48 @@ goal-at-requires c κs = search (needs, first-room, found)
 goal-at-requires-2 : tie.Need-goal-at-requires-2
 goal-at-requires-2 c κs = search (needs, second-room, found)
 
+sub-join-into : tie.Need-sub-join-into
+sub-join-into c =
+    let goal-at : tie.After-goal-at = search in
+    let search-point : tie.After-search = search in
+    let find-first : tie.After-find-first = search in
+    let start : tie.Start = search in
+    first-target (start .pre .0) (found _ _ _ _ _ (search-point .search .given .1) (find-first .find-first .ensures))
+    (goal-at .goal-at .ensures .0)
+
+part-join-into-start : tie.Need-part-join-into-start
+part-join-into-start c =
+    let goal-at : tie.After-goal-at = search in
+    let search-point : tie.After-search = search in
+    let find-first : tie.After-find-first = search in
+    let start : tie.Start = search in
+    first-target (start .pre .0) (found _ _ _ _ _ (search-point .search .given .1) (find-first .find-first .ensures))
+    (goal-at .goal-at .ensures .0)
+
+part-join-into-end : tie.Need-part-join-into-end
+part-join-into-end c = search needs
+
+sub-join-into-2 : tie.Need-sub-join-into-2
+sub-join-into-2 c =
+    let goal-at2 : tie.After-goal-at2 = search in
+    let search-point : tie.After-search = search in
+    let find-first : tie.After-find-first = search in
+    let start : tie.Start = search in
+    second-target (start .pre .0) (found _ _ _ _ _ (search-point .search .given .1) (find-first .find-first .ensures))
+    (goal-at2 .goal-at2 .ensures .0)
+
+part-join-into-start-2 : tie.Need-part-join-into-start-2
+part-join-into-start-2 c =
+    let goal-at2 : tie.After-goal-at2 = search in
+    let search-point : tie.After-search = search in
+    let find-first : tie.After-find-first = search in
+    let start : tie.Start = search in
+    second-target (start .pre .0) (found _ _ _ _ _ (search-point .search .given .1) (find-first .find-first .ensures))
+    (goal-at2 .goal-at2 .ensures .0)
+
+part-join-into-end-2 : tie.Need-part-join-into-end-2
+part-join-into-end-2 c = search needs
+
 slice-aggregate-join-into : tie.Need-slice-aggregate-join-into
 slice-aggregate-join-into c = search needs
 
@@ -48,20 +90,6 @@ returns-2 : tie.Need-returns-2
 returns-2 c =
     let search-point : tie.After-search = search in
     search (needs, decided-failed, found)
-
-sub-n : tie.Need-sub-n
-sub-n c =
-    let join-into : tie.After-join-into = search in
-    let goal-at2 : tie.After-goal-at2 = search in
-    let goal-at : tie.After-goal-at = search in
-    let search-point : tie.After-search = search in
-    let find-first : tie.After-find-first = search in
-    let start : tie.Start = search in
-    omega (
-      arith,
-      target-ends (start .pre .0) (found _ _ _ _ _ (search-point .search .given .1) (find-first .find-first .ensures))
-          (goal-at .goal-at .ensures .0) (goal-at2 .goal-at2 .ensures .0) (join-into .join-into .ensures) (c .before .walk .given .1),
-    )
 
 sub-enclose-into : tie.Need-sub-enclose-into
 sub-enclose-into c = search needs
@@ -154,8 +182,8 @@ put-goal-requires c κs =
           (c .before .match-goal .ensures),
     )
 
-add-t32 : tie.Need-add-t32
-add-t32 c =
+add-t31 : tie.Need-add-t31
+add-t31 c =
     let without2 : tie.After-without2 = search in
     let without : tie.After-without = search in
     let enclose-into : tie.After-enclose-into = search in
@@ -207,13 +235,18 @@ force-spec =
     returns
     goal-at-requires
     goal-at-requires-2
+    sub-join-into
+    part-join-into-start
+    part-join-into-end
+    sub-join-into-2
+    part-join-into-start-2
+    part-join-into-end-2
     slice-aggregate-join-into
     join-into-requires
     enum-known-walk
     enum-told-2
     same-length-2
     returns-2
-    sub-n
     sub-enclose-into
     part-enclose-into-start
     part-enclose-into-end
@@ -222,6 +255,6 @@ force-spec =
     without-requires-2
     match-goal-requires
     put-goal-requires
-    add-t32
+    add-t31
     same-length-3
     returns-3)
