@@ -4,7 +4,7 @@
     tests/names.py            from anywhere; status 1 if a name is nowhere, with a line `docs/X.md:LINE: NAME is nowhere` for each
     tests/names.py FILE..     the same for these documents only
 
-The documents are README.md, docs/*.md, examples/README.md and bench/README.md. What is recognised, and where it has to be:
+The documents are README.md, docs/*.md, and README.md of examples, bench and bench/cases. What is recognised, and where it has to be:
 
 in backquotes
   crate::name, crate::module::name   a function, type, constant, case or module in crates/crate/src (and in that module's file)
@@ -39,10 +39,10 @@ TOP = os.path.dirname(os.path.dirname(os.path.abspath(__file__)))
 
 # Words that no file of the repository defines: the kit's, the machine's and other languages'; letters that stand for terms and numbers.
 ALLOWED = set("""
-rt rustc cc cmp od awk python3 target clang antt GMP LLVM glibc libc gnu onestep-bench
-ensures requires needs search let in by value extern pub unsafe usize deriving Discrete
-matches refused lines ok logic proved functions axioms sum native built trusted nat char string read write close open
-TMPDIR LIBRARY RT_JOBS rlib say out NAME FILE FOLDER LAW CRATE X N M T P Q E F B K S n m k d x y
+rt rustc cc od awk python3 target antt io libc os
+ensures requires needs search value
+matches refused ok logic proved axioms sum native built trusted nat char string read write close
+LIBRARY say NAME FILE FOLDER LAW X N M T P E B n k x
 test_ .rt .antt docs/X.md rattle-kit-5b-plain
 """.split())
 # Built by the commands of the documents, and not in the repository.
@@ -281,7 +281,7 @@ def main(paths):
     whole = not paths
     if whole:
         paths = [os.path.join(TOP, "README.md")] + sorted(glob.glob(os.path.join(TOP, "docs", "*.md")))
-        paths += [os.path.join(TOP, folder, "README.md") for folder in ("examples", "bench")]
+        paths += [os.path.join(TOP, folder, "README.md") for folder in ("examples", "bench", "bench/cases")]
     missing = []
     for path in paths:
         document = Document(index, os.path.abspath(path))
