@@ -16,7 +16,7 @@ use Rattle.records.specs.declared.Walk.the-variants as walk
 use Rattle.records.specs.Record.{numberAt}
 use Rattle.records.specs.Parts.{slice, Part, Whole, Ends}
 use Rattle.records.proofs.Parts.{whole, kind-at, number-at}
-use Rattle.records.proofs.Slices.{part-slice, whole-slice, slice-length}
+use Rattle.records.proofs.Slices.{slice-length}
 use Rattle.substitution.proofs.Writers.{Other, local-at}
 use Rattle.shifting.specs.declared.Places.{Places}
 use Rattle.shifting.specs.declared.Pairing.{Pairing}
