@@ -15,7 +15,7 @@ use lib.Dec.{T}
 use lib.ListN.{length, getD, take, drop}
 use lib.Seq.{sets}
 use borrow.Author.Tests.{lt-ltb, ltb-true}
-use Rattle.terms.specs.Figures.{variables, tableBytes}
+use Rattle.terms.specs.Figures.{variables, patternRecords, valueRecords, tableBytes}
 use Rattle.terms.specs.Term.{Term, lam, size, uses, isEta, shift}
 use Rattle.terms.specs.Table.{bytes, encode}
 use Rattle.terms.specs.Listing.{Line}
@@ -109,15 +109,15 @@ module _ (P W : List ℕ) (s : Agenda) (a : List Entry) where
     from A h = opened (ready .gs) (ready .line) (λ _. A) (λ f t e hs y. h (ready .gs) hs (ready .line) f t e y) (ready .hs) (ready .state)
 
     module _ (r : StoredGoal) (y : StoredAt W (s .deferred) r) where
-      pub choosing : (last room : ℕ) → 160 ≤ last → targetBytes ≤ room
+      pub choosing : (last room : ℕ) → valueRecords ≤ last → targetBytes ≤ room
           → BodySource (slice W (r .target)) 0 (slice W (r .argument)) last 0 room 0
       choosing last room h k = from (BodySource (slice W (r .target)) 0 (slice W (r .argument)) last 0 room 0) (λ gs hs l f t e z.
           let v = site r gs hs l f t e y z in
           let u = v .target in
           choosing-at W W (r .target) (r .argument) 0 last 0 room 0 t (u .part) (whole W (r .argument) e (v .argument .part))
           (omega (arith, ready .bounds .whole))
-          (closed-fits (33 - suc (size f)) (shift 1 0 t)
-          (closed-shift 1 0 (32 - suc (size f)) (33 - suc (size f)) t (omega (arith, u .few)) (u .closed))
+          (closed-fits (suc patternRecords - suc (size f)) (shift 1 0 t)
+          (closed-shift 1 0 (patternRecords - suc (size f)) (suc patternRecords - suc (size f)) t (omega (arith, u .few)) (u .closed))
           (omega (arith, u .short, size-shift 1 0 t)))
           (omega (arith, u .short)) (omega (arith, u .short)) (omega (arith, u .short)))
 
@@ -160,8 +160,8 @@ module _ (P W : List ℕ) (s : Agenda) (a : List Entry) where
         number f t e v =
             omega (arith, body-number-at W W (r .target) (r .argument) 0 m 0 b 0 c next n k w t e (v .target .part) (v .argument .part))
 
-        pub choices-within : k ≤ 160
-        choices-within = from (k ≤ 160) (λ gs hs l f t e z.
+        pub choices-within : k ≤ valueRecords
+        choices-within = from (k ≤ valueRecords) (λ gs hs l f t e z.
             let v = site r gs hs l f t e y z in
             omega (arith, number f t e v, copies-size e 0 t, v .target .short))
 
@@ -273,8 +273,8 @@ module _ (P W : List ℕ) (s : Agenda) (r : StoredGoal) (f t e : Term) (m b X : 
           normal = body-normal e t (chosenIn m) (u .normal) no-eta;
           ground = body-ground e 0 t (chosenIn m) 0 (u .ground);
           few = omega (arith, u .few);
-          closed = closed-more (suc (32 - suc (size f))) (suc (32 - size f)) B (omega arith)
-              (body-closed e 0 t (chosenIn m) 0 (32 - suc (size f)) (omega arith) (u .closed));
+          closed = closed-more (suc (patternRecords - suc (size f))) (suc (patternRecords - size f)) B (omega arith)
+              (body-closed e 0 t (chosenIn m) 0 (patternRecords - suc (size f)) (omega arith) (u .closed));
           short = omega (arith, u .short, body-size e 0 t (chosenIn m) 0);
         }
 

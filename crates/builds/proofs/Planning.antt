@@ -8,7 +8,7 @@ use Prim.Native.Nat.{ℕ, suc, _-_, _<_, _≤_}
 use native.Mathlib.Omega.{arith}
 use borrow.Author.Tests.{lt-ltb}
 use lib.ListN.{getD}
-use Rattle.terms.specs.Figures.{valueRecords}
+use Rattle.terms.specs.Figures.{patternRecords, valueRecords}
 use Rattle.terms.specs.Term.{Term, lam, size, uses}
 use Rattle.terms.specs.Listing.{Line}
 use Rattle.matching.specs.Lists.{Values}
@@ -45,7 +45,8 @@ module _ (P W : List ℕ) (s : Agenda) (a : List Entry) (ready : Ready relinking
       record {
         part = whole P (r .part) f (v .part);
         short = ready .bounds .short;
-        target = marks-at W (r .argument) 0 32 e (u .part) (closed-more (32 - suc (size f)) 32 e (omega arith) (u .closed))
+        target = marks-at W (r .argument) 0 patternRecords e (u .part)
+            (closed-more (patternRecords - suc (size f)) patternRecords e (omega arith) (u .closed))
             (omega (arith, u .short));
         place = omega (arith, u .part .within);
       })

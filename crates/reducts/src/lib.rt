@@ -14,6 +14,7 @@
 mod guards;
 
 use records::Kind;
+use records::PATTERN_RECORDS;
 use records::RECORD;
 use sweeping::Length;
 ghost use mathlib.Core.Path.{_≡_};
@@ -21,10 +22,10 @@ ghost use Prim.Native.Nat.{_≤_};
 ghost use lib.ListN.{length, getD};
 ghost use Rattle.terms.specs.Table.{applicationKind, abstractionKind};
 ghost use Rattle.sweeping.specs.Swept.{SweptParts};
-ghost use Rattle.reducts.specs.Reduced.{Contracts, ReducesApplication, ReducibleParts, ReducesRedex, Reducible, Reduces};
+ghost use Rattle.reducts.specs.Reduced.{patternBytes, Contracts, ReducesApplication, ReducibleParts, ReducesRedex, Reducible, Reduces};
 
 // The bytes of a pattern of 32 records, the longest reduct that is written.
-pub const PATTERN_BYTES: usize = 128;
+pub const PATTERN_BYTES: usize = RECORD * PATTERN_RECORDS;
 
 // Contracts the application of f to a, both reduced, where f is an abstraction.
 fn contract_redex(f: &[u8], a: &[u8], out: &mut [u8; PATTERN_BYTES]) -> Length
@@ -44,7 +45,7 @@ fn contract_redex(f: &[u8], a: &[u8], out: &mut [u8; PATTERN_BYTES]) -> Length
 
 // Writes the application of f to a as it is.
 fn join(f: &[u8], a: &[u8], out: &mut [u8; PATTERN_BYTES]) -> Length
-    requires { ⌜ (length (now f) ≤ 128) × (length (now a) ≤ 128) ⌝ }
+    requires { ⌜ (length (now f) ≤ patternBytes) × (length (now a) ≤ patternBytes) ⌝ }
     ensures { λ r. ⌜ ReducesApplication (now (f .entry)) (now (a .entry)) (now (out .entry)) r (now (out .exit)) ⌝ }
 {
     let n = RECORD + f.len() + a.len();

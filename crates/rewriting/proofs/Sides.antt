@@ -61,7 +61,7 @@ pub record SideForm (p l s : List ℕ) (n : ℕ) (after : List ℕ) : Type 0 whe
   pub bytes : take (n * 4 - 0) (drop 0 after) ≡ encode (sweep term)
 
 module _ (p l s out : List ℕ) (r : Length) (after : List ℕ) (x : FilledTables p l s) (w : SweptSide p l s out r after) where
-  pub swept-as : (n : ℕ) → length out ≡ 1024 → r ≡ Records n → SideForm p l s n after
+  pub swept-as : (n : ℕ) → length out ≡ 4 * sweptRecords → r ≡ Records n → SideForm p l s n after
   swept-as n h e =
       let q = swept-table (x .term) out after r n (w (x .term) (x .filled)) e h in
       let m = ap length (q .bytes) ∙ encode-length (sweep (x .term)) in

@@ -63,7 +63,7 @@ module _ (p t : List ℕ) (limit : ℕ) (L X W : List ℕ) (c : Collects p t lim
     few : size x ≤ patternRecords
     few = omega (arith, c .pattern .most, ap size x-is)
 
-    short : size y ≤ 96
+    short : size y ≤ recipeRecords
     short = omega (arith, c .recipe .most, ap size y-is)
 
     stands : Part W₂ 0 y

@@ -8,6 +8,7 @@ use assignments::LINE;
 use notation::put;
 use notation::within;
 use records::RECORD;
+use records::TABLE_BYTES;
 use records::VARIABLES;
 use rewriting::SweepAnswer;
 use test_draw::generate::put_part;
@@ -102,7 +103,7 @@ fn sweep(pattern: &[u8], line: &[u8], values: &[u8], out: &mut [u8]) -> usize {
     let mut work = io::large_buffer();
     let answer = rewriting::sweep(pattern, line, values, out, &mut work);
     match answer {
-        SweepAnswer::Records(n) => n % 65536 * RECORD,
+        SweepAnswer::Records(n) => n % TABLE_BYTES * RECORD,
         SweepAnswer::Refused(_) => 0,
     }
 }
@@ -194,7 +195,7 @@ pub fn draw_terms<'a>(
     let v = variables(pattern, 1);
     let n = terms_for(v, entries.len() / RECORD, RANDOM_ASSIGNMENTS);
     choose(entries, n, v, seed, room);
-    let end = within(n % 65536 * RECORD, room);
+    let end = within(n % TABLE_BYTES * RECORD, room);
     &mut room[..end]
 }
 
@@ -208,6 +209,6 @@ pub fn example_terms<'a>(pattern: &[u8], entries: &'a [u8]) -> &'a [u8] {
         entries.len() / RECORD,
         EXAMPLE_ASSIGNMENTS,
     );
-    let end = within(n % 65536 * RECORD, entries);
+    let end = within(n % TABLE_BYTES * RECORD, entries);
     &entries[..end]
 }

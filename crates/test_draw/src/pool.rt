@@ -4,6 +4,7 @@ use notation::put_number;
 use notation::put_record;
 use records::Kind;
 use records::RECORD;
+use records::TABLE_BYTES;
 use test_scan::scan::is_value;
 ghost use Prim.Native.Nat.{_≤_};
 ghost use lib.ListN.{length};
@@ -93,10 +94,10 @@ fn put_entry(entries: &mut [u8], filled: Filled, next: usize, before: usize) -> 
     if next < at {
         return filled;
     }
-    if 65536 < next {
+    if TABLE_BYTES < next {
         return filled;
     }
-    let middle = put_number(entries, end, before % 65536 + at / RECORD);
+    let middle = put_number(entries, end, before % TABLE_BYTES + at / RECORD);
     Filled {
         entries: put_number(entries, middle, (next - at) / RECORD),
         terms: next,

@@ -8,6 +8,7 @@ use assignments::LINE;
 use notation::put_number;
 use notation::within;
 use records::RECORD;
+use records::TABLE_BYTES;
 use records::VARIABLES;
 use rewriting::CheckAnswer;
 use rewriting::SweepAnswer;
@@ -65,7 +66,7 @@ fn times(a: usize, b: usize) -> usize {
     if 65535 < a {
         return a;
     }
-    a * (b % 65536)
+    a * (b % TABLE_BYTES)
 }
 
 // Assigns a variable, if it occurs, by the last digit of a number, and gives the rest of it.
@@ -110,7 +111,7 @@ fn swept(pattern: &[u8], recipe: &[u8], line: &[u8], values: &[u8], work: &mut [
 }
 
 fn is_recipe(recipe: &[u8], n: usize, out: &[u8]) -> usize {
-    let end = within(n % 65536 * RECORD, out);
+    let end = within(n % TABLE_BYTES * RECORD, out);
     if compare(recipe, &out[..end]) == test_scan::agreement::SAME {
         return YES;
     }

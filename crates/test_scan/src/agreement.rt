@@ -5,6 +5,7 @@ use crate::scan::is_value;
 use crate::scan::number_at;
 use crate::scan::occurs;
 use records::RECORD;
+use records::TABLE_BYTES;
 use records::VARIABLES;
 
 // How two values, entries or lines compare.
@@ -36,7 +37,7 @@ pub fn line_at(lines: &[u8], n: usize) -> &[u8] {
     if lines.len() <= n {
         return &lines[..0];
     }
-    run_of(lines, n % 65536 * VARIABLES, VARIABLES)
+    run_of(lines, n % TABLE_BYTES * VARIABLES, VARIABLES)
 }
 
 // The value of the entry with this number.
@@ -142,7 +143,7 @@ fn entry_end(lines: &[u8], values: &[u8], pattern: &[u8], n: usize, before: usiz
     }
     if occurs(pattern, n % VARIABLES) {
         if is_value(value_at(values, lines, n)) {
-            return before + number_at(lines, n) % 65536;
+            return before + number_at(lines, n) % TABLE_BYTES;
         }
         return NOT_LAID_OUT;
     }

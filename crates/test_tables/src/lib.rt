@@ -58,7 +58,7 @@ pub fn try_layout(
         tally(totals, test_totals::LAYOUT);
         return;
     }
-    let end = within(records % 65536 * RECORD, values);
+    let end = within(records % TABLE_BYTES * RECORD, values);
     tally_if(totals, test_totals::BEHIND, !is_all(behind, MARK));
     tally_if(totals, test_totals::BEHIND, !is_all(&values[end..], MARK));
 }
@@ -71,12 +71,12 @@ pub fn lent_values(values: &[u8]) -> &[u8] {
 
 // The first n lines.
 pub fn first_lines(lines: &[u8], n: usize) -> &[u8] {
-    let end = within(n % 65536 * LINE, lines);
+    let end = within(n % TABLE_BYTES * LINE, lines);
     &lines[..end]
 }
 
 pub fn behind_lines(lines: &[u8], n: usize) -> &[u8] {
-    let end = within(n % 65536 * LINE, lines);
+    let end = within(n % TABLE_BYTES * LINE, lines);
     &lines[end..]
 }
 

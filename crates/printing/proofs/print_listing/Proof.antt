@@ -4,6 +4,9 @@ use borrow.Author.Needs.{needs}
 use Rattle.printing.proofs.print_listing.Statement.{statement}
 use Rattle.printing.proofs.print_listing.Tie as tie
 
+text-room-requires : tie.Need-text-room-requires
+text-room-requires c κs = search needs
+
 slice-aggregate-print-lines : tie.Need-slice-aggregate-print-lines
 slice-aggregate-print-lines c = search needs
 
@@ -14,4 +17,4 @@ returns : tie.Need-returns
 returns c = search needs
 
 pub print-listing-spec : {M : Type 1} → statement M
-print-listing-spec = tie.close (tie.spec slice-aggregate-print-lines print-lines-requires returns)
+print-listing-spec = tie.close (tie.spec text-room-requires slice-aggregate-print-lines print-lines-requires returns)

@@ -5,6 +5,7 @@ use Prim.Native.Nat.{_+_, _-_, _*_}
 use mathlib.Core.Path.{refl, _∙_}
 use native.Mathlib.Omega.{arith}
 use lib.ListN.{length-set}
+use Rattle.terms.specs.Figures.{valueRecords}
 use Rattle.agenda.specs.Moves.{progress}
 use Rattle.search.proofs.Taken.{stepped-failed, stepped-left, stepped-assign, branched-failed, branched-next, decided-failed}
 use Rattle.search.proofs.Taken.{decided-next, decided-open, planned-failed, planned-next, planned-bodies}
@@ -77,7 +78,7 @@ abbrev μ-attempt-body : Measures 4 attempt-body-kinds.ps ℕ
 μ-attempt-body κs a = 1000 * progress (a .1 .1 .0) + 500
 
 abbrev μ-bodies : Measures 4 bodies-kinds.ps ℕ
-μ-bodies κs a = 1000 * progress (a .1 .1 .0) + 600 + (160 - (a .1 .1 .1 .1 .1 .0))
+μ-bodies κs a = 1000 * progress (a .1 .1 .0) + 600 + (valueRecords - (a .1 .1 .1 .1 .1 .0))
 
 abbrev μ-branch : Measures 4 branch-kinds.ps ℕ
 μ-branch κs a = 1000 * progress (a .1 .1 .0) + 896
