@@ -34,7 +34,6 @@ use Rattle.sweeping.proofs.Contraction.{closed-fits}
 use Rattle.copying.proofs.Stores as Stores
 use Rattle.assignments.specs.declared.Entry.{Entry}
 use Rattle.shifting.proofs.Tests.{rigid-at}
-use Rattle.shifting.proofs.Locals.{marks-at}
 use Rattle.agenda.specs.declared.Agenda.{Agenda}
 use Rattle.agenda.specs.declared.Branch.{Branch}
 use Rattle.agenda.specs.declared.StoredGoal.{StoredGoal}
@@ -51,6 +50,7 @@ use Rattle.builds.specs.Builds.{Pushes, StoredPushed, storedTarget, afterStored
 use Rattle.alternatives.specs.Applications.{ApplicationDeferred, Counted}
 use Rattle.agenda.specs.Stored.{storedMatch, storedBuild}
 use Rattle.agenda.specs.Locals.{Locals, Lacks}
+use Rattle.agenda.proofs.Lacking.{all-marks-at, locals-at, lacks-at}
 use Rattle.agenda.proofs.Frame.{Kept, part-kept, part-stored, target-kept, chain-kept, holds-kept, kept-sets, kept-then, length-stored}
 use Rattle.agenda.proofs.Frame.{goal-stored, chain-match}
 use Rattle.deciding.proofs.Refutations.{line-values, extended-values, source-at, skeleton-at}
@@ -158,24 +158,20 @@ module _ (P W : List ℕ) (s : Agenda) (a : List Entry) where
           source-at P h W a b (argument-from P (r .part) h f b e (v .part)) (x .ready .bounds .short) (v .suits .0 .0 .1) (totalOf l)
           (line-values P W s a l (x .ready .bounds) (z .entries) b))
 
-      pub locals : Locals P (r .part + 4) W (r .target)
-      locals = from (Locals P (r .part + 4) W (r .target)) (λ gs hs l f b t z.
+      pub head-place : r .part + 4 ≤ length P
+      head-place = omega (arith, stored-bounds .part-low)
+
+      pub locals : Locals (slice P (r .part + 4)) (slice W (r .target))
+      locals = from (Locals (slice P (r .part + 4)) (slice W (r .target))) (λ gs hs l f b t z.
           let v = site r gs hs l f b t y z .target in
-          record {
-            part = stored-bounds .head;
-            short = x .ready .bounds .short;
-            target = marks-at W (r .target) 0 patternRecords t (v .part)
-                (closed-more (patternRecords - size (app f b)) (0 + patternRecords) t (omega arith) (v .closed))
-                (omega (arith, v .short));
-            place = omega (arith, v .part .within);
-          })
+          locals-at P (r .part + 4) W (r .target) (stored-bounds .head) (x .ready .bounds .short)
+          (all-marks-at W (r .target) (patternRecords - size (app f b)) t (v .part) (omega arith) (v .closed) (omega (arith, v .short))))
 
       pub counted :
           (h g : ℕ) (c d : Bool) (m : List ℕ) (o : ℕ) (i : Skeleton) → Ends W (r .target) h → Ends P (r .part + 4) g
           → ((t : Term) → Part (slice P g) 0 t → c ≡ rigid t) → PartSkeleton (slice P g) W a (i .bytes) (i .length)
-          → Lacks P (r .part + 4) W (r .target) d → WroteDepths (slice W (r .target)) 0 (replicate valueRecords 0) 0 m o
+          → Lacks (slice P (r .part + 4)) (slice W (r .target)) d → WroteDepths (slice W (r .target)) 0 (replicate valueRecords 0) 0 m o
           → Counted P W s a (record { count = (h - r .target) / 4 + 2; argument = g; rigid = c; skeleton = i; lacking = d; depths = m })
-      unfolding Lacks
       counted h g c d m o i e j k p n u = record {
         ways = λ gs hs l z. opened gs l (HasWays ((h - r .target) / 4 + 2))
             (λ f b t us o. omega (arith, e .exact t (site r gs us l f b t y o .target .part))) hs z;
@@ -188,7 +184,7 @@ module _ (P W : List ℕ) (s : Agenda) (a : List Entry) where
             skeleton-at P g W a (i .bytes) (i .length) p b (argument-from P (r .part) g f b j (site r gs us l f b t y v .part)) φ w
             (extended-values P W s a l (x .ready .bounds) (v .entries) b φ q)) hs z;
         lacking-head = λ i gs hs l z.
-            let q : Lacks P (r .part + 4) W (r .target) true = subst (Lacks P (r .part + 4) W (r .target)) i n in
+            let q = lacks-at P (r .part + 4) W (r .target) d i n in
             opened gs l HeadLacks (λ f b t us o.
             let v = site r gs us l f b t y o in
             let q′ = q .1 f t (application-parts P (r .part) f b (v .part) .0) (v .target .part) in

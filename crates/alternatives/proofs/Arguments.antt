@@ -27,7 +27,7 @@ use Rattle.records.specs.Parts.{slice, Part, Whole, Ends}
 use Rattle.records.specs.Tests.{Walked}
 use Rattle.records.specs.declared.Walk.{Walk}
 use Rattle.records.specs.declared.Walk.the-variants.{Upto, No}
-use Rattle.records.proofs.Slices.{slice-upto, slice-no}
+use Rattle.records.proofs.Slices.{whole-slice, slice-upto, slice-no}
 use Rattle.records.proofs.Parts.{whole}
 use Rattle.substitution.specs.Writers.{Wrote}
 use Rattle.copying.proofs.Stores as Stores
@@ -37,7 +37,6 @@ use Rattle.skeletons.proofs.Comparison.{may-be-at}
 use Rattle.shifting.specs.Lowering.{Lowers, Lowered, Movable}
 use Rattle.shifting.proofs.Lowering.{lowers-at, lowered-wrote-at}
 use Rattle.abstractions.specs.Occurrences.{DepthOf, Looks, Earlier}
-use Rattle.shifting.proofs.Locals.{marks-at}
 use Rattle.abstractions.proofs.Occurrences.{part-at, looks-at, earlier-yes-at, earlier-no-at}
 use Rattle.agenda.specs.declared.Agenda.{Agenda}
 use Rattle.agenda.specs.declared.Branch.{Branch}
@@ -50,6 +49,9 @@ use Rattle.alternatives.specs.Ways.{Way, Fitting}
 use Rattle.alternatives.specs.Applications.{ApplicationDeferred, Counted, argumentOf, Places, Argument, Placed}
 use Rattle.agenda.specs.Locals.{ArgumentComparable, Misses}
 use Rattle.agenda.specs.Heads.{Agree}
+use Rattle.agenda.proofs.Agreement.{unlike-at}
+use Rattle.agenda.proofs.Lacking.{all-marks-at}
+use Rattle.agenda.proofs.Missing.{comparable-at, misses-at}
 use Rattle.agenda.specs.Stored.{storedMatch, storedBuild}
 use Rattle.agenda.proofs.Frame.{Kept, part-kept, part-stored, target-kept, chain-kept, holds-kept, kept-sets, kept-then, length-stored}
 use Rattle.agenda.proofs.Frame.{goal-stored, chain-match, chain-build}
@@ -137,7 +139,7 @@ pub placed-no : (W : List ℕ) (top at j : ℕ) (X : List ℕ) (w : Walk) → Pl
 unfolding Placed
 placed-no W top at j X w p c = subst (Placed W top at j X) c p
 
-pub placed-at : (W : List ℕ) (top at j : ℕ) (X : List ℕ) (w : Walk) (r : ℕ) → Placed W top at j X w → w ≡ Upto r → (t : Term) → Part W at t
+placed-at : (W : List ℕ) (top at j : ℕ) (X : List ℕ) (w : Walk) (r : ℕ) → Placed W top at j X w → w ≡ Upto r → (t : Term) → Part W at t
     → Argument W top t j X r
 unfolding Placed
 placed-at W top at j X w r p c = subst (Placed W top at j X) c p
@@ -171,17 +173,22 @@ module _ (P W : List ℕ) (s : Agenda) (a : List Entry) (x : ApplicationDeferred
     pub few-records : j < valueRecords
     few-records = omega (arith, places .within, places .few)
 
-    pub part-whole : Whole W (r .target + 4 * j)
+    part-whole : Whole W (r .target + 4 * j)
     part-whole = from P W s a x (Whole W (r .target + 4 * j)) (λ gs hs l f b t z.
         whole W (r .target + 4 * j) (partAt 0 t j .1)
         (part-at W (r .target) 0 t j (site P W s a r gs hs l f b t y z .target .part) (numbered gs hs l f b t z)))
 
+    pub part-place : r .target + 4 * j ≤ length W
+    part-place = omega (arith, part-whole .least)
+
+    pub part-whole-slice : Whole (slice W (r .target + 4 * j)) 0
+    part-whole-slice = whole-slice W (r .target + 4 * j) part-whole
+
     -- the argument has a rigid head, and the part has another one
-    pub unlike : (e : Bool) → Agree P (w .argument) W (r .target + 4 * j) e → e ≡ false → w .rigid ≡ true
+    pub unlike : (e : Bool) → Agree (slice P (w .argument)) (slice W (r .target + 4 * j)) e → e ≡ false → w .rigid ≡ true
         → Branched P W s a (Way (suc (suc j))) W Branch.Failed
-    unfolding Agree
     unlike e q n k =
-        let m : Agree P (w .argument) W (r .target + 4 * j) false = subst (Agree P (w .argument) W (r .target + 4 * j)) n q in
+        let m = unlike-at P (w .argument) W (r .target + 4 * j) e n q in
         died P W s a (Way (suc (suc j))) W (dead P W s a x r y (suc (suc j)) W refl (λ f b t gs hs l φ v u o.
         let i = argument-from P (r .part) (w .argument) f b (argument-ends P W s a x r y w c) (v .part) in
         let d = o .1 .0 .1 in
@@ -195,7 +202,7 @@ module _ (P W : List ℕ) (s : Agenda) (a : List Entry) (x : ApplicationDeferred
       died P W s a (Way (suc (suc j))) X (dead P W s a x r y (suc (suc j)) X (n .0) (λ f b t gs hs l φ v u o.
       n .1 t (o .1 .0 .0) (v .target .part) (o .1 .0 .1)))
 
-  module _ (X : List ℕ) (end : ℕ) (g : (t : Term) → Part W (r .target) t → Argument W (s .top) t j X end) where
+  module _ (X : List ℕ) (end : ℕ) (walk : Walk) (placed : Placed W (s .top) (r .target) j X walk) (upto : walk ≡ Upto end) where
     pub record ArgumentStanding (f b t : Term) : Type 0 where
       pub found : Argument W (s .top) t j X end
       pub few : size (argumentOf t j) ≤ size t
@@ -205,7 +212,7 @@ module _ (P W : List ℕ) (s : Agenda) (a : List Entry) (x : ApplicationDeferred
 
     standing : (f b t : Term) → ApplicationSite P W s r f b t → ArgumentStanding f b t
     standing f b t v =
-        let o = g t (v .target .part) in
+        let o = placed-at W (s .top) (r .target) j X walk end placed upto t (v .target .part) in
         let e = argumentOf t j in
         let m : size e ≤ size t = part-size t j e (o .within) (o .copy) in
         let k : Kept W X (s .top) = kept-sets (encode e) W X (s .top) (s .top) (o .bytes) (omega arith)
@@ -256,24 +263,17 @@ module _ (P W : List ℕ) (s : Agenda) (a : List Entry) (x : ApplicationDeferred
     pub looks : Looks (slice X (r .target)) (slice X (s .top)) 0
     looks = looks-at X X (r .target) (s .top) 0 target-whole top-whole (omega (arith, ending .whole))
 
-    pub comparable : ArgumentComparable P (r .part + 4) X (r .target) (s .top)
-    comparable = from P W s a x (ArgumentComparable P (r .part + 4) X (r .target) (s .top)) (λ gs hs l f b t z.
+    pub comparable : ArgumentComparable (slice P (r .part + 4)) (slice X (r .target)) (slice X (s .top))
+    comparable = from P W s a x (ArgumentComparable (slice P (r .part + 4)) (slice X (r .target)) (slice X (s .top)))
+        (λ gs hs l f b t z.
         let v = site P W s a r gs hs l f b t y z in
         let o = standing f b t v in
-        record {
-          part = stored-bounds P W s a x r y .head;
-          short = x .ready .bounds .short;
-          target = marks-at X (r .target) 0 patternRecords t (o .target)
-              (closed-more (patternRecords - size (app f b)) (0 + patternRecords) t (omega arith) (v .target .closed))
-              (omega (arith, v .target .short));
-          argument = marks-at X (s .top) 0 patternRecords (argumentOf t j) (o .part)
-              (closed-more (patternRecords - size (app f b)) (0 + patternRecords) (argumentOf t j) (omega arith)
-              (part-closed t j (argumentOf t j) (o .found .within) (o .found .copy) (patternRecords - size (app f b))
-              (v .target .closed)))
-              (omega (arith, v .target .short, o .few));
-          target-place = target-within;
-          argument-place = top-within;
-        })
+        let n = patternRecords - size (app f b) in
+        comparable-at P (r .part + 4) X (r .target) X (s .top) (stored-bounds P W s a x r y .head) (x .ready .bounds .short)
+        (all-marks-at X (r .target) n t (o .target) (omega arith) (v .target .closed) (omega (arith, v .target .short)))
+        (all-marks-at X (s .top) n (argumentOf t j) (o .part) (omega arith)
+        (part-closed t j (argumentOf t j) (o .found .within) (o .found .copy) n (v .target .closed))
+        (omega (arith, v .target .short, o .few))))
 
     -- an earlier part gives the same argument
     pub again : (b : Bool) → Earlier (slice X (r .target)) j (slice X (s .top)) b → b ≡ true
@@ -303,11 +303,10 @@ module _ (P W : List ℕ) (s : Agenda) (a : List Entry) (x : ApplicationDeferred
         })
 
     -- the target has a local that nothing brings in
-    pub lacking : (c : Bool) → Misses P (r .part + 4) X (r .target) (s .top) c → c ≡ true
+    pub lacking : (c : Bool) → Misses (slice P (r .part + 4)) (slice X (r .target)) (slice X (s .top)) c → c ≡ true
         → Branched P W s a (Way (suc (suc j))) X Branch.Failed
-    unfolding Misses
     lacking c e i =
-        let q : Misses P (r .part + 4) X (r .target) (s .top) true = subst (Misses P (r .part + 4) X (r .target) (s .top)) i e in
+        let q = misses-at P (r .part + 4) X (r .target) X (s .top) c i e in
         died P W s a (Way (suc (suc j))) X (dead P W s a x r y (suc (suc j)) X (ending .same) (λ f b t gs hs l φ v u o.
         let n = standing f b t v in
         let k = application-parts P (r .part) f b (v .part) in

@@ -49,7 +49,7 @@ pub fn ways(pattern: &[u8], work: &[u8], agenda: Agenda, entries: [Entry; VARIAB
     let rigid = shifting::is_rigid(part);
     let walk = records::ask_part(part, Ask::Below, PATTERN_RECORDS);
     let skeleton = deciding::skeleton_of(part, walk, work, entries);
-    let lacking = agenda::locals::lacks_local(pattern, head, work, target);
+    let lacking = agenda::locals::lacks_local(&pattern[head..], &work[target..]);
     let mut depths = [0u8; VALUE_RECORDS];
     abstractions::depths_into(&work[target..], 0, &mut depths, 0);
     Ways {
@@ -147,21 +147,21 @@ fn find_argument(
 {
     let goal = agenda::goal_at(work, agenda.deferred);
     let argument = ways.argument;
+    let target = goal.target;
     if ways.rigid {
-        if !agenda::heads::heads_agree(pattern, argument, work, goal.target + RECORD * j) {
+        if !agenda::heads::heads_agree(&pattern[argument..], &work[target + RECORD * j..]) {
             return Branch::Failed;
         }
     }
     let depths = ways.depths;
     let depth = records::wide(depths[j]);
-    let placed = place_argument(work, agenda.top, goal.target, j, depth);
+    let placed = place_argument(work, agenda.top, target, j, depth);
     let Walk::Upto(end) = placed else {
         return Branch::Failed;
     };
     let skeleton = ways.skeleton;
     let bytes = skeleton.bytes;
     let n = skeleton.length;
-    let target = goal.target;
     let top = agenda.top;
     if !skeletons::may_be(&bytes[0..n], &work[top..]) {
         return Branch::Failed;
@@ -171,19 +171,15 @@ fn find_argument(
     }
     let head = goal.part + RECORD;
     if ways.lacking {
-        if agenda::locals::misses_local(pattern, head, work, goal.target, agenda.top) {
+        if agenda::locals::misses_local(&pattern[head..], &work[target..], &work[top..]) {
             return Branch::Failed;
         }
     }
-    agenda::put_goal(
-        work,
-        end,
-        agenda::build_goal(head, goal.target, goal.next, agenda.top),
-    );
+    agenda::put_goal(work, end, agenda::build_goal(head, target, goal.next, top));
     agenda::put_goal(
         work,
         end + GOAL,
-        agenda::match_goal(argument, agenda.top, agenda.easy),
+        agenda::match_goal(argument, top, agenda.easy),
     );
     Branch::Next(Agenda {
         top: end + 2 * GOAL,

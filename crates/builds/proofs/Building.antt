@@ -121,7 +121,10 @@ module _ (P W : List ℕ) (s : Agenda) (a : List Entry) where
           (omega (arith, u .short, size-shift 1 0 t)))
           (omega (arith, u .short)) (omega (arith, u .short)) (omega (arith, u .short)))
 
-      -- the places of the target and of the argument lie in the work area
+      -- the places of the part, the target and the argument lie in their tables
+      pub part-within : r .part ≤ length P
+      part-within = from (r .part ≤ length P) (λ gs hs l f t e z. omega (arith, site r gs hs l f t e y z .part .within))
+
       pub target-within : r .target ≤ length W
       target-within = from (r .target ≤ length W) (λ gs hs l f t e z. omega (arith, site r gs hs l f t e y z .target .part .within))
 

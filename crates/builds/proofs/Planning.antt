@@ -14,13 +14,11 @@ use Rattle.terms.specs.Listing.{Line}
 use Rattle.matching.specs.Lists.{Values}
 use Rattle.matching.specs.Goals.{Sweeps, Build, Goal}
 use Rattle.matching.specs.Bodies.{body}
-use Rattle.matching.proofs.Targets.{closed-more}
 use Rattle.matching.proofs.Prune.{replaceAll, one-body}
 use Rattle.matching.proofs.Bodies.{body-all, body-same, body-substitute, copies-size}
 use Rattle.records.specs.Parts.{slice}
 use Rattle.records.proofs.Parts.{whole}
 use Rattle.assignments.specs.declared.Entry.{Entry}
-use Rattle.shifting.proofs.Locals.{marks-at}
 use Rattle.abstractions.specs.Bodies.{Counting, CopiesCounted, chosenIn}
 use Rattle.abstractions.proofs.Bodies.{counting-at, counted-at}
 use Rattle.agenda.specs.declared.Agenda.{Agenda}
@@ -33,30 +31,24 @@ use Rattle.agenda.specs.Moves.{Move, Failed, Branched}
 use Rattle.builds.specs.Choices.{ChosenBody, CopiesAre, Planned}
 use Rattle.builds.specs.Builds.{Builds}
 use Rattle.agenda.specs.Locals.{Locals, Lacks}
+use Rattle.agenda.proofs.Lacking.{all-marks-at, locals-at, lacks-at}
 use Rattle.builds.proofs.Building.{BuildSite, site, opened, from}
 
 module _ (P W : List ℕ) (s : Agenda) (a : List Entry) (ready : Ready relinking P W s a) (x : Builds W s) (r : StoredGoal)
     (y : StoredAt W (s .deferred) r) where
   -- the head leaves one body
-  pub comparing : Locals P (r .part) W (r .argument)
-  comparing = from P W s a ready x (Locals P (r .part) W (r .argument)) (λ gs hs l f t e z.
+  pub comparing : Locals (slice P (r .part)) (slice W (r .argument))
+  comparing = from P W s a ready x (Locals (slice P (r .part)) (slice W (r .argument))) (λ gs hs l f t e z.
       let v = site P W s a r gs hs l f t e y z in
       let u = v .argument in
-      record {
-        part = whole P (r .part) f (v .part);
-        short = ready .bounds .short;
-        target = marks-at W (r .argument) 0 patternRecords e (u .part)
-            (closed-more (patternRecords - suc (size f)) patternRecords e (omega arith) (u .closed))
-            (omega (arith, u .short));
-        place = omega (arith, u .part .within);
-      })
+      locals-at P (r .part) W (r .argument) (whole P (r .part) f (v .part)) (ready .bounds .short)
+      (all-marks-at W (r .argument) (patternRecords - suc (size f)) e (u .part) (omega arith) (u .closed) (omega (arith, u .short))))
 
-  module _ (b : Bool) (h : Lacks P (r .part) W (r .argument) b) (yes : b ≡ true) (m : List ℕ)
+  module _ (b : Bool) (h : Lacks (slice P (r .part)) (slice W (r .argument)) b) (yes : b ≡ true) (m : List ℕ)
       (all : (i : ℕ) → i < valueRecords → getD m i 0 ≡ 1) where
     forced-local : (f t e : Term) → BuildSite P W s r f t e → (j : ℕ) × (uses j e ≡ true) × (uses j f ≡ false)
-    unfolding Lacks
     forced-local f t e v =
-        let k = subst (Lacks P (r .part) W (r .argument)) yes h in
+        let k = lacks-at P (r .part) W (r .argument) b yes h in
         let q = k .1 f e (v .part) (v .argument .part) in
         (k .0, q .1, q .0)
 

@@ -127,7 +127,9 @@ pub fn plan(pattern: &[u8], work: &mut [u8], agenda: Agenda, entries: [Entry; VA
     ensures { λ r. ⌜ Planned (now (pattern .entry)) (now (work .entry)) agenda entries (now (work .exit)) r ⌝ }
 {
     let goal = agenda::goal_at(work, agenda.deferred);
-    if agenda::locals::lacks_local(pattern, goal.part, work, goal.argument) {
+    let part = goal.part;
+    let argument = goal.argument;
+    if agenda::locals::lacks_local(&pattern[part..], &work[argument..]) {
         let every = [1u8; VALUE_RECORDS];
         let branch = body(pattern, work, agenda, entries, every);
         match branch {
@@ -136,7 +138,6 @@ pub fn plan(pattern: &[u8], work: &mut [u8], agenda: Agenda, entries: [Entry; VA
         }
     }
     let target = goal.target;
-    let argument = goal.argument;
     let counted = abstractions::copies(&work[target..], 0, &work[argument..]);
     Plan::Bodies(counted.count)
 }

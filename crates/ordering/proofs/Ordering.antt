@@ -13,6 +13,7 @@ use Rattle.matching.specs.Goals.{Goal, Goal.match, Goal.build, Meets, All}
 use Rattle.matching.specs.Occurrences.{partAt}
 use Rattle.records.specs.Parts.{slice, Part, Whole, Ends}
 use Rattle.records.proofs.Parts.{part-bytes, whole, kind-at, whole-head, whole-argument}
+use Rattle.records.proofs.Slices.{part-slice, whole-slice, slice-length}
 use Rattle.assignments.specs.declared.Entry.{Entry}
 use Rattle.abstractions.specs.Bodies.{Counting}
 use Rattle.abstractions.proofs.Bodies.{counting-at}
@@ -23,10 +24,9 @@ use Rattle.agenda.specs.Stored.{storedBytes, StoredAt, StoredFits}
 use Rattle.agenda.specs.State.{patternAt, nextAt, GoalAt, Easy, Deferred, Node, Chain, weight, weights, Ready}
 use Rattle.ordering.specs.Forwarding.{Forwarded}
 use Rattle.deciding.specs.Deciding.{HasEntries}
-use Rattle.shifting.proofs.Locals.{marks-at}
 use Rattle.agenda.specs.Locals.{Locals}
 use Rattle.ordering.specs.Ordering.{Reaches, Reaches.here, Reaches.further, linked, Branches, Weighs, Ranks, Drops, Dropped}
-use Rattle.matching.proofs.Targets.{closed-more}
+use Rattle.agenda.proofs.Lacking.{all-marks-at, locals-at}
 use Rattle.agenda.proofs.Frame.{Kept, next-kept, target-kept, chain-kept, holds-kept, kept-sets, kept-then, length-stored, goal-stored}
 use Rattle.agenda.proofs.Frame.{chain-match, chain-build}
 
@@ -243,12 +243,17 @@ module _ {P W : List ℕ} {at : ℕ} {r : StoredGoal} (x : Weighs P W at) (y : S
       cases (match p t) z = has p (z .part) (z .suits .0 .0)
       cases (build f t e) z = has f (z .part) (z .suits .0 .0)
 
-  pub weighs-branches : r .kind ≡ 0 → Branches P (r .part) W (r .target)
-  weighs-branches n =
-      record { part = weighs-part; kind = cases (x .goal) (x .stands) (x .deferred); target = weighs-target; most = x .most }
+  pub weighs-branches : r .kind ≡ 0 → Branches (slice P (r .part)) (slice W (r .target))
+  weighs-branches n = record {
+    part = whole-slice P (r .part) weighs-part;
+    kind = cases (x .goal) (x .stands) (x .deferred);
+    target = whole-slice W (r .target) weighs-target;
+    most = omega (arith, x .most, slice-length W (r .target));
+  }
     where
-      cases : (g : Goal) → GoalAt P W (x .top) at g → Deferred g → getD P (r .part) 0 ≡ 0
-      cases (match (app f a) t) z h = rw (y .part) (kind-at P (patternAt W at) (app f a) (z .part))
+      cases : (g : Goal) → GoalAt P W (x .top) at g → Deferred g → getD (slice P (r .part)) 0 0 ≡ 0
+      cases (match (app f a) t) z h =
+          kind-at (slice P (r .part)) 0 (app f a) (part-slice P (r .part) (app f a) (rw (y .part) (z .part)))
       cases (match (lam b) t) z h = absurd h
       cases (match (loc i) t) z h = absurd h
       cases (match (con i) t) z h = absurd h
@@ -271,34 +276,37 @@ module _ {P W : List ℕ} {at : ℕ} {r : StoredGoal} (x : Weighs P W at) (y : S
   pub weighs-copies : ¬ (r .kind ≡ 0) → Counting (slice W (r .target)) 0 (slice W (r .argument))
   weighs-copies n = counting-at W W (r .target) (r .argument) 0 weighs-target (weighs-argument n) (omega (arith, x .most))
 
-  pub weighs-locals : ¬ (r .kind ≡ 0) → Locals P (r .part) W (r .argument)
+  pub weighs-locals : ¬ (r .kind ≡ 0) → Locals (slice P (r .part)) (slice W (r .argument))
   weighs-locals n = cases (x .goal) (x .stands)
     where
-      cases : (g : Goal) → GoalAt P W (x .top) at g → Locals P (r .part) W (r .argument)
+      cases : (g : Goal) → GoalAt P W (x .top) at g → Locals (slice P (r .part)) (slice W (r .argument))
       cases (match p t) z = absurd (n (y .kind ∙ z .kind))
       cases (build f t e) z =
           let u = z .argument in
-          record {
-            part = rw (y .part) (whole P _ f (z .part));
-            short = x .short;
-            target = marks-at W (r .argument) 0 patternRecords e (rw (y .argument) (u .part))
-                (closed-more (patternRecords - suc (size f)) patternRecords e (omega arith) (u .closed)) (omega (arith, u .short));
-            place = omega (arith, y .argument, u .part .within, u .part .some);
-          }
+          locals-at P (r .part) W (r .argument) weighs-part (x .short)
+          (all-marks-at W (r .argument) (patternRecords - suc (size f)) e (rw (y .argument) (u .part)) (omega arith) (u .closed)
+          (omega (arith, u .short)))
 
 -- the candidates of an application
-module _ {P W : List ℕ} {i j : ℕ} (x : Branches P i W j) where
-  pub branches-head : Whole P (i + 4)
-  branches-head = whole-head P i (x .part) (x .kind)
+module _ {P W : List ℕ} (x : Branches P W) where
+  pub branches-head : Whole P 4
+  branches-head = whole-head P 0 (x .part) (x .kind)
 
-  pub branches-argument : {h : ℕ} → Ends P (i + 4) h → Whole P h
-  branches-argument {h} e = whole-argument P i h (x .part) (x .kind) e
+  pub branches-argument : {h : ℕ} → Ends P 4 h → Whole (slice P h) 0
+  branches-argument {h} e = whole-slice P h (whole-argument P 0 h (x .part) (x .kind) e)
 
-  pub branches-part : {end : ℕ} (k : ℕ) → Ends W j end → k < (end - j) / 4 → Whole W (j + 4 * k)
-  branches-part k e h =
+  part-whole : {end : ℕ} (k : ℕ) → Ends W 0 end → k < end / 4 → Whole W (4 * k)
+  part-whole k e h =
       let t = x .target .tree in
       let p = x .target .part in
-      whole W (j + 4 * k) (partAt 0 t k .1) (part-at W j 0 t k p (omega (arith, e .exact t p)))
+      let n : 0 + 4 * k ≡ 4 * k = omega arith in
+      subst (Whole W) n (whole W (0 + 4 * k) (partAt 0 t k .1) (part-at W 0 0 t k p (omega (arith, e .exact t p))))
+
+  pub branches-place : {end : ℕ} (k : ℕ) → Ends W 0 end → k < end / 4 → 4 * k ≤ length W
+  branches-place k e h = omega (arith, part-whole k e h .least)
+
+  pub branches-part : {end : ℕ} (k : ℕ) → Ends W 0 end → k < end / 4 → Whole (slice W (4 * k)) 0
+  branches-part k e h = whole-slice W (4 * k) (part-whole k e h)
 
 -- the steps of a walk over a list
 module _ {P W : List ℕ} {at : ℕ} (x : Ranks P W at) where

@@ -1,7 +1,7 @@
 -- The deferred goals, as a list that is walked over and linked anew.
 --   Reaches W at i                     a list that begins at byte `at` comes to the goal at byte i
 --   linked x n                         the goal x with another one next
---   Branches P i W j                   an application stands in P at byte i, and a term in W at byte j
+--   Branches P W                       P begins with an application, and W with a term
 --   Weighs P W at                      a goal that may be deferred stands in W at byte `at`
 --   Ranks P W at                       a list of deferred goals begins at byte `at`, and has one at least
 --   Drops W top at i                   the goals of a list from byte `at` on can be written anew at `top`, without the one at byte i
@@ -27,10 +27,10 @@ pub data Reaches : List ℕ → ℕ → ℕ → Type 0 where
 abbrev pub linked : StoredGoal → ℕ → StoredGoal
 linked x n = record { part = x .part; kind = x .kind; target = x .target; next = n; argument = x .argument }
 
-pub record Branches (P : List ℕ) (i : ℕ) (W : List ℕ) (j : ℕ) : Type 0 where
-  pub part : Whole P i
-  pub kind : getD P i 0 ≡ applicationKind
-  pub target : Whole W j
+pub record Branches (P W : List ℕ) : Type 0 where
+  pub part : Whole P 0
+  pub kind : getD P 0 0 ≡ applicationKind
+  pub target : Whole W 0
   pub most : length W ≤ tableBytes
 
 pub record Weighs (P W : List ℕ) (at : ℕ) : Type 0 where

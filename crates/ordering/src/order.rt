@@ -35,32 +35,33 @@ fn bodies(copies: usize) -> usize {
     n
 }
 
-// 1 if the part of the pattern at byte `argument` may sweep to the part of work at byte `at`, moved out of binders, and 0 if it can't.
-fn candidate(pattern: &[u8], argument: usize, work: &[u8], at: usize) -> usize
-    requires { ⌜ Whole (now pattern) argument × Whole (now work) at ⌝ }
+// 1 if the term that `argument` begins with may sweep to the one that `target` begins with, moved out of binders, and 0 if it can't.
+fn candidate(argument: &[u8], target: &[u8]) -> usize
+    requires { ⌜ Whole (now argument) 0 × Whole (now target) 0 ⌝ }
     ensures { λ r. ⌜ r ≤ 1 ⌝ }
 {
-    if agenda::heads::heads_agree(pattern, argument, work, at) {
+    if agenda::heads::heads_agree(argument, target) {
         return 1;
     }
     0
 }
 
-// In how many ways the application at byte `part` of the pattern comes to the target, about: the two that need no target for its argument,
-// and one for each part of the target that the argument may sweep to. A flexible argument may sweep to any.
-fn candidates(pattern: &[u8], part: usize, work: &[u8], target: usize) -> usize
-    requires { ⌜ Branches (now pattern) part (now work) target ⌝ }
+// In how many ways the application that `part` begins with comes to the target, about: the two that need no target for its argument, and
+// one for each part of the target that the argument may sweep to. A flexible argument may sweep to any.
+fn candidates(part: &[u8], target: &[u8]) -> usize
+    requires { ⌜ Branches (now part) (now target) ⌝ }
 {
-    let argument = records::end_at(pattern, part + RECORD);
-    let end = records::end_at(work, target);
-    let n = (end - target) / RECORD;
-    if !shifting::is_rigid(&pattern[argument..]) {
+    let at = records::end_at(part, RECORD);
+    let argument = &part[at..];
+    let end = records::end_at(target, 0);
+    let n = end / RECORD;
+    if !shifting::is_rigid(argument) {
         return 2 + n;
     }
     let mut count = 2;
     let mut k = 0;
     while k < n {
-        count += candidate(pattern, argument, work, target + RECORD * k);
+        count += candidate(argument, &target[RECORD * k..]);
         k += 1;
     }
     count
@@ -73,18 +74,18 @@ fn cost(pattern: &[u8], work: &[u8], at: usize, entries: [Entry; VARIABLES]) -> 
 {
     let goal = agenda::goal_at(work, at);
     let part = goal.part;
+    let target = goal.target;
     let end = records::end_at(pattern, part);
     if deciding::is_assigned(&pattern[part..end], entries) {
         return 0;
     }
     if goal.kind == StoredGoal::MATCH {
-        return candidates(pattern, part, work, goal.target);
+        return candidates(&pattern[part..], &work[target..]);
     }
-    if agenda::locals::lacks_local(pattern, part, work, goal.argument) {
+    let argument = goal.argument;
+    if agenda::locals::lacks_local(&pattern[part..], &work[argument..]) {
         return 1;
     }
-    let target = goal.target;
-    let argument = goal.argument;
     let copies = abstractions::copies(&work[target..], 0, &work[argument..]);
     bodies(copies.count)
 }

@@ -136,15 +136,6 @@ mark-false true n = absurd (n refl)
 mark-false false n = refl
 
 -- a part of a table, handed on as a slice
-module _ (l : List ℕ) (at depth : ℕ) where
-  pub marks-at : (n : ℕ) (t : Term) → Part l at t → Closed (depth + n) t → depth + size t ≤ numbers → Marks (slice l at) depth n
-  marks-at n t x c s = marks-of (slice l at) depth n t (part-slice l at t x) c s
-
-  module _ (before after : List ℕ) (r : ℕ) (x : Marked (slice l at) depth before after r) where
-    pub marked-at : (t : Term) → Part l at t → (j : ℕ) → j < length before
-        → getD after j 0 ≡ cond (uses (j + depth) t) 1 (getD before j 0)
-    marked-at t w = x .marks t (part-slice l at t w)
-
-pub marking-at : (l : List ℕ) (at : ℕ) (before after : List ℕ) (r : ℕ) (t : Term) → Zeros before → Marked (slice l at) 0 before after r
-    → Part l at t → Marking (length before) t after
-marking-at l at before after r t z x w = marking (slice l at) before after r t z x (part-slice l at t w)
+pub marks-at : (l : List ℕ) (at depth n : ℕ) (t : Term) → Part l at t → Closed (depth + n) t → depth + size t ≤ numbers
+    → Marks (slice l at) depth n
+marks-at l at depth n t x c s = marks-of (slice l at) depth n t (part-slice l at t x) c s

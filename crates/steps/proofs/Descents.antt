@@ -28,7 +28,6 @@ use Rattle.substitution.specs.Writers.{Source, Wrote}
 use Rattle.sweeping.proofs.Contraction.{closed-fits}
 use Rattle.substitution.proofs.Writers.{source, slice-wrote}
 use Rattle.copying.proofs.Stores.{written-then, stored}
-use Rattle.shifting.proofs.Locals.{marks-at}
 use Rattle.agenda.specs.declared.Agenda.{Agenda}
 use Rattle.agenda.specs.declared.StoredGoal.{StoredGoal}
 use Rattle.agenda.specs.declared.Step.the-variants as step
@@ -37,6 +36,7 @@ use Rattle.agenda.specs.State.{targetBytes, Target, Easy, Deferred, Bounds}
 use Rattle.steps.specs.Steps.{Stepped}
 use Rattle.agenda.specs.Locals.{Locals, Lacks}
 use Rattle.steps.specs.Opening.{Opens, Expandable, Expanded}
+use Rattle.agenda.proofs.Lacking.{all-marks-at, locals-at, lacks-at}
 use Rattle.agenda.proofs.Frame.{Kept, target-kept, chain-kept, holds-kept, part-stored, kept-sets, kept-then, length-stored}
 use Rattle.steps.proofs.Opening.{Opened, opened, pushed, Pushed, dead, replaced}
 
@@ -64,17 +64,12 @@ module _ (P W : List ℕ) (s : Agenda) (a : List Entry) (r : StoredGoal) (x : Op
         room = omega (arith, x .room, b .whole);
       }
 
-  pub locals : Locals P (r .part) W (r .target)
+  pub locals : Locals (slice P (r .part)) (slice W (r .target))
   locals =
       let o = known in
-      record {
-        part = x .part;
-        short = x .ready .bounds .short;
-        target = marks-at W (r .target) 0 patternRecords (o .t) (o .target .part)
-            (closed-more (patternRecords - size (o .p)) (0 + patternRecords) (o .t) (omega arith) (o .target .closed))
-            (omega (arith, o .target .short));
-        place = omega (arith, x .target .least);
-      }
+      locals-at P (r .part) W (r .target) (x .part) (x .ready .bounds .short)
+      (all-marks-at W (r .target) (patternRecords - size (o .p)) (o .t) (o .target .part) (omega arith) (o .target .closed)
+      (omega (arith, o .target .short)))
 
 -- `@ t #0` is written: the shifted target first into an array of its own
 module _ (W : List ℕ) (at o : ℕ) (x : Expandable W at o) where
@@ -350,10 +345,9 @@ module _ (P W : List ℕ) (s : Agenda) (a : List Entry) (r : StoredGoal) (x : Op
               (kept-sets (storedBytes second) Y X (s .top + 8) (s .top + 8) f (omega arith) (omega (arith, x .room, written)))
 
   -- the target has a local that it lacks
-  pub flexible-missed : (b : Bool) → b ≡ true → Lacks P (r .part) W (r .target) b → Stepped P W s a W step.Failed
-  unfolding Lacks
+  pub flexible-missed : (b : Bool) → b ≡ true → Lacks (slice P (r .part)) (slice W (r .target)) b → Stepped P W s a W step.Failed
   flexible-missed b e h =
-      let j : Lacks P (r .part) W (r .target) true = subst (Lacks P (r .part) W (r .target)) e h in
+      let j = lacks-at P (r .part) W (r .target) b e h in
       dead P W s a r x (λ gs hs l y o φ v g z.
       let q = j .1 (o .p) (o .t) (o .part) (o .target .part) in
       no-local φ v (o .p) (o .t) (j .0) (q .0) (q .1) z)

@@ -252,14 +252,16 @@ fn step_flexible(
     requires { ⌜ Opens (now pattern) (now work) agenda entries goal × (getD (now pattern) (goal .part) 0 ≡ applicationKind) ⌝ }
     ensures { λ r. ⌜ Stepped (now (pattern .entry)) (now (work .entry)) agenda entries (now (work .exit)) r ⌝ }
 {
-    if agenda::locals::lacks_local(pattern, goal.part, work, goal.target) {
+    let part = goal.part;
+    let target = goal.target;
+    if agenda::locals::lacks_local(&pattern[part..], &work[target..]) {
         return Step::Failed;
     }
     let top = agenda.top;
     let deferred = StoredGoal {
-        part: goal.part,
+        part,
         kind: StoredGoal::MATCH,
-        target: goal.target,
+        target,
         next: agenda.deferred,
         argument: 0,
     };

@@ -3,9 +3,10 @@
 use mathlib.Core.Path.{_∙_}
 use borrow.Author.Tests.{not-true}
 use native.Mathlib.Omega.{arith}
-use Rattle.alternatives.proofs.Applications.{stored-bounds, argument-whole, argument-ends, fits-match, fits-build}
-use Rattle.alternatives.proofs.Arguments.{placed-at, places, depth, few-records, part-whole, unlike, no-argument, ending, looks}
-use Rattle.alternatives.proofs.Arguments.{top-whole, target-within, top-within}
+use Rattle.alternatives.proofs.Applications.{stored-bounds, head-place, argument-whole, argument-place, argument-whole-slice}
+use Rattle.alternatives.proofs.Applications.{argument-ends, fits-match, fits-build}
+use Rattle.alternatives.proofs.Arguments.{places, depth, few-records, part-place, part-whole-slice, unlike, no-argument}
+use Rattle.alternatives.proofs.Arguments.{ending, looks, top-whole, target-within, top-within}
 use Rattle.alternatives.proofs.Arguments.{comparable, unfitting, again, lacking, found}
 use Rattle.deciding.proofs.Refutations.{skeleton-comparable}
 use borrow.Author.Needs.{needs}
@@ -25,20 +26,38 @@ place-before c = search
 goal-at-requires : tie.Need-goal-at-requires
 goal-at-requires c κs = search needs
 
+sub-heads-agree : tie.Need-sub-heads-agree
+sub-heads-agree c = search (needs, argument-place, argument-ends)
+
+part-heads-agree-start : tie.Need-part-heads-agree-start
+part-heads-agree-start c = search (needs, argument-place, argument-ends)
+
+part-heads-agree-end : tie.Need-part-heads-agree-end
+part-heads-agree-end c = search needs
+
 mul-heads-agree : tie.Need-mul-heads-agree
 mul-heads-agree c =
     let goal-at : tie.After-goal-at = search in
     let start : tie.Start = search in
-    omega (arith, part-whole _ _ _ _ (start .pre .0) _ (goal-at .goal-at .ensures .0) _ _ (start .pre .1) (start .pre .2) .least)
+    omega (arith, part-place _ _ _ _ (start .pre .0) _ (goal-at .goal-at .ensures .0) _ _ (start .pre .1) (start .pre .2))
 
 add-heads-agree : tie.Need-add-heads-agree
 add-heads-agree c =
     let goal-at : tie.After-goal-at = search in
     let start : tie.Start = search in
-    omega (arith, part-whole _ _ _ _ (start .pre .0) _ (goal-at .goal-at .ensures .0) _ _ (start .pre .1) (start .pre .2) .least)
+    omega (arith, part-place _ _ _ _ (start .pre .0) _ (goal-at .goal-at .ensures .0) _ _ (start .pre .1) (start .pre .2))
+
+sub-heads-agree-2 : tie.Need-sub-heads-agree-2
+sub-heads-agree-2 c = search (needs, part-place)
+
+part-heads-agree-start-2 : tie.Need-part-heads-agree-start-2
+part-heads-agree-start-2 c = search (needs, part-place)
+
+part-heads-agree-end-2 : tie.Need-part-heads-agree-end-2
+part-heads-agree-end-2 c = search needs
 
 heads-agree-requires : tie.Need-heads-agree-requires
-heads-agree-requires c κs = search (needs, argument-whole, argument-ends, part-whole)
+heads-agree-requires c κs = search (needs, argument-whole-slice, argument-ends, part-whole-slice)
 
 same-length : tie.Need-same-length
 same-length c = search needs
@@ -83,28 +102,10 @@ part-may-be-end : tie.Need-part-may-be-end
 part-may-be-end c = search needs
 
 sub-may-be-2 : tie.Need-sub-may-be-2
-sub-may-be-2 c =
-    let placed : tie.After-placed = search in
-    let place-argument : tie.After-place-argument = search in
-    let goal-at : tie.After-goal-at = search in
-    let start : tie.Start = search in
-    omega (
-      arith,
-      top-within _ _ _ _ (start .pre .0) _ (goal-at .goal-at .ensures .0) _ _ _
-          (placed-at _ _ _ _ _ _ _ (place-argument .place-argument .ensures) (placed .placed .given .1)),
-    )
+sub-may-be-2 c = search (needs, top-within)
 
 part-may-be-start-2 : tie.Need-part-may-be-start-2
-part-may-be-start-2 c =
-    let placed : tie.After-placed = search in
-    let place-argument : tie.After-place-argument = search in
-    let goal-at : tie.After-goal-at = search in
-    let start : tie.Start = search in
-    omega (
-      arith,
-      top-within _ _ _ _ (start .pre .0) _ (goal-at .goal-at .ensures .0) _ _ _
-          (placed-at _ _ _ _ _ _ _ (place-argument .place-argument .ensures) (placed .placed .given .1)),
-    )
+part-may-be-start-2 c = search (needs, top-within)
 
 part-may-be-end-2 : tie.Need-part-may-be-end-2
 part-may-be-end-2 c = search needs
@@ -115,10 +116,10 @@ may-be-requires c κs =
     let place-argument : tie.After-place-argument = search in
     let goal-at : tie.After-goal-at = search in
     let start : tie.Start = search in
-    let l = top-whole _ _ _ _ (start .pre .0) _ (goal-at .goal-at .ensures .0) _ _ _
-    (placed-at _ _ _ _ _ _ _ (place-argument .place-argument .ensures) (placed .placed .given .1)) in
-    let e = ending _ _ _ _ (start .pre .0) _ (goal-at .goal-at .ensures .0) _ _ _
-    (placed-at _ _ _ _ _ _ _ (place-argument .place-argument .ensures) (placed .placed .given .1)) in
+    let l = top-whole _ _ _ _ (start .pre .0) _ (goal-at .goal-at .ensures .0) _ _ _ _
+    (place-argument .place-argument .ensures) (placed .placed .given .1) in
+    let e = ending _ _ _ _ (start .pre .0) _ (goal-at .goal-at .ensures .0) _ _ _ _
+    (place-argument .place-argument .ensures) (placed .placed .given .1) in
     skeleton-comparable _ _ (start .pre .1 .skeleton-table) _ _ l (omega (arith, e .whole))
 
 same-length-3 : tie.Need-same-length-3
@@ -130,72 +131,29 @@ returns-3 c =
     let place-argument : tie.After-place-argument = search in
     let goal-at : tie.After-goal-at = search in
     let start : tie.Start = search in
-    unfitting _ _ _ _ (start .pre .0) _ (goal-at .goal-at .ensures .0) _ _ _
-    (placed-at _ _ _ _ _ _ _ (place-argument .place-argument .ensures) (placed .placed .given .1)) _ (start .pre .1) _
-    (c .before .may-be .ensures) (not-true _ (c .if3 .taken))
+    unfitting _ _ _ _ (start .pre .0) _ (goal-at .goal-at .ensures .0) _ _ _ _ (place-argument .place-argument .ensures)
+    (placed .placed .given .1) _ (start .pre .1) _ (c .before .may-be .ensures) (not-true _ (c .if3 .taken))
 
 sub-occurs-before : tie.Need-sub-occurs-before
-sub-occurs-before c =
-    let placed : tie.After-placed = search in
-    let place-argument : tie.After-place-argument = search in
-    let goal-at : tie.After-goal-at = search in
-    let start : tie.Start = search in
-    omega (
-      arith,
-      target-within _ _ _ _ (start .pre .0) _ (goal-at .goal-at .ensures .0) _ _ _
-          (placed-at _ _ _ _ _ _ _ (place-argument .place-argument .ensures) (placed .placed .given .1)),
-    )
+sub-occurs-before c = search (needs, target-within)
 
 part-occurs-before-start : tie.Need-part-occurs-before-start
-part-occurs-before-start c =
-    let placed : tie.After-placed = search in
-    let place-argument : tie.After-place-argument = search in
-    let goal-at : tie.After-goal-at = search in
-    let start : tie.Start = search in
-    omega (
-      arith,
-      target-within _ _ _ _ (start .pre .0) _ (goal-at .goal-at .ensures .0) _ _ _
-          (placed-at _ _ _ _ _ _ _ (place-argument .place-argument .ensures) (placed .placed .given .1)),
-    )
+part-occurs-before-start c = search (needs, target-within)
 
 part-occurs-before-end : tie.Need-part-occurs-before-end
 part-occurs-before-end c = search needs
 
 sub-occurs-before-2 : tie.Need-sub-occurs-before-2
-sub-occurs-before-2 c =
-    let placed : tie.After-placed = search in
-    let place-argument : tie.After-place-argument = search in
-    let goal-at : tie.After-goal-at = search in
-    let start : tie.Start = search in
-    omega (
-      arith,
-      top-within _ _ _ _ (start .pre .0) _ (goal-at .goal-at .ensures .0) _ _ _
-          (placed-at _ _ _ _ _ _ _ (place-argument .place-argument .ensures) (placed .placed .given .1)),
-    )
+sub-occurs-before-2 c = search (needs, top-within)
 
 part-occurs-before-start-2 : tie.Need-part-occurs-before-start-2
-part-occurs-before-start-2 c =
-    let placed : tie.After-placed = search in
-    let place-argument : tie.After-place-argument = search in
-    let goal-at : tie.After-goal-at = search in
-    let start : tie.Start = search in
-    omega (
-      arith,
-      top-within _ _ _ _ (start .pre .0) _ (goal-at .goal-at .ensures .0) _ _ _
-          (placed-at _ _ _ _ _ _ _ (place-argument .place-argument .ensures) (placed .placed .given .1)),
-    )
+part-occurs-before-start-2 c = search (needs, top-within)
 
 part-occurs-before-end-2 : tie.Need-part-occurs-before-end-2
 part-occurs-before-end-2 c = search needs
 
 occurs-before-requires : tie.Need-occurs-before-requires
-occurs-before-requires c κs =
-    let placed : tie.After-placed = search in
-    let place-argument : tie.After-place-argument = search in
-    let goal-at : tie.After-goal-at = search in
-    let start : tie.Start = search in
-    looks _ _ _ _ (start .pre .0) _ (goal-at .goal-at .ensures .0) _ _ _
-    (placed-at _ _ _ _ _ _ _ (place-argument .place-argument .ensures) (placed .placed .given .1))
+occurs-before-requires c κs = search (needs, looks)
 
 same-length-4 : tie.Need-same-length-4
 same-length-4 c = search needs
@@ -206,21 +164,51 @@ returns-4 c =
     let place-argument : tie.After-place-argument = search in
     let goal-at : tie.After-goal-at = search in
     let start : tie.Start = search in
-    again _ _ _ _ (start .pre .0) _ (goal-at .goal-at .ensures .0) _ _ _
-    (placed-at _ _ _ _ _ _ _ (place-argument .place-argument .ensures) (placed .placed .given .1)) _ (c .before .occurs-before .ensures)
-    (c .if4 .taken)
+    again _ _ _ _ (start .pre .0) _ (goal-at .goal-at .ensures .0) _ _ _ _ (place-argument .place-argument .ensures)
+    (placed .placed .given .1) _ (c .before .occurs-before .ensures) (c .if4 .taken)
 
 add-head : tie.Need-add-head
 add-head c = search needs
 
+sub-misses-local : tie.Need-sub-misses-local
+sub-misses-local c = search (needs, head-place)
+
+part-misses-local-start : tie.Need-part-misses-local-start
+part-misses-local-start c = search (needs, head-place)
+
+part-misses-local-end : tie.Need-part-misses-local-end
+part-misses-local-end c = search needs
+
+sub-misses-local-2 : tie.Need-sub-misses-local-2
+sub-misses-local-2 c =
+    let placed : tie.After-placed = search in
+    search (needs, target-within)
+
+part-misses-local-start-2 : tie.Need-part-misses-local-start-2
+part-misses-local-start-2 c =
+    let placed : tie.After-placed = search in
+    search (needs, target-within)
+
+part-misses-local-end-2 : tie.Need-part-misses-local-end-2
+part-misses-local-end-2 c = search needs
+
+sub-misses-local-3 : tie.Need-sub-misses-local-3
+sub-misses-local-3 c =
+    let placed : tie.After-placed = search in
+    search (needs, top-within)
+
+part-misses-local-start-3 : tie.Need-part-misses-local-start-3
+part-misses-local-start-3 c =
+    let placed : tie.After-placed = search in
+    search (needs, top-within)
+
+part-misses-local-end-3 : tie.Need-part-misses-local-end-3
+part-misses-local-end-3 c = search needs
+
 misses-local-requires : tie.Need-misses-local-requires
 misses-local-requires c κs =
     let placed : tie.After-placed = search in
-    let place-argument : tie.After-place-argument = search in
-    let goal-at : tie.After-goal-at = search in
-    let start : tie.Start = search in
-    comparable _ _ _ _ (start .pre .0) _ (goal-at .goal-at .ensures .0) _ _ _
-    (placed-at _ _ _ _ _ _ _ (place-argument .place-argument .ensures) (placed .placed .given .1))
+    search (needs, comparable)
 
 same-length-5 : tie.Need-same-length-5
 same-length-5 c = search needs
@@ -231,9 +219,8 @@ returns-5 c =
     let place-argument : tie.After-place-argument = search in
     let goal-at : tie.After-goal-at = search in
     let start : tie.Start = search in
-    lacking _ _ _ _ (start .pre .0) _ (goal-at .goal-at .ensures .0) _ _ _
-    (placed-at _ _ _ _ _ _ _ (place-argument .place-argument .ensures) (placed .placed .given .1)) _ (c .before .misses-local .ensures)
-    (c .if6 .taken)
+    lacking _ _ _ _ (start .pre .0) _ (goal-at .goal-at .ensures .0) _ _ _ _ (place-argument .place-argument .ensures)
+    (placed .placed .given .1) _ (c .before .misses-local .ensures) (c .if6 .taken)
 
 build-goal-requires : tie.Need-build-goal-requires
 build-goal-requires c κs = search needs
@@ -246,8 +233,8 @@ put-goal-requires c κs =
     let goal-at = stored-before placed in
     let start : tie.Start = search in
     let n = stored-bounds _ _ _ _ (start .pre .0) _ (goal-at .goal-at .ensures .0) in
-    let e = ending _ _ _ _ (start .pre .0) _ (goal-at .goal-at .ensures .0) _ _ _
-    (placed-at _ _ _ _ _ _ _ (place-argument .place-argument .ensures) (placed .placed .given .1)) in (
+    let e = ending _ _ _ _ (start .pre .0) _ (goal-at .goal-at .ensures .0) _ _ _ _
+    (place-argument .place-argument .ensures) (placed .placed .given .1) in (
       omega (arith, n .room, e .most, e .whole),
       fits-build _ _ _ _ _ (c .build-goal .ensures) (omega (arith, n .part-low, start .pre .0 .ready .bounds .short))
           (omega (arith, n .target-low, start .pre .0 .ready .bounds .top))
@@ -262,8 +249,8 @@ add-put-goal c =
     let place-argument = place-before placed in
     let goal-at = stored-before placed in
     let start : tie.Start = search in
-    let e = ending _ _ _ _ (start .pre .0) _ (goal-at .goal-at .ensures .0) _ _ _
-    (placed-at _ _ _ _ _ _ _ (place-argument .place-argument .ensures) (placed .placed .given .1)) in
+    let e = ending _ _ _ _ (start .pre .0) _ (goal-at .goal-at .ensures .0) _ _ _ _
+    (place-argument .place-argument .ensures) (placed .placed .given .1) in
     search needs
 
 match-goal-requires : tie.Need-match-goal-requires
@@ -277,8 +264,8 @@ put-goal-requires-2 c κs =
     let goal-at = stored-before placed in
     let start : tie.Start = search in
     let n = stored-bounds _ _ _ _ (start .pre .0) _ (goal-at .goal-at .ensures .0) in
-    let e = ending _ _ _ _ (start .pre .0) _ (goal-at .goal-at .ensures .0) _ _ _
-    (placed-at _ _ _ _ _ _ _ (place-argument .place-argument .ensures) (placed .placed .given .1)) in (
+    let e = ending _ _ _ _ (start .pre .0) _ (goal-at .goal-at .ensures .0) _ _ _ _
+    (place-argument .place-argument .ensures) (placed .placed .given .1) in (
       omega (arith, n .room, e .most, e .whole),
       fits-match _ _ _ _ (c .match-goal .ensures) (omega (
         arith,
@@ -289,29 +276,29 @@ put-goal-requires-2 c κs =
           (omega (arith, start .pre .0 .ready .bounds .easy-room, start .pre .0 .ready .bounds .top)),
     )
 
-mul-t35 : tie.Need-mul-t35
-mul-t35 c = search needs
+mul-t41 : tie.Need-mul-t41
+mul-t41 c = search needs
 
-add-t39 : tie.Need-add-t39
-add-t39 c =
+add-t45 : tie.Need-add-t45
+add-t45 c =
     let else4 : tie.Else4 = search in
     let placed = placed-before else4 in
     let place-argument = place-before placed in
     let goal-at = stored-before placed in
     let start : tie.Start = search in
-    let e = ending _ _ _ _ (start .pre .0) _ (goal-at .goal-at .ensures .0) _ _ _
-    (placed-at _ _ _ _ _ _ _ (place-argument .place-argument .ensures) (placed .placed .given .1)) in
+    let e = ending _ _ _ _ (start .pre .0) _ (goal-at .goal-at .ensures .0) _ _ _ _
+    (place-argument .place-argument .ensures) (placed .placed .given .1) in
     omega (arith, e .most, start .pre .0 .ready .bounds .top)
 
-add-t59 : tie.Need-add-t59
-add-t59 c =
+add-t75 : tie.Need-add-t75
+add-t75 c =
     let else4 : tie.Else4 = search in
     let placed = placed-before else4 in
     let place-argument = place-before placed in
     let goal-at = stored-before placed in
     let start : tie.Start = search in
-    let e = ending _ _ _ _ (start .pre .0) _ (goal-at .goal-at .ensures .0) _ _ _
-    (placed-at _ _ _ _ _ _ _ (place-argument .place-argument .ensures) (placed .placed .given .1)) in
+    let e = ending _ _ _ _ (start .pre .0) _ (goal-at .goal-at .ensures .0) _ _ _ _
+    (place-argument .place-argument .ensures) (placed .placed .given .1) in
     omega (arith, e .most, start .pre .0 .ready .bounds .top)
 
 same-length-6 : tie.Need-same-length-6
@@ -332,8 +319,8 @@ returns-6 c =
     let goal-at = stored-before placed in
     let start : tie.Start = search in
     let place-argument = place-before placed in
-    found _ _ _ _ (start .pre .0) _ (goal-at .goal-at .ensures .0) _ _ _
-    (placed-at _ _ _ _ _ _ _ (place-argument .place-argument .ensures) (placed .placed .given .1)) _ _ _ _ _ _
+    found _ _ _ _ (start .pre .0) _ (goal-at .goal-at .ensures .0) _ _ _ _
+    (place-argument .place-argument .ensures) (placed .placed .given .1) _ _ _ _ _ _
     (argument-ends _ _ _ _ (start .pre .0) _ (goal-at .goal-at .ensures .0) _ (start .pre .1)) (occurs-before .occurs-before .ensures)
     (else4 .if4 .left) (build-goal .build-goal .ensures) (c .before .before .before .match-goal .ensures) (put-goal .put-goal .ensures)
     (c .before .before .put-goal2 .ensures)
@@ -343,8 +330,14 @@ find-argument-spec =
     tie.close
     (tie.spec
     goal-at-requires
+    sub-heads-agree
+    part-heads-agree-start
+    part-heads-agree-end
     mul-heads-agree
     add-heads-agree
+    sub-heads-agree-2
+    part-heads-agree-start-2
+    part-heads-agree-end-2
     heads-agree-requires
     same-length
     returns
@@ -374,6 +367,15 @@ find-argument-spec =
     same-length-4
     returns-4
     add-head
+    sub-misses-local
+    part-misses-local-start
+    part-misses-local-end
+    sub-misses-local-2
+    part-misses-local-start-2
+    part-misses-local-end-2
+    sub-misses-local-3
+    part-misses-local-start-3
+    part-misses-local-end-3
     misses-local-requires
     same-length-5
     returns-5
@@ -382,8 +384,8 @@ find-argument-spec =
     add-put-goal
     match-goal-requires
     put-goal-requires-2
-    mul-t35
-    add-t39
-    add-t59
+    mul-t41
+    add-t45
+    add-t75
     same-length-6
     returns-6)

@@ -1,7 +1,7 @@
 -- `alternatives::ways` meets its contract. The end of the target tells how many records it has, and the end of the head where the
 -- argument begins, whose skeleton is a skeleton in every state that stands there. Assumes nothing.
 use Rattle.alternatives.proofs.Applications.{stored-bounds, argument-walkable, argument-source, locals, counted}
-use Rattle.alternatives.proofs.Applications.{depths-room, target-place, argument-place, argument-whole-slice}
+use Rattle.alternatives.proofs.Applications.{head-place, depths-room, target-place, argument-place, argument-whole-slice}
 use borrow.Author.Needs.{needs}
 use Rattle.alternatives.proofs.ways.Statement.{statement}
 use Rattle.alternatives.proofs.ways.Tie as tie
@@ -45,6 +45,24 @@ ask-part-requires c κs =
 skeleton-of-requires : tie.Need-skeleton-of-requires
 skeleton-of-requires c κs = search (needs, argument-source)
 
+sub-lacks-local : tie.Need-sub-lacks-local
+sub-lacks-local c = search (needs, head-place)
+
+part-lacks-local-start : tie.Need-part-lacks-local-start
+part-lacks-local-start c = search (needs, head-place)
+
+part-lacks-local-end : tie.Need-part-lacks-local-end
+part-lacks-local-end c = search needs
+
+sub-lacks-local-2 : tie.Need-sub-lacks-local-2
+sub-lacks-local-2 c = search (needs, target-place)
+
+part-lacks-local-start-2 : tie.Need-part-lacks-local-start-2
+part-lacks-local-start-2 c = search (needs, target-place)
+
+part-lacks-local-end-2 : tie.Need-part-lacks-local-end-2
+part-lacks-local-end-2 c = search needs
+
 lacks-local-requires : tie.Need-lacks-local-requires
 lacks-local-requires c κs = search (needs, locals)
 
@@ -66,8 +84,8 @@ depths-into-requires c κs = search (needs, depths-room)
 sub-t17 : tie.Need-sub-t17
 sub-t17 c = search needs
 
-add-t26 : tie.Need-add-t26
-add-t26 c = search needs
+add-t32 : tie.Need-add-t32
+add-t32 c = search needs
 
 returns : tie.Need-returns
 returns c = search (needs, counted)
@@ -86,6 +104,12 @@ ways-spec =
     is-rigid-requires
     ask-part-requires
     skeleton-of-requires
+    sub-lacks-local
+    part-lacks-local-start
+    part-lacks-local-end
+    sub-lacks-local-2
+    part-lacks-local-start-2
+    part-lacks-local-end-2
     lacks-local-requires
     sub-depths-into
     part-depths-into-start
@@ -93,5 +117,5 @@ ways-spec =
     slice-aggregate-depths-into
     depths-into-requires
     sub-t17
-    add-t26
+    add-t32
     returns)

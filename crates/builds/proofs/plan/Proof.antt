@@ -1,7 +1,7 @@
 -- `builds::plan` meets its contract. Each way out is one law: one body is left, or the bodies are counted. Assumes nothing.
 use lib.ListN.{getD-replicate}
 use Rattle.terms.specs.Figures.{valueRecords}
-use Rattle.builds.proofs.Building.{target-within, argument-within}
+use Rattle.builds.proofs.Building.{part-within, target-within, argument-within}
 use Rattle.builds.proofs.Planning.{comparing, forced-dead, forced-live, counting, bodies}
 use borrow.Author.Needs.{needs}
 use Rattle.builds.proofs.plan.Statement.{statement}
@@ -9,6 +9,24 @@ use Rattle.builds.proofs.plan.Tie as tie
 
 goal-at-requires : tie.Need-goal-at-requires
 goal-at-requires c κs = search needs
+
+sub-lacks-local : tie.Need-sub-lacks-local
+sub-lacks-local c = search (needs, part-within)
+
+part-lacks-local-start : tie.Need-part-lacks-local-start
+part-lacks-local-start c = search (needs, part-within)
+
+part-lacks-local-end : tie.Need-part-lacks-local-end
+part-lacks-local-end c = search needs
+
+sub-lacks-local-2 : tie.Need-sub-lacks-local-2
+sub-lacks-local-2 c = search (needs, argument-within)
+
+part-lacks-local-start-2 : tie.Need-part-lacks-local-start-2
+part-lacks-local-start-2 c = search (needs, argument-within)
+
+part-lacks-local-end-2 : tie.Need-part-lacks-local-end-2
+part-lacks-local-end-2 c = search needs
 
 lacks-local-requires : tie.Need-lacks-local-requires
 lacks-local-requires c κs = search (needs, comparing)
@@ -66,6 +84,12 @@ plan-spec =
     tie.close
     (tie.spec
     goal-at-requires
+    sub-lacks-local
+    part-lacks-local-start
+    part-lacks-local-end
+    sub-lacks-local-2
+    part-lacks-local-start-2
+    part-lacks-local-end-2
     lacks-local-requires
     body-requires
     enum-told

@@ -5,6 +5,24 @@ use borrow.Author.Needs.{needs}
 use Rattle.steps.proofs.step_flexible.Statement.{statement}
 use Rattle.steps.proofs.step_flexible.Tie as tie
 
+sub-lacks-local : tie.Need-sub-lacks-local
+sub-lacks-local c = search needs
+
+part-lacks-local-start : tie.Need-part-lacks-local-start
+part-lacks-local-start c = search needs
+
+part-lacks-local-end : tie.Need-part-lacks-local-end
+part-lacks-local-end c = search needs
+
+sub-lacks-local-2 : tie.Need-sub-lacks-local-2
+sub-lacks-local-2 c = search needs
+
+part-lacks-local-start-2 : tie.Need-part-lacks-local-start-2
+part-lacks-local-start-2 c = search needs
+
+part-lacks-local-end-2 : tie.Need-part-lacks-local-end-2
+part-lacks-local-end-2 c = search needs
+
 lacks-local-requires : tie.Need-lacks-local-requires
 lacks-local-requires c κs = search (needs, locals)
 
@@ -17,8 +35,8 @@ returns c = search (needs, flexible-missed)
 put-goal-requires : tie.Need-put-goal-requires
 put-goal-requires c κs = search needs
 
-add-t14 : tie.Need-add-t14
-add-t14 c = search needs
+add-t12 : tie.Need-add-t12
+add-t12 c = search needs
 
 same-length-2 : tie.Need-same-length-2
 same-length-2 c = search needs
@@ -30,10 +48,16 @@ pub step-flexible-spec : {M : Type 1} → statement M
 step-flexible-spec =
     tie.close
     (tie.spec
+    sub-lacks-local
+    part-lacks-local-start
+    part-lacks-local-end
+    sub-lacks-local-2
+    part-lacks-local-start-2
+    part-lacks-local-end-2
     lacks-local-requires
     same-length
     returns
     put-goal-requires
-    add-t14
+    add-t12
     same-length-2
     returns-2)

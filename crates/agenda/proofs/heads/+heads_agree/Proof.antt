@@ -1,11 +1,9 @@
 -- `agenda::heads::heads_agree` meets its contract. Each record is read once, and of two applications the heads are compared; the
--- measure is what is left of the pattern. Assumes nothing.
-use Prim.Native.Nat.{_-_}
+-- measure is the length of the part's slice. Assumes nothing.
 use lib.ListN.{length}
-use native.Mathlib.Omega.{arith}
-use Rattle.records.proofs.Parts.{whole-head}
-use Rattle.agenda.proofs.Agreement.{agree, agree-other, agree-application, agree-constant}
-use mathlib.Core.Path.{sym, _∙_}
+use Rattle.records.proofs.Slices.{head-slice}
+use Rattle.shifting.proofs.Slices.{shorter}
+use Rattle.agenda.proofs.Agreement.{agree, agree-other, target-head, agree-application, agree-constant}
 use borrow.Author.Needs.{needs}
 use Prim.Native.Nat.{ℕ, _<_}
 use borrow.Fn.Kinds.{In, Out}
@@ -18,7 +16,7 @@ use Rattle.agenda.proofs.heads.+heads_agree.{statement}
 use Rattle.agenda.proofs.heads.+heads_agree.Tie.{close}
 
 abbrev μ-heads-agree : Measures 2 heads-agree-kinds.ps ℕ
-μ-heads-agree κs a = length (a .0 .now) - a .1 .0
+μ-heads-agree κs a = length (a .0 .now)
 
 abbrev heads-agree-at : ℕ → In 2 heads-agree-kinds.ps
 heads-agree-at t =
@@ -47,21 +45,28 @@ heads-agree-shared-slice-read-if1 : (t : ℕ) → heads-agree-in t heads-agree-l
 heads-agree-shared-slice-read-if1 t c = search needs
 
 heads-agree-returns : (t : ℕ) → heads-agree-in t heads-agree-lts.Need-returns
-heads-agree-returns t c = agree-other _ _ _ _ (c .if1 .taken)
+heads-agree-returns t c = agree-other _ _ (c .if1 .taken)
 
-heads-agree-add-heads-agree : (t : ℕ) → heads-agree-in t heads-agree-lts.Need-add-heads-agree
-heads-agree-add-heads-agree t c = search needs
+heads-agree-sub-heads-agree : (t : ℕ) → heads-agree-in t heads-agree-lts.Need-sub-heads-agree
+heads-agree-sub-heads-agree t c = search needs
 
-heads-agree-add-heads-agree-2 : (t : ℕ) → heads-agree-in t heads-agree-lts.Need-add-heads-agree-2
-heads-agree-add-heads-agree-2 t c = search needs
+heads-agree-part-heads-agree-start : (t : ℕ) → heads-agree-in t heads-agree-lts.Need-part-heads-agree-start
+heads-agree-part-heads-agree-start t c = search needs
+
+heads-agree-part-heads-agree-end : (t : ℕ) → heads-agree-in t heads-agree-lts.Need-part-heads-agree-end
+heads-agree-part-heads-agree-end t c = search needs
+
+heads-agree-sub-heads-agree-2 : (t : ℕ) → heads-agree-in t heads-agree-lts.Need-sub-heads-agree-2
+heads-agree-sub-heads-agree-2 t c = search needs
+
+heads-agree-part-heads-agree-start-2 : (t : ℕ) → heads-agree-in t heads-agree-lts.Need-part-heads-agree-start-2
+heads-agree-part-heads-agree-start-2 t c = search needs
+
+heads-agree-part-heads-agree-end-2 : (t : ℕ) → heads-agree-in t heads-agree-lts.Need-part-heads-agree-end-2
+heads-agree-part-heads-agree-end-2 t c = search needs
 
 heads-agree-heads-agree-requires : (t : ℕ) → heads-agree-in t heads-agree-lts.Need-heads-agree-requires
-heads-agree-heads-agree-requires t c κs =
-    let else1 : heads-agree-in t heads-agree-lts.Else1 = search in
-    let start : heads-agree-in t heads-agree-lts.Start = search in (
-      omega arith,
-      (whole-head _ _ (start .pre .1 .0) (c .if2 .taken), whole-head _ _ (start .pre .1 .1) (sym (else1 .if1 .left) ∙ c .if2 .taken)),
-    )
+heads-agree-heads-agree-requires t c κs = (search (needs, shorter), search (needs, head-slice, target-head))
 
 heads-agree-returns-2 : (t : ℕ) → heads-agree-in t heads-agree-lts.Need-returns-2
 heads-agree-returns-2 t c = search (needs, agree-application)
@@ -76,7 +81,7 @@ heads-agree-returns-3 : (t : ℕ) → heads-agree-in t heads-agree-lts.Need-retu
 heads-agree-returns-3 t c = search (needs, agree-constant)
 
 heads-agree-returns-4 : (t : ℕ) → heads-agree-in t heads-agree-lts.Need-returns-4
-heads-agree-returns-4 t c = agree _ _ _ _
+heads-agree-returns-4 t c = agree _ _
 
 pub +heads-agree-spec : {M : Type 1} → statement M
 +heads-agree-spec = close μ-heads-agree λ t. heads-agree-lts.spec (
@@ -90,8 +95,12 @@ pub +heads-agree-spec : {M : Type 1} → statement M
     (heads-agree-shared-slice-read-kind t)
     (heads-agree-shared-slice-read-if1 t)
     (heads-agree-returns t)
-    (heads-agree-add-heads-agree t)
-    (heads-agree-add-heads-agree-2 t)
+    (heads-agree-sub-heads-agree t)
+    (heads-agree-part-heads-agree-start t)
+    (heads-agree-part-heads-agree-end t)
+    (heads-agree-sub-heads-agree-2 t)
+    (heads-agree-part-heads-agree-start-2 t)
+    (heads-agree-part-heads-agree-end-2 t)
     (heads-agree-heads-agree-requires t)
     (heads-agree-returns-2 t)
     (heads-agree-number-at-requires t)

@@ -6,7 +6,7 @@ use Rattle.agenda.proofs.locals.is_missing.Statement.{statement}
 use Rattle.agenda.proofs.locals.is_missing.Tie as tie
 
 returns : tie.Need-returns
-returns c = missing-none _ _ _ _ _
+returns c = missing-none _ _ _ _
 
 is-unused-requires : tie.Need-is-unused-requires
 is-unused-requires c κs = search needs

@@ -8,19 +8,10 @@ use Rattle.agenda.proofs.locals.lacks_local.Statement.{statement}
 use Rattle.agenda.proofs.locals.lacks_local.Tie as tie
 
 abbrev Inv-loop : tie.InvT-loop
-Inv-loop p i work j marks k₀ k = k ≤ patternRecords
+Inv-loop part target marks k₀ k = k ≤ patternRecords
 
 abbrev μ-loop : tie.MeasureT-loop
-μ-loop p i work j marks k₀ k = patternRecords - k
-
-sub-loose-locals : tie.Need-sub-loose-locals Inv-loop μ-loop
-sub-loose-locals c = search needs
-
-part-loose-locals-start : tie.Need-part-loose-locals-start Inv-loop μ-loop
-part-loose-locals-start c = search needs
-
-part-loose-locals-end : tie.Need-part-loose-locals-end Inv-loop μ-loop
-part-loose-locals-end c = search needs
+μ-loop part target marks k₀ k = patternRecords - k
 
 slice-aggregate-loose-locals : tie.Need-slice-aggregate-loose-locals Inv-loop μ-loop
 slice-aggregate-loose-locals c = search needs
@@ -50,7 +41,7 @@ loop-again : tie.Need-loop-again Inv-loop μ-loop
 loop-again c = search needs
 
 returns-2 : tie.Need-returns-2 Inv-loop μ-loop
-returns-2 c = lacks-none _ _ _ _
+returns-2 c = lacks-none _ _
 
 pub lacks-local-spec : {M : Type 1} → statement M
 lacks-local-spec =
@@ -58,9 +49,6 @@ lacks-local-spec =
     (tie.spec
     Inv-loop
     μ-loop
-    sub-loose-locals
-    part-loose-locals-start
-    part-loose-locals-end
     slice-aggregate-loose-locals
     loose-locals-requires
     loop-holds

@@ -1,40 +1,23 @@
 -- `agenda::locals::misses_local` meets its contract. The loop stops at the first local that is missing; only that answer says
 -- something. Assumes nothing.
 use Prim.Native.Nat.{_≤_, _-_}
+use Rattle.terms.specs.Figures.{patternRecords}
 use Rattle.agenda.proofs.Missing.{misses-found, misses-none}
 use borrow.Author.Needs.{needs}
 use Rattle.agenda.proofs.locals.misses_local.Statement.{statement}
 use Rattle.agenda.proofs.locals.misses_local.Tie as tie
 
 abbrev Inv-loop : tie.InvT-loop
-Inv-loop p i work j e target argument k₀ k = k ≤ 32
+Inv-loop part target argument target-marks argument-marks k₀ k = k ≤ patternRecords
 
 abbrev μ-loop : tie.MeasureT-loop
-μ-loop p i work j e target argument k₀ k = 32 - k
-
-sub-loose-locals : tie.Need-sub-loose-locals Inv-loop μ-loop
-sub-loose-locals c = search needs
-
-part-loose-locals-start : tie.Need-part-loose-locals-start Inv-loop μ-loop
-part-loose-locals-start c = search needs
-
-part-loose-locals-end : tie.Need-part-loose-locals-end Inv-loop μ-loop
-part-loose-locals-end c = search needs
+μ-loop part target argument target-marks argument-marks k₀ k = patternRecords - k
 
 slice-aggregate-loose-locals : tie.Need-slice-aggregate-loose-locals Inv-loop μ-loop
 slice-aggregate-loose-locals c = search needs
 
 loose-locals-requires : tie.Need-loose-locals-requires Inv-loop μ-loop
 loose-locals-requires c κs = search needs
-
-sub-loose-locals-2 : tie.Need-sub-loose-locals-2 Inv-loop μ-loop
-sub-loose-locals-2 c = search needs
-
-part-loose-locals-start-2 : tie.Need-part-loose-locals-start-2 Inv-loop μ-loop
-part-loose-locals-start-2 c = search needs
-
-part-loose-locals-end-2 : tie.Need-part-loose-locals-end-2 Inv-loop μ-loop
-part-loose-locals-end-2 c = search needs
 
 slice-aggregate-loose-locals-2 : tie.Need-slice-aggregate-loose-locals-2 Inv-loop μ-loop
 slice-aggregate-loose-locals-2 c = search needs
@@ -67,7 +50,7 @@ loop-again : tie.Need-loop-again Inv-loop μ-loop
 loop-again c = search needs
 
 returns-2 : tie.Need-returns-2 Inv-loop μ-loop
-returns-2 c = misses-none _ _ _ _ _
+returns-2 c = misses-none _ _ _
 
 pub misses-local-spec : {M : Type 1} → statement M
 misses-local-spec =
@@ -75,14 +58,8 @@ misses-local-spec =
     (tie.spec
     Inv-loop
     μ-loop
-    sub-loose-locals
-    part-loose-locals-start
-    part-loose-locals-end
     slice-aggregate-loose-locals
     loose-locals-requires
-    sub-loose-locals-2
-    part-loose-locals-start-2
-    part-loose-locals-end-2
     slice-aggregate-loose-locals-2
     loose-locals-requires-2
     loop-holds

@@ -3,41 +3,34 @@
 use Prim.Native.Nat.{_+_, _-_, _/_, _≤_}
 use mathlib.Core.Path.{_≡_, refl}
 use native.Mathlib.Omega.{arith}
-use Rattle.records.proofs.Slices.{whole-slice}
-use Rattle.ordering.proofs.Ordering.{branches-head, branches-argument, branches-part}
+use Rattle.ordering.proofs.Ordering.{branches-head, branches-argument, branches-place, branches-part}
 use borrow.Author.Needs.{needs}
 use Rattle.ordering.proofs.order.candidates.Statement.{statement}
 use Rattle.ordering.proofs.order.candidates.Tie as tie
 
 abbrev Inv-loop : tie.InvT-loop
-Inv-loop p part work target argument end n count₀ k₀ count k = (n ≡ (end - target) / 4) × (k ≤ n) × (count ≤ 2 + k)
+Inv-loop part target at argument end n count₀ k₀ count k = (n ≡ end / 4) × (k ≤ n) × (count ≤ 2 + k)
 
 abbrev μ-loop : tie.MeasureT-loop
-μ-loop p part work target argument end n count₀ k₀ count k = n - k
-
-add-end-at : tie.Need-add-end-at Inv-loop μ-loop
-add-end-at c = search needs
+μ-loop part target at argument end n count₀ k₀ count k = n - k
 
 end-at-requires : tie.Need-end-at-requires Inv-loop μ-loop
 end-at-requires c κs = search (needs, branches-head)
 
+sub-argument : tie.Need-sub-argument Inv-loop μ-loop
+sub-argument c = search needs
+
+part-argument-start : tie.Need-part-argument-start Inv-loop μ-loop
+part-argument-start c = search needs
+
+part-argument-end : tie.Need-part-argument-end Inv-loop μ-loop
+part-argument-end c = search needs
+
 end-at-requires-2 : tie.Need-end-at-requires-2 Inv-loop μ-loop
 end-at-requires-2 c κs = search needs
 
-sub-n : tie.Need-sub-n Inv-loop μ-loop
-sub-n c = search needs
-
-sub-is-rigid : tie.Need-sub-is-rigid Inv-loop μ-loop
-sub-is-rigid c = search needs
-
-part-is-rigid-start : tie.Need-part-is-rigid-start Inv-loop μ-loop
-part-is-rigid-start c = search needs
-
-part-is-rigid-end : tie.Need-part-is-rigid-end Inv-loop μ-loop
-part-is-rigid-end c = search needs
-
 is-rigid-requires : tie.Need-is-rigid-requires Inv-loop μ-loop
-is-rigid-requires c κs = search (needs, whole-slice, branches-argument)
+is-rigid-requires c κs = search (needs, branches-argument)
 
 add-result : tie.Need-add-result Inv-loop μ-loop
 add-result c = search needs
@@ -51,8 +44,14 @@ loop-holds c = (refl, omega arith, omega arith)
 mul-candidate : tie.Need-mul-candidate Inv-loop μ-loop
 mul-candidate c = search needs
 
-add-candidate : tie.Need-add-candidate Inv-loop μ-loop
-add-candidate c = search needs
+sub-candidate : tie.Need-sub-candidate Inv-loop μ-loop
+sub-candidate c = search (needs, branches-place)
+
+part-candidate-start : tie.Need-part-candidate-start Inv-loop μ-loop
+part-candidate-start c = search (needs, branches-place)
+
+part-candidate-end : tie.Need-part-candidate-end Inv-loop μ-loop
+part-candidate-end c = search needs
 
 candidate-requires : tie.Need-candidate-requires Inv-loop μ-loop
 candidate-requires c κs = search (needs, branches-argument, branches-part)
@@ -78,19 +77,19 @@ candidates-spec =
     (tie.spec
     Inv-loop
     μ-loop
-    add-end-at
     end-at-requires
+    sub-argument
+    part-argument-start
+    part-argument-end
     end-at-requires-2
-    sub-n
-    sub-is-rigid
-    part-is-rigid-start
-    part-is-rigid-end
     is-rigid-requires
     add-result
     returns
     loop-holds
     mul-candidate
-    add-candidate
+    sub-candidate
+    part-candidate-start
+    part-candidate-end
     candidate-requires
     add-count
     add-k

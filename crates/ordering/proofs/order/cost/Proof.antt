@@ -28,11 +28,47 @@ is-assigned-requires c κs = search (needs, weighs-entries)
 returns : tie.Need-returns
 returns c = search needs
 
+sub-candidates : tie.Need-sub-candidates
+sub-candidates c = search needs
+
+part-candidates-start : tie.Need-part-candidates-start
+part-candidates-start c = search needs
+
+part-candidates-end : tie.Need-part-candidates-end
+part-candidates-end c = search needs
+
+sub-candidates-2 : tie.Need-sub-candidates-2
+sub-candidates-2 c = search (needs, weighs-target-within)
+
+part-candidates-start-2 : tie.Need-part-candidates-start-2
+part-candidates-start-2 c = search (needs, weighs-target-within)
+
+part-candidates-end-2 : tie.Need-part-candidates-end-2
+part-candidates-end-2 c = search needs
+
 candidates-requires : tie.Need-candidates-requires
 candidates-requires c κs = search (needs, weighs-branches)
 
 returns-2 : tie.Need-returns-2
 returns-2 c = search needs
+
+sub-lacks-local : tie.Need-sub-lacks-local
+sub-lacks-local c = search needs
+
+part-lacks-local-start : tie.Need-part-lacks-local-start
+part-lacks-local-start c = search needs
+
+part-lacks-local-end : tie.Need-part-lacks-local-end
+part-lacks-local-end c = search needs
+
+sub-lacks-local-2 : tie.Need-sub-lacks-local-2
+sub-lacks-local-2 c = search (needs, weighs-argument-within)
+
+part-lacks-local-start-2 : tie.Need-part-lacks-local-start-2
+part-lacks-local-start-2 c = search (needs, weighs-argument-within)
+
+part-lacks-local-end-2 : tie.Need-part-lacks-local-end-2
+part-lacks-local-end-2 c = search needs
 
 lacks-local-requires : tie.Need-lacks-local-requires
 lacks-local-requires c κs = search (needs, weighs-locals)
@@ -78,8 +114,20 @@ cost-spec =
     part-is-assigned-end
     is-assigned-requires
     returns
+    sub-candidates
+    part-candidates-start
+    part-candidates-end
+    sub-candidates-2
+    part-candidates-start-2
+    part-candidates-end-2
     candidates-requires
     returns-2
+    sub-lacks-local
+    part-lacks-local-start
+    part-lacks-local-end
+    sub-lacks-local-2
+    part-lacks-local-start-2
+    part-lacks-local-end-2
     lacks-local-requires
     returns-3
     sub-copies
