@@ -2,7 +2,7 @@
 --   progress s                   falls at each step: the room above `top`, and where that stays the same the place of the first easy goal
 --   Move k P W s a Q W′ s′ a′    the next state's assignments are those of Q in the state before, which may lack k bytes
 --   Failed k P W s a Q W′        Q has no assignment
---   Stepped, Branched, Decided   what the answer of a step says
+--   Branched, Decided            what the answer of a step says
 use mathlib.Core.Path.{_≡_}
 use mathlib.Core.Logic.{_↔_}
 use mathlib.Core.List.{List}

@@ -1,9 +1,9 @@
-// The ways of an application that was deferred: its head is an open variable, or has one.
+// The ways of an application that was deferred: one that isn't rigid.
 //
 // Such an application comes to its target by the target's own parts, by a head that throws the argument away, or by an argument that is
 // found at one of the target's parts. The crate counts the ways, and tries one: it promises that the agenda it leaves has exactly the
-// assignments of that way, or that there are none. It rests on `agenda` for goals, on `builds` for heads and skeletons, and on `matching`
-// for why there are no other ways.
+// assignments of that way, or that there are none. It rests on `agenda` for goals and heads, on `deciding` for skeletons, on `builds` for
+// the abstraction that is written, and on `matching` for why there are no other ways.
 //
 // Ways are numbers: 0 for the target's own parts, 1 for the constant function, 2 + j for the argument whose first occurrence is the
 // target's part j. One function takes a number and leaves the next agenda, so that the loop over them has one law. What is known of an
@@ -13,7 +13,6 @@
 use agenda::Agenda;
 use agenda::Branch;
 use agenda::GOAL;
-use agenda::StoredGoal;
 use agenda::TARGET_BYTES;
 use agenda::Ways;
 use assignments::Entry;
@@ -24,13 +23,9 @@ use records::RECORD;
 use records::VALUE_RECORDS;
 use records::VARIABLES;
 use records::Walk;
-ghost use Prim.Native.Nat.{suc, _+_, _≤_, _<_};
-ghost use lib.ListN.{length};
-ghost use Rattle.terms.specs.Figures.{tableBytes};
-ghost use Rattle.records.specs.Parts.{Whole};
+ghost use Prim.Native.Nat.{suc, _+_, _<_};
 ghost use Rattle.abstractions.specs.Occurrences.{DepthOf};
 ghost use Rattle.alternatives.specs.Applications.{ApplicationDeferred, Counted, Places, Placed};
-ghost use Rattle.agenda.specs.Locals.{Missing, ArgumentComparable, Misses};
 ghost use Rattle.alternatives.specs.Ways.{Way};
 ghost use Rattle.agenda.specs.Moves.{Branched};
 
