@@ -14,13 +14,14 @@ use Rattle.terms.specs.Term.{Term, app, lam, loc, con, var, size, shift}
 use Rattle.terms.specs.Table.{bytes, encode}
 use Rattle.terms.proofs.Shift.{size-shift}
 use Rattle.terms.proofs.Table.{encode-length}
+use Rattle.terms.proofs.Substitute.{size-pos}
 use Rattle.matching.specs.Bodies.{copies, choose, body}
 use Rattle.matching.proofs.Bodies.{Leaf, copies-here, body-here, copies-app, body-app, copies-lam, body-lam}
 use Rattle.matching.proofs.Bodies.{copies-leaf, body-leaf}
 use Rattle.records.specs.declared.Walk.{Walk}
 use Rattle.records.specs.declared.Walk.the-variants.{Upto, No}
 use Rattle.records.specs.Parts.{slice, Part, Whole, Ends}
-use Rattle.records.proofs.Parts.{size-some, whole, kind-at}
+use Rattle.records.proofs.Parts.{whole, kind-at}
 use Rattle.records.proofs.Slices.{part-slice, whole-slice, slice-length, head-slice, body-slice}
 use Rattle.substitution.specs.Writers.{NumbersFit, Wrote}
 use Rattle.copying.proofs.Stores.{written-then}
@@ -38,7 +39,7 @@ leaf-at l at (con i) x n m = tt
 leaf-at l at (var i) x n m = tt
 
 size-choose : (b : Bool) (d : ℕ) (t : Term) → size (choose b d t) ≤ size t
-size-choose true d t = size-some t
+size-choose true d t = size-pos t
 size-choose false d t = omega (arith, size-shift 1 d t)
 
 -- the term that s begins with, below d binders, is no copy of the one that e begins with

@@ -9,6 +9,7 @@ use native.Mathlib.Decide.{decLt}
 use lib.ListN.{length, getD}
 use Rattle.terms.specs.Figures.{tableBytes}
 use Rattle.terms.specs.Term.{Term, app, lam, loc, con, var, size}
+use Rattle.terms.proofs.Table.{app-inj, lam-inj}
 use Rattle.matching.specs.Occurrences.{partAt, Copy}
 use Rattle.matching.proofs.Occurrences.{partAt-head, partAt-argument, partAt-first}
 use Rattle.records.specs.declared.Walk.{Walk}
@@ -18,7 +19,7 @@ use Rattle.records.proofs.Parts.{whole, kind-at, leaf-size, application, abstra
 use Rattle.records.proofs.Slices.{part-slice, whole-slice, slice-length, head-slice, body-slice}
 use Rattle.shifting.specs.Tests.{PartsComparable, Shifted, PartsCompared}
 use Rattle.shifting.proofs.Slices.{ApplicationSlices, application-slices, abstraction-slices}
-use Rattle.shifting.proofs.Tests.{heads-same, bodies-same, compared-yes, compared-no}
+use Rattle.shifting.proofs.Tests.{compared-yes, compared-no}
 use Rattle.abstractions.specs.declared.Look.{Look}
 use Rattle.abstractions.specs.declared.Look.the-variants.{Left, Found}
 use Rattle.abstractions.specs.Occurrences.{Looks, CopyAt, NoneBefore, CopyBefore, Earlier}
@@ -53,7 +54,7 @@ module _ (R : ℕ → ℕ × Term → Type 0) (d : ℕ) where
 app-parts : (l : List ℕ) (at : ℕ) (f a : Term) → Part l at (app f a) → Part l (at + 4) f × Part l (at + 4 + 4 * size f) a
 app-parts l at f a p =
     let v = application l at (app f a) p (kind-at l at (app f a) p) in
-    let s = heads-same f a (v .f) (v .a) (v .is) in (
+    let s = app-inj f a (v .f) (v .a) (v .is) in (
       subst (Part l (at + 4)) (sym (s .0)) (v .head),
       subst (λ (u : Term). Part l (at + 4 + 4 * size u) a) (sym (s .0))
           (subst (Part l (at + 4 + 4 * size (v .f))) (sym (s .1)) (v .argument)),
@@ -62,7 +63,7 @@ app-parts l at f a p =
 lam-part : (l : List ℕ) (at : ℕ) (b : Term) → Part l at (lam b) → Part l (at + 4) b
 lam-part l at b p =
     let v = abstraction l at (lam b) p (kind-at l at (lam b) p) in
-    subst (Part l (at + 4)) (sym (bodies-same b (v .b) (v .is))) (v .body)
+    subst (Part l (at + 4)) (sym (lam-inj b (v .b) (v .is))) (v .body)
 
 moved : (l : List ℕ) (i j : ℕ) (t : Term) → i ≡ j → Part l i t → Part l j t
 moved l i j t e p = subst (λ (k : ℕ). Part l k t) e p

@@ -47,7 +47,7 @@ use Rattle.abstractions.specs.Occurrences.{DepthSource, WroteDepths}
 use Rattle.alternatives.specs.Ways.{Way, HasWays, HasDepths, HeadLacks, Fitting}
 use Rattle.deciding.specs.Refuting.{SkeletonSource, PartSkeleton}
 use Rattle.builds.specs.Builds.{Pushes, StoredPushed, storedTarget, afterStored}
-use Rattle.alternatives.specs.Applications.{ApplicationDeferred, Counted}
+use Rattle.alternatives.specs.Applications.{ApplicationDeferred, WaysCounted}
 use Rattle.agenda.specs.Stored.{storedMatch, storedBuild}
 use Rattle.agenda.specs.Locals.{Locals, Lacks}
 use Rattle.agenda.proofs.Lacking.{all-marks-at, locals-at, lacks-at}
@@ -171,7 +171,7 @@ module _ (P W : List ℕ) (s : Agenda) (a : List Entry) where
           (h g : ℕ) (c d : Bool) (m : List ℕ) (o : ℕ) (i : Skeleton) → Ends W (r .target) h → Ends P (r .part + 4) g
           → ((t : Term) → Part (slice P g) 0 t → c ≡ rigid t) → PartSkeleton (slice P g) W a (i .bytes) (i .length)
           → Lacks (slice P (r .part + 4)) (slice W (r .target)) d → WroteDepths (slice W (r .target)) 0 (replicate valueRecords 0) 0 m o
-          → Counted P W s a (record { count = (h - r .target) / 4 + 2; argument = g; rigid = c; skeleton = i; lacking = d; depths = m })
+          → WaysCounted P W s a (record { count = (h - r .target) / 4 + 2; argument = g; rigid = c; skeleton = i; lacking = d; depths = m })
       counted h g c d m o i e j k p n u = record {
         ways = λ gs hs l z. opened gs l (HasWays ((h - r .target) / 4 + 2))
             (λ f b t us o. omega (arith, e .exact t (site r gs us l f b t y o .target .part))) hs z;
@@ -199,7 +199,7 @@ module _ (P W : List ℕ) (s : Agenda) (a : List Entry) where
           let v = site r gs hs l f b t y z .target in
           depths-at W (r .target) 0 valueRecords 0 t (v .part) (omega (arith, v .short)) (omega (arith, v .short)))
 
-      pub argument-ends : (w : Ways) → Counted P W s a w → Ends P (r .part + 4) (w .argument)
+      pub argument-ends : (w : Ways) → WaysCounted P W s a w → Ends P (r .part + 4) (w .argument)
       argument-ends w c = subst (λ (i : ℕ). Ends P (i + 4) (w .argument)) (sym (y .part)) (c .argument)
 
       -- no way
@@ -376,7 +376,7 @@ parts-pushed P W s a r h e Y X i j x y eh ee p q first second =
     (stored-as Y X (s .top + 8) j (storedMatch (r .part + 4) (r .target + 4) (s .top)) q second) x
 
 -- a head that lacks a local of the target is no abstraction over it
-pub constant-lacking : (P W : List ℕ) (s : Agenda) (a : List Entry) (w : Ways) → ApplicationDeferred P W s a → Counted P W s a w
+pub constant-lacking : (P W : List ℕ) (s : Agenda) (a : List Entry) (w : Ways) → ApplicationDeferred P W s a → WaysCounted P W s a w
     → w .lacking ≡ true
     → Branched P W s a (Way 1) W Branch.Failed
 constant-lacking P W s a w x c e = died P W s a (Way 1) W (record {

@@ -46,7 +46,7 @@ use Rattle.agenda.specs.Stored.{storedBytes, StoredAt}
 use Rattle.agenda.specs.State.{targetBytes, Target, State, Easy, Deferred, Chain, relinking}
 use Rattle.agenda.specs.Moves.{Move, Moved, Failed, Branched}
 use Rattle.alternatives.specs.Ways.{Way, Fitting}
-use Rattle.alternatives.specs.Applications.{ApplicationDeferred, Counted, argumentOf, Places, Argument, Placed}
+use Rattle.alternatives.specs.Applications.{ApplicationDeferred, WaysCounted, argumentOf, ArgumentPlace, Argument, Placed}
 use Rattle.agenda.specs.Locals.{ArgumentComparable, Misses}
 use Rattle.agenda.specs.Heads.{Agree}
 use Rattle.agenda.proofs.Agreement.{unlike-at}
@@ -67,7 +67,7 @@ part-most t j h =
 
 -- the part moved out of the binders above it
 module _ (W : List ℕ) (top at j : ℕ) where
-  module _ (x : Places W top at j) (d : ℕ) (k : DepthOf W at j d) where
+  module _ (x : ArgumentPlace W top at j) (d : ℕ) (k : DepthOf W at j d) where
     number-within : (t : Term) → Part W at t → j < size t
     number-within t p =
         let e : t ≡ x .tree = encode-inj t (x .tree) (p .rest) (x .part .rest) (sym (p .bytes) ∙ x .part .bytes) .0 in
@@ -147,12 +147,12 @@ placed-at W top at j X w r p c = subst (Placed W top at j X) c p
 -- the way that tries the j-th part
 module _ (P W : List ℕ) (s : Agenda) (a : List Entry) (x : ApplicationDeferred P W s a) (r : StoredGoal) (y : StoredAt W (s .deferred) r)
     (j : ℕ) where
-  module _ (w : Ways) (c : Counted P W s a w) (h : j + 2 < w .count) where
+  module _ (w : Ways) (c : WaysCounted P W s a w) (h : j + 2 < w .count) where
     numbered : (gs hs : List Goal) (l : Line) (f b t : Term) → MatchState P W s a gs l f b t hs → j < size t
     numbered gs hs l f b t z = omega (arith, c .ways gs (match (app f b) t ∷ hs) l z)
 
-    pub places : Places W (s .top) (r .target) j
-    places = from P W s a x (Places W (s .top) (r .target) j) (λ gs hs l f b t z.
+    pub places : ArgumentPlace W (s .top) (r .target) j
+    places = from P W s a x (ArgumentPlace W (s .top) (r .target) j) (λ gs hs l f b t z.
         let v = site P W s a r gs hs l f b t y z .target in
         record {
           tree = t;
@@ -286,7 +286,7 @@ module _ (P W : List ℕ) (s : Agenda) (a : List Entry) (x : ApplicationDeferred
 
     -- no assignment sweeps the argument to what doesn't fit its skeleton
     pub unfitting :
-        (w : Ways) (c : Counted P W s a w) (b : Bool)
+        (w : Ways) (c : WaysCounted P W s a w) (b : Bool)
         → MayBe (take (w .skeleton .length - 0) (drop 0 (w .skeleton .bytes))) (slice X (s .top)) b → b ≡ false
         → Branched P W s a (Way (suc (suc j))) X Branch.Failed
     unfitting w c b e i =

@@ -1,8 +1,8 @@
 -- What the ways of an application that was deferred need.
 --   ApplicationDeferred P W s a    the first deferred goal is an application that has to sweep to a target
---   Counted P W s a w              what w says of its ways holds
+--   WaysCounted P W s a w          what w says of its ways holds
 --   argumentOf t j                 the j-th part of t, moved out of the binders above it
---   Places W top at j              the term of W at byte `at` is a target with a j-th part, and there is room for another one from byte
+--   ArgumentPlace W top at j       the term of W at byte `at` is a target with a j-th part, and there is room for another one from byte
 --                                  `top` on
 --   Argument W top t j X r         the j-th part of t uses none of the binders above it, and stands moved out of them in X from byte `top`
 --                                  on
@@ -35,7 +35,7 @@ pub record ApplicationDeferred (P W : List ℕ) (s : Agenda) (a : List Entry) : 
   pub some-deferred : 0 < s .deferred
   pub kind : getD W (s .deferred + 1) 0 ≡ 0
 
-pub record Counted (P W : List ℕ) (s : Agenda) (a : List Entry) (w : Ways) : Type 0 where
+pub record WaysCounted (P W : List ℕ) (s : Agenda) (a : List Entry) (w : Ways) : Type 0 where
   pub ways : (gs hs : List Goal) (l : Line) → State relinking P W s a gs hs l → HasWays (w .count) hs
   pub argument : Ends P (patternAt W (s .deferred) + 4) (w .argument)
   pub rigid-argument : (t : Term) → Part P (w .argument) t → w .rigid ≡ rigid t
@@ -47,7 +47,7 @@ pub record Counted (P W : List ℕ) (s : Agenda) (a : List Entry) (w : Ways) : T
 abbrev pub argumentOf : Term → ℕ → Term
 argumentOf t j = unshift (partAt 0 t j .0) 0 (partAt 0 t j .1)
 
-pub record Places (W : List ℕ) (top at j : ℕ) : Type 0 where
+pub record ArgumentPlace (W : List ℕ) (top at j : ℕ) : Type 0 where
   pub tree : Term
   pub part : Part W at tree
   pub few : size tree ≤ valueRecords

@@ -25,7 +25,7 @@ use records::VARIABLES;
 use records::Walk;
 ghost use Prim.Native.Nat.{suc, _+_, _<_};
 ghost use Rattle.abstractions.specs.Occurrences.{DepthOf};
-ghost use Rattle.alternatives.specs.Applications.{ApplicationDeferred, Counted, Places, Placed};
+ghost use Rattle.alternatives.specs.Applications.{ApplicationDeferred, WaysCounted, ArgumentPlace, Placed};
 ghost use Rattle.alternatives.specs.Ways.{Way};
 ghost use Rattle.agenda.specs.Moves.{Branched};
 
@@ -33,7 +33,7 @@ ghost use Rattle.agenda.specs.Moves.{Branched};
 // argument away, and by each part of the target as the argument's.
 pub fn ways(pattern: &[u8], work: &[u8], agenda: Agenda, entries: [Entry; VARIABLES]) -> Ways
     requires { ⌜ ApplicationDeferred (now pattern) (now work) agenda entries ⌝ }
-    ensures { λ r. ⌜ Counted (now (pattern .entry)) (now (work .entry)) agenda entries r ⌝ }
+    ensures { λ r. ⌜ WaysCounted (now (pattern .entry)) (now (work .entry)) agenda entries r ⌝ }
 {
     let goal = agenda::goal_at(work, agenda.deferred);
     let head = goal.part + RECORD;
@@ -95,7 +95,7 @@ fn constant_head(
     entries: [Entry; VARIABLES],
     ways: Ways,
 ) -> Branch
-    requires { ⌜ ApplicationDeferred (now pattern) (now work) agenda entries × Counted (now pattern) (now work) agenda entries ways ⌝ }
+    requires { ⌜ ApplicationDeferred (now pattern) (now work) agenda entries × WaysCounted (now pattern) (now work) agenda entries ways ⌝ }
     ensures { λ r. ⌜ Branched (now (pattern .entry)) (now (work .entry)) agenda entries (Way 1) (now (work .exit)) r ⌝ }
 {
     if ways.lacking {
@@ -113,7 +113,7 @@ fn constant_head(
 // Writes the j-th part of the term at byte `at`, moved out of the `depth` binders above it, from byte `top` on, and gives its end; or No
 // where it uses one of those binders.
 fn place_argument(work: &mut [u8], top: usize, at: usize, j: usize, depth: usize) -> Walk
-    requires { ⌜ Places (now work) top at j × DepthOf (now work) at j depth ⌝ }
+    requires { ⌜ ArgumentPlace (now work) top at j × DepthOf (now work) at j depth ⌝ }
     ensures { λ r. ⌜ Placed (now (work .entry)) top at j (now (work .exit)) r ⌝ }
 {
     let part = at + RECORD * j;
@@ -136,7 +136,7 @@ fn find_argument(
     j: usize,
     ways: Ways,
 ) -> Branch
-    requires { ⌜ ApplicationDeferred (now pattern) (now work) agenda entries × Counted (now pattern) (now work) agenda entries ways
+    requires { ⌜ ApplicationDeferred (now pattern) (now work) agenda entries × WaysCounted (now pattern) (now work) agenda entries ways
         × (j + 2 < ways .count) ⌝ }
     ensures { λ r. ⌜ Branched (now (pattern .entry)) (now (work .entry)) agenda entries (Way (suc (suc j))) (now (work .exit)) r ⌝ }
 {
@@ -192,7 +192,7 @@ pub fn way(
     i: usize,
     ways: Ways,
 ) -> Branch
-    requires { ⌜ ApplicationDeferred (now pattern) (now work) agenda entries × Counted (now pattern) (now work) agenda entries ways
+    requires { ⌜ ApplicationDeferred (now pattern) (now work) agenda entries × WaysCounted (now pattern) (now work) agenda entries ways
         × (i < ways .count) ⌝ }
     ensures { λ r. ⌜ Branched (now (pattern .entry)) (now (work .entry)) agenda entries (Way i) (now (work .exit)) r ⌝ }
 {

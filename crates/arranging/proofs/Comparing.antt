@@ -17,8 +17,8 @@ use Rattle.terms.specs.Listing.{Line, Lexicographic, Before, Less}
 use Rattle.terms.specs.Layout.{word, wordAt, lineBytes, lineValues}
 use Rattle.terms.proofs.Table.{encode-length, encode-one, order-bytes}
 use Rattle.terms.proofs.Order.{before-open, less-irrefl, less-trans}
+use Rattle.terms.proofs.Substitute.{size-pos}
 use Rattle.records.specs.Tests.{Says}
-use Rattle.records.proofs.Parts.{size-some}
 use Rattle.assignments.specs.declared.Span.{Span}
 use Rattle.assignments.specs.declared.Entry.{Entry}
 use Rattle.assignments.specs.declared.Entry.the-variants.{Open, Assigned}
@@ -26,7 +26,7 @@ use Rattle.assignments.specs.Entries.{entryAt}
 use Rattle.assignments.proofs.Entries.{open-at, assigned-at, open-span, span-inj}
 use Rattle.arranging.specs.declared.Comparison.{Comparison}
 use Rattle.arranging.specs.declared.Comparison.the-variants.{Earlier, Same, Later}
-use Rattle.arranging.specs.Order.{ComparesAs, openAgainst, Standing, LinesComparable, EntriesCompared, LinesCompared, TwoLines}
+use Rattle.arranging.specs.Order.{ComparesAs, openAgainst, Standing, LinesComparable, EntriesCompared, TwoLines}
 use Rattle.arranging.specs.Order.{Ordered}
 use Rattle.listing.specs.Outcome.{Laid, Lines}
 use Rattle.listing.proofs.Writers.{line-bytes-length}
@@ -72,7 +72,7 @@ module _ (L : List ℕ) (i : ℕ) (X : List ℕ) where
   entry-assigned v l s =
       let r = lineBytes (s .first + size v) l ++ s .rest in
       let e = word-behind L (4 * i) (s .first) (word (size v) r) (s .bytes) in
-      sym (assigned-at L i (size v) (s .first) (sym (word-read L (4 * i + 2) (size v) r e)) (λ z. omega (arith, size-some v))
+      sym (assigned-at L i (size v) (s .first) (sym (word-read L (4 * i + 2) (size v) r e)) (λ z. omega (arith, size-pos v))
       (sym (word-read L (4 * i) (s .first) (word (size v) r) (s .bytes))))
 
   value-bytes : (v : Term) (l : Line) (s : Standing L i X (some v ∷ l)) → take (4 * size v) (drop (4 * s .first) X) ≡ encode v
@@ -176,6 +176,10 @@ module _ (A B : List ℕ) (i : ℕ) (X : List ℕ) where
         let z : ComparesAs (Lexicographic _<_) (encode (v .value)) (encode (w .value)) c = rw (g ∙ v .bytes, k ∙ w .bytes) at h in
         rw (v .is, w .is) (order-values (v .value) (w .value) c z);
   }
+
+-- whether the entries from variable i on in A come before those in B
+pub record LinesCompared (A B : List ℕ) (i : ℕ) (X : List ℕ) (r : Bool) : Type 0 where
+  pub exact : (l m : Line) → Standing A i X l → Standing B i X m → Says r (Less l m)
 
 -- lines compared, from variable i on
 module _ (A B : List ℕ) (i : ℕ) (X : List ℕ) where

@@ -5,7 +5,6 @@
 --                                        behind another
 --   LinesComparable A B i X              entries of the variables from i on stand in A and in B
 --   EntriesCompared A B i X c            c says how the entry of variable i in A stands to the one in B
---   LinesCompared A B i X r              r says whether the entries from variable i on in A come before those in B
 --   TwoLines A B X                       A and B begin with lines whose values stand in X
 --   Ordered A B X r                      r says whether the line that A begins with comes before the one that B begins with
 --   Disjoint ls ms                       no line is in both
@@ -76,9 +75,6 @@ pub record LinesComparable (A B : List ℕ) (i : ℕ) (X : List ℕ) : Type 0 wh
 
 pub record EntriesCompared (A B : List ℕ) (i : ℕ) (X : List ℕ) (c : Comparison) : Type 0 where
   pub exact : (o q : Option Term) (l m : Line) → Standing A i X (o ∷ l) → Standing B i X (q ∷ m) → ComparesAs Before o q c
-
-pub record LinesCompared (A B : List ℕ) (i : ℕ) (X : List ℕ) (r : Bool) : Type 0 where
-  pub exact : (l m : Line) → Standing A i X l → Standing B i X m → Says r (Less l m)
 
 pub record TwoLines (A B X : List ℕ) : Type 0 where
   pub one : Line

@@ -116,13 +116,13 @@ fn left_is_next(a: &[u8], i: usize, b: &[u8], j: usize, values: &[u8]) -> bool
 }
 
 // Where the lines that are left of two tables begin.
-struct Places {
+struct MergePlaces {
     left: usize,
     right: usize,
 }
 
 // Writes the line that comes next, of those of a from byte i on and of b from byte j on, behind the i + j bytes that are written.
-fn merge_line(a: &[u8], i: usize, b: &[u8], j: usize, values: &[u8], out: &mut [u8]) -> Places
+fn merge_line(a: &[u8], i: usize, b: &[u8], j: usize, values: &[u8], out: &mut [u8]) -> MergePlaces
     requires { ⌜ MergesLine (now a) i (now b) j (now values) (now out) ⌝ }
     ensures { λ r. ⌜ MergedLine (now (a .entry)) i (now (b .entry)) j (now (values .entry)) (now (out .entry)) (now (out .exit))
         (r .left) (r .right) ⌝ }
@@ -130,14 +130,14 @@ fn merge_line(a: &[u8], i: usize, b: &[u8], j: usize, values: &[u8], out: &mut [
     if left_is_next(a, i, b, j, values) {
         let end = i + LINE;
         copying::copy_into(&a[i..end], out, i + j);
-        return Places {
+        return MergePlaces {
             left: end,
             right: j,
         };
     }
     let end = j + LINE;
     copying::copy_into(&b[j..end], out, i + j);
-    Places {
+    MergePlaces {
         left: i,
         right: end,
     }

@@ -199,8 +199,8 @@ module _ (P W : List ℕ) (s : Agenda) (a : List Entry) where
           pub length-is : length b ≡ 4 * size (body e 0 t (chosenIn m) 0)
           pub short : length b ≤ 624
 
-        numbers : (f t e : Term) → BuildSite P W s r f t e → BuildBounds f t e
-        numbers f t e v =
+        build-bounds : (f t e : Term) → BuildSite P W s r f t e → BuildBounds f t e
+        build-bounds f t e v =
             let p : length b ≡ 4 * size (body e 0 t (chosenIn m) 0) =
             ap length (w .is f t e v) ∙ encode-length (body e 0 t (chosenIn m) 0) in
             record {
@@ -211,11 +211,11 @@ module _ (P W : List ℕ) (s : Agenda) (a : List Entry) where
         pub body-tree : Tree b × (length b ≤ tableBytes)
         body-tree = from (Tree b × (length b ≤ tableBytes)) (λ gs hs l f t e z.
             let v = site r gs hs l f t e y z in
-            (tree b (body e 0 t (chosenIn m) 0) (w .is f t e v), omega (arith, numbers f t e v .short)))
+            (tree b (body e 0 t (chosenIn m) 0) (w .is f t e v), omega (arith, build-bounds f t e v .short)))
 
         pub pushes : StoredFits r → Pushes W s r b
         pushes o = from (Pushes W s r b) (λ gs hs l f t e z.
-            let v = numbers f t e (site r gs hs l f t e y z) in
+            let v = build-bounds f t e (site r gs hs l f t e y z) in
             record {
               whole = ready .bounds .whole;
               room = omega (arith, z .room, v .short);
@@ -327,7 +327,7 @@ module _ (P W : List ℕ) (s : Agenda) (a : List Entry) (ready : Ready relinking
     facts gs hs l f t e z =
         let v = site P W s a r gs hs l f t e y z in
         let p = w .is f t e v in
-        let n = numbers P W s a ready x r y m b w f t e v in
+        let n = build-bounds P W s a ready x r y m b w f t e v in
         record {
           site = v;
           is = p;

@@ -9,8 +9,7 @@ use lib.Dec.{T}
 use lib.ListN.{length, getD}
 use Rattle.terms.specs.Figures.{tableBytes}
 use Rattle.terms.specs.Term.{Term, lam, uses, substitute}
-use Rattle.terms.proofs.Table.{kind}
-use Rattle.matching.proofs.Step.{lam-inj}
+use Rattle.terms.proofs.Table.{kind, lam-inj}
 use Rattle.records.specs.Parts.{slice, Part, Whole}
 use Rattle.records.specs.Tests.{Asks, Walked}
 use Rattle.records.specs.declared.Ask.the-variants.{Other}

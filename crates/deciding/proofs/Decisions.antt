@@ -20,13 +20,14 @@ use Rattle.terms.specs.Assignment.{entry}
 use Rattle.terms.specs.Listing.{Line}
 use Rattle.terms.proofs.Table.{encode-one}
 use Rattle.terms.proofs.Occurs.{occurs-below}
+use Rattle.terms.proofs.Substitute.{size-pos}
 use Rattle.matching.specs.Lists.{Values, Extends}
 use Rattle.matching.specs.Goals.{Goal, Goal.match, Goal.build, Meets}
 use Rattle.matching.proofs.Known.{known-match, known-build}
 use Rattle.records.specs.Record.{numberAt}
 use Rattle.records.specs.Parts.{slice, Part, Whole, Ends}
 use Rattle.records.specs.Tests.{Says, Tells}
-use Rattle.records.proofs.Parts.{part-bytes, whole, size-some, at-start}
+use Rattle.records.proofs.Parts.{part-bytes, whole, at-start}
 use Rattle.records.proofs.Slices.{part-slice, whole-slice, slice-length}
 use Rattle.assignments.specs.declared.Span.{Span}
 use Rattle.assignments.specs.declared.Entry.{Entry}
@@ -238,8 +239,8 @@ module _ (P W : List ℕ) (s : Agenda) (a : List Entry) (ready : Ready relinking
 
       spare : (gs hs : List Goal) (g : Goal) → s .top + weights 8 gs + weights 0 (g ∷ hs) ≤ tableBytes + relinking
           → s .top + 4 + weights 8 gs + weights 0 hs ≤ tableBytes
-      spare gs hs (match p t) x = omega (arith, x, size-some p)
-      spare gs hs (build f t e) x = omega (arith, x, size-some f)
+      spare gs hs (match p t) x = omega (arith, x, size-pos p)
+      spare gs hs (build f t e) x = omega (arith, x, size-pos f)
 
       move : u ≡ true → Move relinking P W s a Sat W next a
       move true-is = record {

@@ -11,7 +11,7 @@ use Rattle.terms.specs.Figures.{variables}
 use Rattle.terms.specs.Term.{Term, Occurs}
 use Rattle.terms.specs.Listing.{In, Line, Full}
 use Rattle.terms.specs.Layout.{lineValueRecords, lineTable, valuesRecords, valueTable}
-use Rattle.terms.specs.Refusal.{OccursIn}
+use Rattle.terms.specs.Refusal.{Passed, OccursIn, listing}
 use Rattle.terms.specs.Members.{Distinct}
 use Rattle.terms.proofs.Table.{encode-one}
 use Rattle.terms.proofs.Order.{sort, rising-same}
@@ -31,7 +31,13 @@ use Rattle.refusals.specs.declared.Refusal.{Refusal}
 use Rattle.refusals.specs.Judged.{number}
 use Rattle.enumeration.specs.declared.ListAnswer.{ListAnswer}
 use Rattle.enumeration.specs.Written.{lentLines, lentRecords, ListingOf, WrittenLines, NoRoom, Enumerated}
-use Rattle.enumeration.specs.Steps.{ListTables, Room, Copyable, Copied, CopiedIf}
+use Rattle.enumeration.specs.Steps.{ListTables, Copyable, Copied, CopiedIf}
+
+-- a full listing of p and t fits the tables l and s
+pub record Room (p t l s : List ℕ) : Type 0 where
+  pub lines : List Line
+  pub listing-of : ListingOf p t lines
+  pub fits : Passed (listing (lentLines l) (lentRecords s) lines)
 
 -- lines that are found, none twice, have no more records than all
 without :

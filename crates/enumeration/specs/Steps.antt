@@ -2,7 +2,6 @@
 --   shortLines, shortRecords   how many lines, and how many records of values, a short listing has at most
 --   Short m n few              m lines are at most `few`, and the n records of their values at most a short listing's
 --   ListTables p t l s w       the tables that list is lent are ones that it searches
---   Room p t l s               a full listing of p and t fits the tables l and s
 --   Copyable n m q l s w       the tables m and q begin with those of n's lines, which have room in the tables l and s
 --   Copied ..                  those lines, in order, stand in the tables l and s
 --   CopiedIf ..                so they do, or their values have no room
@@ -13,7 +12,6 @@ use lib.ListN.{length}
 use Rattle.terms.specs.Figures.{variables, tableBytes}
 use Rattle.terms.specs.Listing.{Line}
 use Rattle.terms.specs.Layout.{valuesRecords}
-use Rattle.terms.specs.Refusal.{Passed, listing}
 use Rattle.terms.specs.Members.{Distinct}
 use Rattle.records.specs.Checks.{Pattern, Recipe}
 use Rattle.listing.specs.declared.Tally.{Tally}
@@ -21,7 +19,7 @@ use Rattle.listing.specs.Outcome.{Tables}
 use Rattle.arranging.specs.Arranged.{InLineOrder}
 use Rattle.refusals.specs.declared.Refusal.{Refusal}
 use Rattle.enumeration.specs.declared.ListAnswer.{ListAnswer}
-use Rattle.enumeration.specs.Written.{lentLines, lentRecords, ListingOf}
+use Rattle.enumeration.specs.Written.{lentRecords}
 
 abbrev pub shortLines : ℕ
 shortLines = 128
@@ -38,12 +36,6 @@ pub record ListTables (p t l s w : List ℕ) : Type 0 where
   pub lines-most : length l ≤ tableBytes
   pub values-most : length s ≤ tableBytes
   pub area : length w ≡ tableBytes
-
--- a full listing that fits
-pub record Room (p t l s : List ℕ) : Type 0 where
-  pub lines : List Line
-  pub listing-of : ListingOf p t lines
-  pub fits : Passed (listing (lentLines l) (lentRecords s) lines)
 
 pub record Copyable (n : Tally) (m q l s w : List ℕ) : Type 0 where
   pub found : List Line

@@ -17,6 +17,7 @@ use Rattle.terms.specs.Sweep.{contract}
 use Rattle.terms.specs.Table.{bytes, encode}
 use Rattle.terms.proofs.Shift.{size-shift}
 use Rattle.terms.proofs.Table.{encode-length}
+use Rattle.terms.proofs.Substitute.{size-pos}
 use Rattle.matching.specs.Repeated.{join, both, below, atConstants}
 use Rattle.matching.proofs.Repeated.{constants-other, join-kinds, join-leaf, size-join, closed-contract}
 use Rattle.matching.proofs.Repeated.{size-contract}
@@ -25,7 +26,7 @@ use Rattle.records.specs.Parts.{slice, Part, Ends}
 use Rattle.records.specs.Tests.{Near, further}
 use Rattle.records.specs.declared.Walk.{Walk}
 use Rattle.records.specs.declared.Walk.the-variants.{Upto, No}
-use Rattle.records.proofs.Parts.{size-some, whole, kind-at, number-at, application, abstraction, Application}
+use Rattle.records.proofs.Parts.{whole, kind-at, number-at, application, abstraction, Application}
 use Rattle.records.proofs.Parts.{argument-part, ends-app, ends-lam, ends-leaf, constant-at}
 use Rattle.records.proofs.Slices.{part-slice, head-slice, body-slice, slice-ends, slice-length}
 use Rattle.substitution.specs.Writers.{NumbersFit, Source, Single, Wrote}
@@ -419,7 +420,7 @@ module _ {b : List ℕ} {n room o : ℕ} (x : Encloses b n room o) (s : ¬ (n �
           record {
             body = contract (lam (x .body));
             bytes = f;
-            least = omega (arith, size-some (contract (lam (x .body))));
+            least = omega (arith, size-pos (contract (lam (x .body))));
             most = omega (arith, size-contract (x .body), x .most, s);
             depth = x .depth;
             shallow = omega (arith, x .shallow);

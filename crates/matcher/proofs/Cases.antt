@@ -26,55 +26,55 @@ use Rattle.matcher.specs.Operations.{Listed}
 use Rattle.matcher.proofs.Determined.{listed-one}
 
 -- 1. `@ p0 p1`, `k0`: p0=`\ #0`, p1=`k0`; then p0=`\ k0`, p1 open
-abbrev pattern : Term
-pattern = app (var 0) (var 1)
+abbrev casePattern : Term
+casePattern = app (var 0) (var 1)
 
-abbrev recipe : Term
-recipe = con 0
+abbrev caseRecipe : Term
+caseRecipe = con 0
 
 -- their tables
 abbrev p : List ℕ
-p = encode pattern
+p = encode casePattern
 
 abbrev r : List ℕ
-r = encode recipe
+r = encode caseRecipe
 
-abbrev lines : List Line
-lines = from variables (some identity ∷ some (con 0) ∷ []) ∷ from variables (some (lam (con 0)) ∷ []) ∷ []
+abbrev caseListing : List Line
+caseListing = from variables (some identity ∷ some (con 0) ∷ []) ∷ from variables (some (lam (con 0)) ∷ []) ∷ []
 
 -- line 0: 2 records from 0 on and 1 from 2 on; line 1: 2 records from 3 on; all else open
-abbrev lineBytes : List ℕ
-lineBytes =
+abbrev caseLines : List ℕ
+caseLines =
     (0 ∷ 0 ∷ 0 ∷ 2 ∷ 0 ∷ 2 ∷ 0 ∷ 1 ∷ replicate (4 * variables - 8) 0) ++ (0 ∷ 3 ∷ 0 ∷ 2 ∷ replicate (4 * variables - 4) 0)
 
 -- `\ #0`, `k0`, `\ k0`
 abbrev valueBytes : List ℕ
 valueBytes = 1 ∷ 0 ∷ 0 ∷ 0 ∷ 2 ∷ 0 ∷ 0 ∷ 0 ∷ 3 ∷ 0 ∷ 0 ∷ 0 ∷ 1 ∷ 0 ∷ 0 ∷ 0 ∷ 3 ∷ 0 ∷ 0 ∷ 0 ∷ []
 
-pattern-table : IsTable p pattern
+pattern-table : IsTable p casePattern
 pattern-table = (refl, (tt, tt))
 
-recipe-table : IsTable r recipe
+recipe-table : IsTable r caseRecipe
 recipe-table = (refl, tt)
 
-lines-full : Full variables pattern recipe lines
-lines-full = cases-hold (lists pattern recipe lines) (inl refl)
+lines-full : Full variables casePattern caseRecipe caseListing
+lines-full = cases-hold (lists casePattern caseRecipe caseListing) (inl refl)
 
 sides-passed : Passed (patternRows p ++ recipeRows r)
 sides-passed =
-    passed-both (patternRows p) (recipeRows r) (pattern-passed pattern pattern-table (lit≤ tt) refl)
-    (recipe-passed recipe recipe-table (lit≤ tt) refl tt)
+    passed-both (patternRows p) (recipeRows r) (pattern-passed casePattern pattern-table (lit≤ tt) refl)
+    (recipe-passed caseRecipe recipe-table (lit≤ tt) refl tt)
 
 module _ (l s w : List ℕ) (h : Passed (listTables l s w)) (two : 2 ≤ lentLines l) (five : 5 ≤ lentRecords s) where
-  case-listed : Listed p r l s w (ListAnswer.Lines 2) (overwritten lineBytes l) (overwritten valueBytes s)
+  case-listed : Listed p r l s w (ListAnswer.Lines 2) (overwritten caseLines l) (overwritten valueBytes s)
   unfolding Listed
   case-listed = (
     passed-both (listTables l s w) (patternRows p ++ recipeRows r) h sides-passed,
     record {
-      lines = lines;
+      lines = caseListing;
       listing-of = record {
-        pattern-term = pattern;
-        recipe-term = recipe;
+        pattern-term = casePattern;
+        recipe-term = caseRecipe;
         pattern-table = pattern-table;
         recipe-table = recipe-table;
         full = lines-full;
@@ -87,7 +87,7 @@ module _ (l s w : List ℕ) (h : Passed (listTables l s w)) (two : 2 ≤ lentLin
   )
 
   pub case-1 : (a : ListAnswer) (m x : List ℕ) → Listed p r l s w a m x
-      → (a ≡ ListAnswer.Lines 2) × (m ≡ overwritten lineBytes l) × (x ≡ overwritten valueBytes s)
+      → (a ≡ ListAnswer.Lines 2) × (m ≡ overwritten caseLines l) × (x ≡ overwritten valueBytes s)
   case-1 a m x f =
-      listed-one p r l s w a (ListAnswer.Lines 2) m (overwritten lineBytes l) x (overwritten valueBytes s) f
+      listed-one p r l s w a (ListAnswer.Lines 2) m (overwritten caseLines l) x (overwritten valueBytes s) f
       case-listed

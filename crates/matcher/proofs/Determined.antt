@@ -74,10 +74,10 @@ module _ (p r l s w : List ℕ) where
 
   -- "A pattern without variables has one all-zero line or none.", of the count and the bytes; there are no values
   module _ (t : Term) (i : IsTable p t) (h : (v : ℕ) → ¬ Occurs v t) where
-    abbrev Ground : ℕ → List ℕ → List ℕ → Type 0
-    Ground n m x = (((n ≡ 0) × (m ≡ l)) ⊎ ((n ≡ 1) × (m ≡ overwritten (replicate (4 * variables) 0) l))) × (x ≡ s)
+    abbrev GroundListing : ℕ → List ℕ → List ℕ → Type 0
+    GroundListing n m x = (((n ≡ 0) × (m ≡ l)) ⊎ ((n ≡ 1) × (m ≡ overwritten (replicate (4 * variables) 0) l))) × (x ≡ s)
 
-    written-ground : (n : ℕ) (m x : List ℕ) → WrittenLines p r l s n m x → Ground n m x
+    written-ground : (n : ℕ) (m x : List ℕ) → WrittenLines p r l s n m x → GroundListing n m x
     written-ground n m x f =
         go (no-variable variables t (f .listing-of .recipe-term) h (f .lines)
         (subst (λ (u : Term). Full variables u (f .listing-of .recipe-term) (f .lines))
@@ -89,7 +89,7 @@ module _ (p r l s w : List ℕ) where
         values-of : (ls : List Line) → f .lines ≡ ls → x ≡ overwritten (valueTable ls) s
         values-of ls e = f .value-bytes ∙ ap (λ (ms : List Line). overwritten (valueTable ms) s) e
 
-        go : (f .lines ≡ []) ⊎ (f .lines ≡ openLine variables ∷ []) → Ground n m x
+        go : (f .lines ≡ []) ⊎ (f .lines ≡ openLine variables ∷ []) → GroundListing n m x
         go (inl e) = (inl (f .count ∙ ap length e, lines-of [] e), values-of [] e)
         go (inr e) =
             let ls = openLine variables ∷ [] in (

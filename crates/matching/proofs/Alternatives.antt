@@ -11,12 +11,12 @@ use lib.Dec.{T}
 use Rattle.terms.specs.Term.{Term, app, lam, loc, con, var, Normal, size, shift, uses, isAbstraction}
 use Rattle.terms.specs.Sweep.{sweep, fill}
 use Rattle.terms.proofs.Shift.{unused-shift}
-use Rattle.terms.proofs.Table.{kind}
+use Rattle.terms.proofs.Table.{kind, lam-inj}
 use Rattle.matching.specs.Alternatives.{Alternative, constant}
 use Rattle.matching.specs.Goals.{Sweeps, Build, Goal, Goal.match, Goal.build, Meets, All, Suits, Listable}
 use Rattle.matching.specs.Occurrences.{FirstCopy}
 use Rattle.matching.proofs.Decide.{by-dec}
-use Rattle.matching.proofs.Step.{lam-inj, constant-normal}
+use Rattle.matching.proofs.Step.{constant-normal}
 use Rattle.matching.proofs.Lists.{Under}
 use Rattle.matching.proofs.Prune.{Choice, argument-first}
 use Rattle.matching.proofs.Goals.{Listing, listing-goal, listing-same}

@@ -12,16 +12,17 @@ use lib.Dec.{T, ltb}
 use borrow.Author.Tests.{lt-ltb, le-ltb, eq-eqb}
 use Rattle.terms.specs.Term.{Term, app, lam, loc, con, var, Normal, Closed, Ground, size, shift, substitute, uses, isEta}
 use Rattle.terms.specs.Sweep.{fill}
-use Rattle.terms.proofs.Tests.{by-eqb, or-true}
+use Rattle.terms.proofs.Tests.{by-eqb, or-true, or-right}
 use Rattle.terms.proofs.Shift.{shift-unshift, unused-shift, size-shift}
 use Rattle.terms.proofs.Substitute.{by-substitute, substitute-here, substitute-unused, substitute-shift, normal-substitute, size-pos}
 use Rattle.terms.proofs.Substitute.{size-used}
 use Rattle.terms.proofs.Contracted.{contracted-sweep}
+use Rattle.terms.proofs.Table.{lam-inj}
 use Rattle.matching.specs.Bodies.{ChosenSoFar, copies, choose, body, Some, Family, either}
 use Rattle.matching.specs.Abstractions.{same}
 use Rattle.matching.specs.Goals.{Sweeps, Build}
 use Rattle.matching.proofs.Decide.{by-dec, either-no}
-use Rattle.matching.proofs.Step.{lam-inj, lam-normal-of}
+use Rattle.matching.proofs.Step.{lam-normal-of}
 use Rattle.matching.proofs.Prune.{replaceAll, replaceAll-here}
 use Rattle.matching.proofs.Targets.{closed-shift, ground-shift}
 
@@ -165,10 +166,6 @@ used-body e =
   where
     or-left : (a b : Bool) → a ≡ true → a || b ≡ true
     or-left a b p = rw p
-
-    or-right : (a b : Bool) → b ≡ true → a || b ≡ true
-    or-right true b p = refl
-    or-right false b p = p
 
 pub body-uses : (e : Term) (d : ℕ) (t : Term) (c : ℕ → Bool) (k : ℕ) → (uses d (body e d t c k) ≡ true) ↔ Some c k (copies e d t)
 body-uses e d t c k = (body-used e d t c k, used-body e d t c k)

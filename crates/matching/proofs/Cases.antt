@@ -56,29 +56,29 @@ assigns? [] = yes tt
 assigns? (o ∷ a) = dec-× (assigned? o) (assigns? a)
 
 -- the entry is assigned, and every variable's is
-abbrev Filled : Option Term → Type 0
-Filled none = ⊥
-Filled (some v) = Unit {0}
+abbrev HasValue : Option Term → Type 0
+HasValue none = ⊥
+HasValue (some v) = Unit {0}
 
-abbrev filled? : (o : Option Term) → Dec (Filled o)
-filled? none = no (λ x. x)
-filled? (some v) = yes tt
+abbrev has-value? : (o : Option Term) → Dec (HasValue o)
+has-value? none = no (λ x. x)
+has-value? (some v) = yes tt
 
 abbrev FilledIn : Assignment → Term → Type 0
 FilledIn a (app f e) = FilledIn a f × FilledIn a e
 FilledIn a (lam b) = FilledIn a b
 FilledIn a (loc k) = Unit {0}
 FilledIn a (con k) = Unit {0}
-FilledIn a (var i) = Filled (entry a i)
+FilledIn a (var i) = HasValue (entry a i)
 
 abbrev filledIn? : (a : Assignment) (p : Term) → Dec (FilledIn a p)
 filledIn? a (app f e) = dec-× (filledIn? a f) (filledIn? a e)
 filledIn? a (lam b) = filledIn? a b
 filledIn? a (loc k) = yes tt
 filledIn? a (con k) = yes tt
-filledIn? a (var i) = filled? (entry a i)
+filledIn? a (var i) = has-value? (entry a i)
 
-filled-is : (o : Option Term) → Filled o → (v : Term) × (o ≡ some v)
+filled-is : (o : Option Term) → HasValue o → (v : Term) × (o ≡ some v)
 filled-is none h = absurd h
 filled-is (some v) h = (v, refl)
 

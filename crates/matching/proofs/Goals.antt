@@ -11,10 +11,11 @@ use Rattle.terms.specs.Sweep.{fill}
 use Rattle.terms.specs.Assignment.{Assigns}
 use Rattle.terms.specs.Listing.{In, Line}
 use Rattle.terms.proofs.Contracted.{contracted-sweep}
+use Rattle.terms.proofs.Table.{lam-inj}
 use Rattle.matching.specs.Goals.{Goal, Meets, All, Suits, Listable, Goal.match, Goal.build, Sweeps, Build}
 use Rattle.matching.specs.Lists.{Values, Extends, Predicate, Lists}
 use Rattle.matching.proofs.Members.{flatMap}
-use Rattle.matching.proofs.Step.{lam-inj, lam-normal-of}
+use Rattle.matching.proofs.Step.{lam-normal-of}
 use Rattle.matching.proofs.Splits.{buildable, buildable-in, in-buildable, buildable-distinct}
 use Rattle.matching.proofs.Lines.{openLine, length-blank, extends-blank, assigns-blank}
 use Rattle.matching.proofs.Lists.{lists-same, lists-more, lists-none, lists-one, lists-or, lists-some, lists-and}

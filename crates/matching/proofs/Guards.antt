@@ -2,7 +2,7 @@
 -- application as it is, so that what is put for the local never meets an argument of its own. By induction on the term. Assumes nothing.
 --   Guarded k t   the same, as a type
 use mathlib.Core.Path.{_≡_, refl, sym, ap, _∙_, subst}
-use mathlib.Core.Bool.{Bool, true, false, not, cond, _&&_}
+use mathlib.Core.Bool.{Bool, true, false, not, cond}
 use mathlib.Core.Logic.{_⊎_, inl, inr, ⊎-elim}
 use Prim.Native.Nat.{ℕ, suc, _+_, _-_, _≤_}
 use native.Mathlib.Omega.{arith}
@@ -10,7 +10,7 @@ use lib.Dec.{T, eqb}
 use borrow.Author.Tests.{eqb-true, eqb-false, le-ltb}
 use Rattle.terms.specs.Term.{Term, app, lam, loc, con, var, Closed, shift, unshift, substitute, uses, isAbstraction}
 use Rattle.terms.specs.Sweep.{contract, sweep, fill}
-use Rattle.terms.proofs.Tests.{by-ltb, or-false}
+use Rattle.terms.proofs.Tests.{by-ltb, or-false, and-split}
 use Rattle.terms.proofs.Substitute.{by-substitute, substitute-high}
 use Rattle.terms.proofs.Sweep.{contract-app}
 use Rattle.terms.proofs.Contracted.{Abstracted, Abstracted.out, Abstracted.kept, abstracted}
@@ -25,10 +25,6 @@ Guarded k (con n) = Unit {0}
 Guarded k (var n) = Unit {0}
 
 -- the test and the type
-and-both : (x y : Bool) → x && y ≡ true → (x ≡ true) × (y ≡ true)
-and-both true y e = (refl, e)
-and-both false y e = absurd (subst T (sym e) tt)
-
 is-local : (k : ℕ) (t : Term) → isLocal k t ≡ true → t ≡ loc k
 is-local k (app f a) e = absurd (subst T (sym e) tt)
 is-local k (lam b) e = absurd (subst T (sym e) tt)
@@ -38,7 +34,7 @@ is-local k (var n) e = absurd (subst T (sym e) tt)
 
 pub guarded-is : (k : ℕ) (t : Term) → guarded k t ≡ true → Guarded k t
 guarded-is k (app f a) e =
-    let p = and-both (guarded k f) (cond (isLocal k a) (constantHead f) (guarded k a)) e in
+    let p = and-split (guarded k f) (cond (isLocal k a) (constantHead f) (guarded k a)) e in
     (guarded-is k f (p .0), go (isLocal k a) refl (p .1) (guarded-is k a))
   where
     go : (b : Bool) → isLocal k a ≡ b → cond b (constantHead f) (guarded k a) ≡ true → (guarded k a ≡ true → Guarded k a)
@@ -88,7 +84,7 @@ guarded-closed d k (con n) l c = tt
 guarded-closed d k (var n) l c = tt
 
 -- shifting, and moving out
-shift-high : (d c n : ℕ) → c ≤ n → shift d c (loc n) ≡ loc (n + d)
+pub shift-high : (d c n : ℕ) → c ≤ n → shift d c (loc n) ≡ loc (n + d)
 shift-high d c n l = rw (le-ltb n c l)
 
 guarded-shift : (d c k j : ℕ) (t : Term) → c ≤ k → j ≡ k + d → Guarded k t → Guarded j (shift d c t)

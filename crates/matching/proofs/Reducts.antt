@@ -29,7 +29,7 @@ use Rattle.matching.specs.Goals.{Sweeps}
 use Rattle.matching.proofs.Lists.{lists-same, lists-more}
 use Rattle.matching.proofs.Partial.{full-lists, lists-full}
 use Rattle.matching.proofs.Step.{isAbstraction-unshift, contract-to-other}
-use Rattle.matching.proofs.Guards.{Guarded, guarded-is, guarded-unshift, guarded-fill, guarded-sweep, guarded-head}
+use Rattle.matching.proofs.Guards.{Guarded, guarded-is, guarded-unshift, guarded-fill, guarded-sweep, guarded-head, shift-high}
 
 pub record Passes (h : ℕ → Term → Term) : Type 0 where
   pub application : (k : ℕ) (f a : Term) → h k (app f a) ≡ app (h k f) (h k a)
@@ -41,9 +41,6 @@ pub record Passes (h : ℕ → Term → Term) : Type 0 where
 
 shift-low : (d b n : ℕ) → n < b → shift d b (loc n) ≡ loc n
 shift-low d b n l = rw (lt-ltb n b l)
-
-shift-high : (d b n : ℕ) → b ≤ n → shift d b (loc n) ≡ loc (n + d)
-shift-high d b n l = rw (le-ltb n b l)
 
 raised : (n k : ℕ) → k < n → loc n ≡ shift 1 k (loc (n - 1))
 raised n k l = rw (le-ltb (n - 1) k (omega arith)) (ap loc (omega arith))

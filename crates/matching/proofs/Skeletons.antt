@@ -7,12 +7,9 @@ use mathlib.Core.Bool.{Bool, true, false, cond, _&&_}
 use Prim.Native.Nat.{ℕ, zero, suc, _-_}
 use native.Mathlib.Omega.{arith}
 use lib.Dec.{T, eqb}
-use Rattle.terms.specs.Term.{Term, app, lam, loc, con, var, shift, unshift, uses, substitute, Closed}
+use Rattle.terms.specs.Term.{Term, app, lam, loc, con, var, shift, substitute, Closed}
 use Rattle.terms.specs.Sweep.{contract}
 use Rattle.terms.proofs.Tests.{by-ltb, by-eqb, or-false}
-use Rattle.terms.proofs.Shift.{shift-unshift, uses-above}
-use Rattle.terms.proofs.Contracted.{Abstracted, Abstracted.out, Abstracted.kept, abstracted}
-use Rattle.terms.proofs.Locals.{closed-unused, unused-closed}
 use Rattle.matching.specs.Skeletons.{Fits, isUnsure, hasVariable, Fills}
 use Rattle.matching.proofs.Reducts.{Passes, passes-closed, shift-passes, substitute-passes, closed-redex}
 
@@ -133,14 +130,3 @@ closed-apply d (lam b) a c e = closed-redex d a b e c
 closed-apply d (loc n) a c e = (c, e)
 closed-apply d (con n) a c e = (c, e)
 closed-apply d (var n) a c e = (c, e)
-
-pub closed-abstract : (d : ℕ) (s : Term) → Closed (suc d) s → Closed d (contract (lam s))
-closed-abstract d s c = go (abstracted s)
-  where
-    go : Abstracted s → Closed d (contract (lam s))
-    go (out m p u l w) =
-        rw w (unused-closed d (unshift 1 0 m) (λ j h.
-        sym (uses-above (suc j) j 1 0 (unshift 1 0 m) (omega arith) (omega arith)) ∙ ap (uses (suc j)) (shift-unshift 0 m u)
-        ∙ or-false (uses (suc j) m) (uses (suc j) (loc 0))
-        (sym (ap (uses (suc j)) p) ∙ closed-unused (suc d) (suc j) s (omega arith) c) .0))
-    go (kept o w) = rw w c

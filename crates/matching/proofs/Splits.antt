@@ -16,12 +16,13 @@ use Rattle.terms.proofs.Tests.{or-true, true-of}
 use Rattle.terms.proofs.Shift.{unshift-shift}
 use Rattle.terms.proofs.Substitute.{substitute-here}
 use Rattle.terms.proofs.Members.{in-left, in-right, in-append, distinct-append, one}
+use Rattle.terms.proofs.Table.{lam-inj}
 use Rattle.matching.specs.Abstractions.{same, abstractions}
 use Rattle.matching.proofs.Abstractions.{abstractions-iff, abstractions-distinct}
 use Rattle.matching.proofs.Decide.{normal?, dec-T, dec-×}
 use Rattle.matching.proofs.Members.{guard, flatMap, nub, in-guard, guard-in, distinct-guard, in-map, map-in, distinct-map}
 use Rattle.matching.proofs.Members.{in-flatMap, flatMap-in, distinct-flatMap, in-nub, distinct-nub}
-use Rattle.matching.proofs.Step.{lam-inj, Split, Split.parts, Split.body}
+use Rattle.matching.proofs.Step.{Split, Split.parts, Split.body}
 
 -- a term that stands below d binders, moved out of them, if it uses none
 abbrev movable : ℕ → Term → List Term

@@ -49,9 +49,6 @@ contract-to s (con n) h = contract-to-other s (con n) refl
 contract-to s (var n) h = contract-to-other s (var n) refl
 
 -- applications
-pub lam-inj : (b c : Term) → lam b ≡ lam c → b ≡ c
-lam-inj b c p = cc
-
 pub data Split (f e t : Term) : Type 0 where
   -- the target is an application of the two
   parts : t ≡ app f e → Split f e t

@@ -8,7 +8,7 @@
 --   recordText l k          a blank and the record k of the table l
 --   recordsText l n         the first n records of the table l, each behind a blank
 --   Numbers i v n           line i, variable v and n records, with blanks between
---   Entry i v n l           the printed line of an assigned entry: its numbers, and the records of the table l
+--   EntryText i v n l       the printed line of an assigned entry: its numbers, and the records of the table l
 --   Bare i                  the printed line of line i if it assigns nothing
 --   Labelled w n            the word w and a number: the first printed line
 --   Puts P out at r after   a text with P was put into out from byte `at` on, and r is its end
@@ -67,8 +67,8 @@ recordsText l (suc n) = recordsText l n ++ recordText l n
 abbrev pub Numbers : ℕ → ℕ → ℕ → Text
 Numbers i v n = Decimal i ⨾ Is blank ⨾ Decimal v ⨾ Is blank ⨾ Decimal n
 
-abbrev pub Entry : ℕ → ℕ → ℕ → List ℕ → Text
-Entry i v n l = Numbers i v n ⨾ Is (recordsText l (length l / 4)) ⨾ Is newline
+abbrev pub EntryText : ℕ → ℕ → ℕ → List ℕ → Text
+EntryText i v n l = Numbers i v n ⨾ Is (recordsText l (length l / 4)) ⨾ Is newline
 
 -- "A line that assigns nothing prints its number and `-`."
 abbrev pub Bare : ℕ → Text

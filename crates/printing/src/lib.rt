@@ -21,7 +21,7 @@ ghost use Rattle.io.specs.Counts.{Counts};
 ghost use Rattle.io.specs.Digits.{glyph as Digits·glyph};
 ghost use Rattle.terms.specs.Figures.{variables, tableBytes};
 ghost use Rattle.records.specs.Tests.{Says};
-ghost use Rattle.printing.specs.Text.{Is, Decimal, Numbers, Entry as EntryText, Bare, Labelled, hex, recordText, recordsText, Puts};
+ghost use Rattle.printing.specs.Text.{Is, Decimal, Numbers, EntryText, Bare, Labelled, hex, recordText, recordsText, Puts};
 ghost use Rattle.printing.specs.Text.{OpenBefore, room, SpansWithin, Printable};
 ghost use Rattle.assignments.specs.declared.Entry.{Entry as assignments·Entry};
 

@@ -17,6 +17,7 @@ use Rattle.terms.specs.Refusal.{Row, Refused, Passed, BadLength, NoTerm, patter
 use Rattle.terms.proofs.Refusal.{refused-passed}
 use Rattle.terms.proofs.Tests.{by-ltb}
 use Rattle.terms.proofs.Table.{encode-length, good-below}
+use Rattle.terms.proofs.Substitute.{size-pos}
 use Rattle.records.specs.declared.End.{End}
 use Rattle.records.specs.declared.End.the-variants.{At, Nowhere}
 use Rattle.records.specs.declared.PatternCheck.{PatternCheck}
@@ -26,7 +27,7 @@ use Rattle.records.specs.Tests.{Says, Tells}
 use Rattle.records.specs.Checks.{patternRefusal, recipeRefusal, Answers, Pattern, NormalTable, ValueTable, OneTerm, Good}
 use Rattle.records.specs.Checks.{TableChecked}
 use Rattle.records.proofs.Record.{Bytes, rest-bytes, number-fits}
-use Rattle.records.proofs.Parts.{at-start, tree, size-some}
+use Rattle.records.proofs.Parts.{at-start, tree}
 use Rattle.records.proofs.Tests.{says}
 
 not-both : (b : Bool) → b ≡ true → b ≡ false → ⊥
@@ -47,7 +48,7 @@ size-most m l t b e = omega (arith, length-most m l b, ap length e, encode-lengt
 length-right : (m : ℕ) (l : List ℕ) (t : Term) → l ≡ encode t → size t ≤ m → ¬ BadLength m l
 length-right m l t e h b =
     let n : length l ≡ 4 * size t = ap length e ∙ encode-length t in
-    ⊎-elim (λ (x : length l ≡ 0). omega (arith, size-some t))
+    ⊎-elim (λ (x : length l ≡ 0). omega (arith, size-pos t))
     (λ c. ⊎-elim (λ (x : 4 * m < length l). omega arith) (λ f. f (omega arith)) c) b
 
 -- one term, from where the part that the table begins with ends

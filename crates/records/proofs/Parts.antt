@@ -2,13 +2,14 @@
 -- Assumes nothing.
 use mathlib.Core.Path.{_≡_, refl, sym, ap, _∙_, subst}
 use mathlib.Core.List.{List, [], _∷_, _++_, append-assoc, append-nil}
-use Prim.Native.Nat.{ℕ, _+_, _-_, _*_, _≤_, _<_}
+use Prim.Native.Nat.{ℕ, _+_, _-_, _*_, _<_}
 use native.Mathlib.Omega.{arith}
 use lib.ListN.{length, getD, take, drop, length-append, length-drop, length-take}
 use lib.Seq.{drop-drop, drop-at, take-at, take-all}
 use Rattle.terms.specs.Term.{Term, app, lam, loc, con, var, size}
 use Rattle.terms.specs.Table.{bytes, encode}
 use Rattle.terms.proofs.Table.{kind, numberOf, encode-length, encode-inj}
+use Rattle.terms.proofs.Substitute.{size-pos}
 use Rattle.records.specs.Record.{parts, numberAt}
 use Rattle.records.specs.Parts.{slice, Part, Whole, Ends, Tree, Divided, Lies}
 use Rattle.records.proofs.Record.{kind-read, number-read, rest-read}
@@ -44,19 +45,12 @@ encode-first (loc n) = refl
 encode-first (con n) = refl
 encode-first (var n) = refl
 
-pub size-some : (t : Term) → 1 ≤ size t
-size-some (app f a) = omega arith
-size-some (lam b) = omega arith
-size-some (loc n) = omega arith
-size-some (con n) = omega arith
-size-some (var n) = omega arith
-
 pub part : (l : List ℕ) (at : ℕ) (t : Term) (rest : List ℕ) → drop at l ≡ encode t ++ rest → Part l at t
 part l at t rest e = record {
   rest = rest;
   bytes = e;
-  some = size-some t;
-  within = omega (arith, ap length e, length-append (encode t) rest, encode-length t, length-drop at l, size-some t);
+  some = size-pos t;
+  within = omega (arith, ap length e, length-append (encode t) rest, encode-length t, length-drop at l, size-pos t);
 }
 
 -- one term stands at a place, and its table there
@@ -168,7 +162,7 @@ pub at-start : (l : List ℕ) (t : Term) → l ≡ encode t → Part l 0 t
 at-start l t e = part l 0 t [] (e ∙ sym (append-nil (encode t)))
 
 pub tree : (l : List ℕ) (t : Term) → l ≡ encode t → Tree l
-tree l t e = record { tree = t; bytes = e; least = omega (arith, ap length e, encode-length t, size-some t) }
+tree l t e = record { tree = t; bytes = e; least = omega (arith, ap length e, encode-length t, size-pos t) }
 
 pub tree-whole : (l : List ℕ) → Tree l → Whole l 0
 tree-whole l x = whole l 0 (x .tree) (at-start l (x .tree) (x .bytes))

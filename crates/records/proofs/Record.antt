@@ -13,7 +13,7 @@ use lib.Seq.{getD-drop, drop-drop}
 use borrow.Author.Tests.{eqb-true, leb-true, leb-false, eq-eqb, ne-eqb, le-leb, lt-leb, lt-ltb, le-ltb}
 use Rattle.terms.specs.Figures.{constants}
 use Rattle.terms.specs.Table.{bytes, recordOf, allowed, goodRecords}
-use Rattle.terms.proofs.Tests.{and-true}
+use Rattle.terms.proofs.Tests.{and-true, and-split}
 use Rattle.records.specs.declared.Kind.{Kind}
 use Rattle.records.specs.declared.KindRead.{KindRead}
 use Rattle.records.specs.declared.KindRead.the-variants.{Known, Unknown}
@@ -56,10 +56,6 @@ module _ (l : List ℕ) (at : ℕ) where
   -- good records are an allowed one and good ones
   pub good-step : (v : ℕ) → at + 4 ≤ length l → goodRecords v (drop at l) ≡ (allowed v (recordAt l at) && goodRecords v (drop (at + 4) l))
   good-step v h = ap (goodRecords v) (record-drop h)
-
-pub and-split : (a b : Bool) → a && b ≡ true → (a ≡ true) × (b ≡ true)
-and-split true b e = (refl, e)
-and-split false b e = absurd (subst T (sym e) tt)
 
 pub good-split : (l : List ℕ) (at v : ℕ) → at + 4 ≤ length l → goodRecords v (drop at l) ≡ true
     → (allowed v (recordAt l at) ≡ true) × (goodRecords v (drop (at + 4) l) ≡ true)

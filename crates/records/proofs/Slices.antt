@@ -25,14 +25,8 @@ module _ (l : List ℕ) (n : ℕ) where
   pub part-slice : (t : Term) → Part l n t → Part (slice l n) 0 t
   part-slice t x = part (slice l n) 0 t (x .rest) (rest-part l n ∙ x .bytes)
 
-  pub slice-part : (t : Term) → Part (slice l n) 0 t → Part l n t
-  slice-part t x = part l n t (x .rest) (sym (rest-part l n) ∙ x .bytes)
-
   pub whole-slice : Whole l n → Whole (slice l n) 0
   whole-slice x = whole (slice l n) 0 (x .tree) (part-slice (x .tree) (x .part))
-
-  pub slice-whole : Whole (slice l n) 0 → Whole l n
-  slice-whole x = whole l n (x .tree) (slice-part (x .tree) (x .part))
 
   pub slice-length : length (slice l n) ≡ length l - n
   slice-length = ap length (rest-part l n) ∙ length-drop n l

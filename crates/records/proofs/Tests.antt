@@ -14,6 +14,7 @@ use Rattle.terms.specs.Term.{Term, app, lam, loc, con, var, size, uses, isInner
 use Rattle.terms.specs.Table.{encode}
 use Rattle.terms.proofs.Table.{kind, numberOf, encode-length}
 use Rattle.terms.proofs.Tests.{or-false, and-true}
+use Rattle.terms.proofs.Substitute.{size-pos}
 use Rattle.records.specs.declared.Ask.{Ask}
 use Rattle.records.specs.declared.Ask.the-variants.{Below, Other}
 use Rattle.records.specs.declared.Walk.{Walk}
@@ -21,7 +22,7 @@ use Rattle.records.specs.declared.Walk.the-variants.{Upto, No}
 use Rattle.records.specs.Record.{numberAt, innermostAt}
 use Rattle.records.specs.Parts.{Part, Whole, Ends}
 use Rattle.records.specs.Tests.{Says, Equals, Head, asked, Asks, Walked, Near, further}
-use Rattle.records.proofs.Parts.{at-start, size-some, application, abstraction, argument-part, kind-at, number-at, ends-app}
+use Rattle.records.proofs.Parts.{at-start, application, abstraction, argument-part, kind-at, number-at, ends-app}
 use Rattle.records.proofs.Parts.{ends-lam, ends-leaf}
 
 pub says : (A : Type 0) (b r : Bool) → Says b A → b ≡ r → Says r A
@@ -166,8 +167,8 @@ leaf-last l at last a x e i =
 
 innermost-last : (l : List ℕ) (at last : ℕ) (a : Term) → Part l at a → last + 4 ≡ at + 4 * size a
     → isInnermost a ≡ (eqb at last && innermostAt l last)
-innermost-last l at last (app f a) x e = ap (_&& innermostAt l last) (sym (ne-eqb at last (λ p. omega (arith, size-some f))))
-innermost-last l at last (lam b) x e = ap (_&& innermostAt l last) (sym (ne-eqb at last (λ p. omega (arith, size-some b))))
+innermost-last l at last (app f a) x e = ap (_&& innermostAt l last) (sym (ne-eqb at last (λ p. omega (arith, size-pos f))))
+innermost-last l at last (lam b) x e = ap (_&& innermostAt l last) (sym (ne-eqb at last (λ p. omega (arith, size-pos b))))
 innermost-last l at last (loc n) x e = leaf-last l at last (loc n) x (omega arith) refl
 innermost-last l at last (con n) x e = leaf-last l at last (con n) x (omega arith) refl
 innermost-last l at last (var n) x e = leaf-last l at last (var n) x (omega arith) refl

@@ -1,9 +1,9 @@
 // Tables of 4-byte records: read, written and judged.
 //
 // A term is a table of records in the order head before argument, so a table is read by the kinds of its records alone. The crate has
-// the kinds, one record read and written, the parts of a table, tests of the term that a table holds (closed, normal, whether a local is used), and
-// the checks by which bytes from outside come in. It promises that each check gives exactly the first of document 01's causes 1 to 7 that
-// holds, for any bytes at all, and that each test answers for the very term whose table it was lent. It rests on the definitions of
+// the kinds, one record read and written, the parts of a table, tests of the term that a table holds (closed, normal, which locals it uses),
+// and the checks by which bytes from outside come in. It promises that each check gives exactly the first of document 01's causes 1 to 7
+// that holds, for any bytes at all, and that each test answers for the very term whose table it was lent. It rests on the definitions of
 // `terms`; that a record begins with its kind is used throughout, how its other bytes lie only by the functions of one record.
 //
 // `part_end` looks at the kinds alone and passes each record once; that a term stands there is promised for good records, which

@@ -13,11 +13,12 @@ use Rattle.terms.specs.Sweep.{contract}
 use Rattle.terms.specs.Table.{bytes, encode, IsTable}
 use Rattle.terms.specs.Heads.{rigid}
 use Rattle.terms.proofs.Table.{encode-length}
+use Rattle.terms.proofs.Substitute.{size-pos}
 use Rattle.matching.specs.Reducts.{guarded, isPassed, applied, reduct}
 use Rattle.matching.proofs.Reducts.{closed-redex, reduct-closed}
 use Rattle.records.specs.Parts.{slice, Part, Tree}
 use Rattle.records.specs.Tests.{Equals}
-use Rattle.records.proofs.Parts.{size-some, whole, kind-at, at-start, leaf-size, application-of, abstraction-of}
+use Rattle.records.proofs.Parts.{whole, kind-at, at-start, leaf-size, application-of, abstraction-of}
 use Rattle.sweeping.specs.declared.Length.{Length}
 use Rattle.sweeping.specs.declared.Length.the-variants.{Records, TooLong}
 use Rattle.sweeping.specs.Swept.{SweptParts}
@@ -107,7 +108,7 @@ module _ (l m : List ℕ) (x : Reducible l) where
   part t d e h c = record {
     tree = t;
     bytes = e;
-    least = omega (arith, table-length m t e, size-some t);
+    least = omega (arith, table-length m t e, size-pos t);
     depth = d;
     shallow = h;
     closed = c;
@@ -136,7 +137,7 @@ pub reducible : (l : List ℕ) (t : Term) → IsTable l t → size t ≤ pattern
 reducible l t x h = record {
   tree = t;
   bytes = x .0;
-  least = omega (arith, table-length l t (x .0), size-some t);
+  least = omega (arith, table-length l t (x .0), size-pos t);
   depth = 0;
   shallow = omega arith;
   closed = x .1;
@@ -157,7 +158,7 @@ reduct-table t out p r n x e h =
     let y : Reduced t out (Records n) p = subst (λ (q : Length). Reduced t out q p) e x in
     let b = stored out p (encode t) (n * 4) (y .2) (omega (arith, y .0, encode-length t)) (omega (arith, y .1)) in
     record {
-      some = omega (arith, y .0, size-some t);
+      some = omega (arith, y .0, size-pos t);
       few = y .1;
       bytes = b;
       fills = omega (arith, y .0, table-length (take (n * 4 - 0) (drop 0 p)) t b);

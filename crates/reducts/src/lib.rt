@@ -22,7 +22,8 @@ ghost use Prim.Native.Nat.{_≤_};
 ghost use lib.ListN.{length, getD};
 ghost use Rattle.terms.specs.Table.{applicationKind, abstractionKind};
 ghost use Rattle.sweeping.specs.Swept.{SweptParts};
-ghost use Rattle.reducts.specs.Reduced.{patternBytes, Contracts, ReducesApplication, ReducibleParts, ReducesRedex, Reducible, Reduces};
+ghost use Rattle.reducts.specs.Reduced.{patternBytes, Contracts, ReducesApplication, ReducibleParts, ReducesRedex};
+ghost use Rattle.reducts.specs.Reduced.{Reducible, Reduces};
 
 // The bytes of a pattern of 32 records, the longest reduct that is written.
 pub const PATTERN_BYTES: usize = RECORD * PATTERN_RECORDS;

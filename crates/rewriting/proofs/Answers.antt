@@ -8,7 +8,7 @@ use Rattle.terms.proofs.Refusal.{refused-first, refused-later, passed-both}
 use Rattle.refusals.specs.declared.Verdict.{Verdict}
 use Rattle.refusals.specs.declared.Refusal.{Refusal}
 use Rattle.refusals.specs.Judged.{number, Judged}
-use Rattle.rewriting.specs.declared.Match.{Match}
+use Rattle.rewriting.specs.declared.MatchTest.{MatchTest}
 use Rattle.rewriting.specs.declared.CheckAnswer.{CheckAnswer}
 use Rattle.rewriting.specs.declared.SweepAnswer.{SweepAnswer}
 use Rattle.rewriting.specs.declared.RewriteAnswer.{RewriteAnswer}
@@ -30,20 +30,20 @@ module _ (p r l s w : List ℕ) (W : Type 0) (v : Verdict) (x : Judged (lentForC
   unfolding Checked
   checked-lent c e = refused-lent (lentForCheck p r l s w) W v x (swept p l s) c e
 
-  module _ (e : v ≡ Verdict.Right) (m : Match) (y : Matched p l s r m) where
-    pub checked-yes : m ≡ Match.Yes → Checked p r l s w CheckAnswer.Yes
+  module _ (e : v ≡ Verdict.Right) (m : MatchTest) (y : Matched p l s r m) where
+    pub checked-yes : m ≡ MatchTest.Yes → Checked p r l s w CheckAnswer.Yes
     unfolding Checked Matched
     checked-yes q =
         let z = subst (Matched p l s r) q y in
         (passed-both (lentForCheck p r l s w) (swept p l s) (passed-lent (lentForCheck p r l s w) W v x e) (z .0), z .1)
 
-    pub checked-no : m ≡ Match.No → Checked p r l s w CheckAnswer.No
+    pub checked-no : m ≡ MatchTest.No → Checked p r l s w CheckAnswer.No
     unfolding Checked Matched
     checked-no q =
         let z = subst (Matched p l s r) q y in
         (passed-both (lentForCheck p r l s w) (swept p l s) (passed-lent (lentForCheck p r l s w) W v x e) (z .0), z .1)
 
-    pub checked-long : m ≡ Match.TooLong → Checked p r l s w (CheckAnswer.Refused Refusal.SweptForm)
+    pub checked-long : m ≡ MatchTest.TooLong → Checked p r l s w (CheckAnswer.Refused Refusal.SweptForm)
     unfolding Checked Matched
     checked-long q =
         refused-later (lentForCheck p r l s w) (swept p l s) 12 (passed-lent (lentForCheck p r l s w) W v x e) (subst (Matched p l s r) q y)
@@ -78,8 +78,8 @@ module _ (p q r l s o w : List ℕ) (W : Type 0) (v : Verdict) (x : Judged (lent
   unfolding Rewritten
   rewritten-lent c e = (refused-lent lent W v x (swept p l s ++ (unmatched p l s r ++ right)) c e, refl)
 
-  module _ (e : v ≡ Verdict.Right) (m : Match) (y : Matched p l s r m) where
-    pub rewritten-long : m ≡ Match.TooLong → Rewritten p q r l s o w (RewriteAnswer.Refused Refusal.SweptForm) o
+  module _ (e : v ≡ Verdict.Right) (m : MatchTest) (y : Matched p l s r m) where
+    pub rewritten-long : m ≡ MatchTest.TooLong → Rewritten p q r l s o w (RewriteAnswer.Refused Refusal.SweptForm) o
     unfolding Rewritten Matched
     rewritten-long z = (
       refused-later lent (swept p l s ++ (unmatched p l s r ++ right)) 12 (passed-lent lent W v x e)
@@ -87,7 +87,7 @@ module _ (p q r l s o w : List ℕ) (W : Type 0) (v : Verdict) (x : Judged (lent
       refl,
     )
 
-    pub rewritten-no : m ≡ Match.No → Rewritten p q r l s o w (RewriteAnswer.Refused Refusal.NoMatch) o
+    pub rewritten-no : m ≡ MatchTest.No → Rewritten p q r l s o w (RewriteAnswer.Refused Refusal.NoMatch) o
     unfolding Rewritten Matched
     rewritten-no z =
         let k = subst (Matched p l s r) z y in (
@@ -97,7 +97,7 @@ module _ (p q r l s o w : List ℕ) (W : Type 0) (v : Verdict) (x : Judged (lent
         )
 
     -- the left side matches, and the right side is written or refused
-    module _ (z : m ≡ Match.Yes) (a : SweepAnswer) (after : List ℕ) (u : SideSwept q l s o a after) where
+    module _ (z : m ≡ MatchTest.Yes) (a : SweepAnswer) (after : List ℕ) (u : SideSwept q l s o a after) where
       left-passed : Passed (lent ++ (swept p l s ++ unmatched p l s r))
       unfolding Matched
       left-passed =

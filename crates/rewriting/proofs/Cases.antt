@@ -22,40 +22,40 @@ use Rattle.rewriting.specs.Operations.{lentForCheck, Checked}
 use Rattle.rewriting.proofs.Determined.{checked-one}
 
 -- 8. `\ @ @ p0 #0 p1`, `\ @ @ k1 #0 #0`, p0=`\ \ @ #0 #1`, p1 = the recipe: check says no
-abbrev pattern : Term
-pattern = lam (app (app (var 0) (loc 0)) (var 1))
+abbrev casePattern : Term
+casePattern = lam (app (app (var 0) (loc 0)) (var 1))
 
-abbrev recipe : Term
-recipe = lam (app (app (con 1) (loc 0)) (loc 0))
+abbrev caseRecipe : Term
+caseRecipe = lam (app (app (con 1) (loc 0)) (loc 0))
 
 -- their tables
 abbrev p : List ℕ
-p = encode pattern
+p = encode casePattern
 
 abbrev r : List ℕ
-r = encode recipe
+r = encode caseRecipe
 
 abbrev first : Term
 first = lam (lam (app (loc 0) (loc 1)))
 
 abbrev φ : ℕ → Term
 φ zero = first
-φ (suc n) = recipe
+φ (suc n) = caseRecipe
 
 -- the line: 5 records from 0, 6 records from 5, and for the variables that don't occur bytes that are not read
 abbrev line : List ℕ
 line = 0 ∷ 0 ∷ 0 ∷ 5 ∷ 0 ∷ 5 ∷ 0 ∷ 6 ∷ replicate (4 * variables - 8) 255
 
-abbrev values : List ℕ
-values = encode first ++ r
+abbrev caseValues : List ℕ
+caseValues = encode first ++ r
 
-pattern-table : IsTable p pattern
+pattern-table : IsTable p casePattern
 pattern-table = (refl, ((tt, lit< tt), tt))
 
-recipe-table : IsTable r recipe
+recipe-table : IsTable r caseRecipe
 recipe-table = (refl, ((tt, lit< tt), lit< tt))
 
-first-stored : Stored line values 0 first
+first-stored : Stored line caseValues 0 first
 first-stored = record {
   least = lit≤ tt;
   most = lit≤ tt;
@@ -64,7 +64,7 @@ first-stored = record {
   value = ((lit< tt, lit< tt), (tt, (tt, (tt, tt, tt))), (tt, tt));
 }
 
-second-stored : Stored line values 1 recipe
+second-stored : Stored line caseValues 1 caseRecipe
 second-stored = record {
   least = lit≤ tt;
   most = lit≤ tt;
@@ -73,49 +73,49 @@ second-stored = record {
   value = (((tt, lit< tt), lit< tt), (tt, (tt, (tt, tt, tt), tt)), ((lit< tt, tt), tt));
 }
 
-stored : (i : ℕ) → Occurs i pattern → Stored line values i (φ i)
-stored i (inl (inl e)) = subst (λ (j : ℕ). Stored line values j (φ j)) (sym e) first-stored
+stored : (i : ℕ) → Occurs i casePattern → Stored line caseValues i (φ i)
+stored i (inl (inl e)) = subst (λ (j : ℕ). Stored line caseValues j (φ j)) (sym e) first-stored
 stored i (inl (inr e)) = absurd e
-stored i (inr e) = subst (λ (j : ℕ). Stored line values j (φ j)) (sym e) second-stored
+stored i (inr e) = subst (λ (j : ℕ). Stored line caseValues j (φ j)) (sym e) second-stored
 
-filled : Filled p line values (fill φ pattern)
-filled = record { term = pattern; table = pattern-table; φ = φ; stored = stored; is = refl }
+filled : Filled p line caseValues (fill φ casePattern)
+filled = record { term = casePattern; table = pattern-table; φ = φ; stored = stored; is = refl }
 
-filled-is : (t : Term) → Filled p line values t → t ≡ fill φ pattern
-filled-is t f = filled-one p line values t (fill φ pattern) f filled
+filled-is : (t : Term) → Filled p line caseValues t → t ≡ fill φ casePattern
+filled-is t f = filled-one p line caseValues t (fill φ casePattern) f filled
 
-tables-passed : (w : List ℕ) → length w ≡ tableBytes → Passed (assignmentTables line values w)
-tables-passed w h = (λ n. n refl, (table-passed 4 values (lit≤ tt) refl, (λ n. n h, tt)))
+tables-passed : (w : List ℕ) → length w ≡ tableBytes → Passed (assignmentTables line caseValues w)
+tables-passed w h = (λ n. n refl, (table-passed 4 caseValues (lit≤ tt) refl, (λ n. n h, tt)))
 
 sides-passed : Passed (patternRows p ++ recipeRows r)
 sides-passed =
     passed-both (patternRows p) (recipeRows r)
-    (pattern-passed pattern pattern-table (lit≤ tt) refl)
-    (recipe-passed recipe recipe-table (lit≤ tt) refl (tt, (tt, (tt, tt, tt), tt)))
+    (pattern-passed casePattern pattern-table (lit≤ tt) refl)
+    (recipe-passed caseRecipe recipe-table (lit≤ tt) refl (tt, (tt, (tt, tt, tt), tt)))
 
-assignment-passed : Passed (assignment (OccursIn p) line values)
+assignment-passed : Passed (assignment (OccursIn p) line caseValues)
 assignment-passed =
-    (λ z. z .2 (φ (z .0)) (stored (z .0) (subst (Occurs (z .0)) (encode-one (z .1 .0) pattern (sym (z .1 .1 .0))) (z .1 .2))), tt)
+    (λ z. z .2 (φ (z .0)) (stored (z .0) (subst (Occurs (z .0)) (encode-one (z .1 .0) casePattern (sym (z .1 .1 .0))) (z .1 .2))), tt)
 
-swept-passed : Passed (swept p line values)
+swept-passed : Passed (swept p line caseValues)
 swept-passed = (λ z. omega (arith, z .2, ap largest (filled-is (z .0) (z .1))), tt)
 
-no-match : ¬ Matches p line values r
+no-match : ¬ Matches p line caseValues r
 no-match z =
-    omega (arith, ap size (encode-one recipe (sweep (z .0)) (z .2 .0)), ap (λ (t : Term). size (sweep t)) (filled-is (z .0) (z .1)))
+    omega (arith, ap size (encode-one caseRecipe (sweep (z .0)) (z .2 .0)), ap (λ (t : Term). size (sweep t)) (filled-is (z .0) (z .1)))
 
 module _ (w : List ℕ) (h : length w ≡ tableBytes) where
-  lent-passed : Passed (lentForCheck p r line values w)
+  lent-passed : Passed (lentForCheck p r line caseValues w)
   lent-passed =
-      passed-both (assignmentTables line values w ++ (patternRows p ++ recipeRows r))
-      (assignment (OccursIn p) line values)
-      (passed-both (assignmentTables line values w) (patternRows p ++ recipeRows r) (tables-passed w h) sides-passed)
+      passed-both (assignmentTables line caseValues w ++ (patternRows p ++ recipeRows r))
+      (assignment (OccursIn p) line caseValues)
+      (passed-both (assignmentTables line caseValues w) (patternRows p ++ recipeRows r) (tables-passed w h) sides-passed)
       assignment-passed
 
-  answer-no : Checked p r line values w CheckAnswer.No
+  answer-no : Checked p r line caseValues w CheckAnswer.No
   unfolding Checked
   answer-no =
-      (passed-both (lentForCheck p r line values w) (swept p line values) lent-passed swept-passed, no-match)
+      (passed-both (lentForCheck p r line caseValues w) (swept p line caseValues) lent-passed swept-passed, no-match)
 
-  pub case-8 : (a : CheckAnswer) → Checked p r line values w a → a ≡ CheckAnswer.No
-  case-8 a x = checked-one p r line values w a CheckAnswer.No x answer-no
+  pub case-8 : (a : CheckAnswer) → Checked p r line caseValues w a → a ≡ CheckAnswer.No
+  case-8 a x = checked-one p r line caseValues w a CheckAnswer.No x answer-no

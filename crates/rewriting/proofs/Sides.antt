@@ -27,7 +27,7 @@ use Rattle.copying.specs.Equality.{Same}
 use Rattle.sweeping.proofs.Sweeps.{swept-table, swept-long}
 use Rattle.refusals.specs.declared.Refusal.{Refusal}
 use Rattle.refusals.specs.Judged.{FilledTables}
-use Rattle.rewriting.specs.declared.Match.{Match}
+use Rattle.rewriting.specs.declared.MatchTest.{MatchTest}
 use Rattle.rewriting.specs.declared.SweepAnswer.{SweepAnswer}
 use Rattle.rewriting.specs.Operations.{Written}
 use Rattle.rewriting.specs.Steps.{SweptSide, Matched, SideSwept}
@@ -114,7 +114,7 @@ module _ (p l s : List ℕ) (n : ℕ) (after : List ℕ) (x : SideForm p l s n a
 
 -- the answers of the two steps
 module _ (p l s out : List ℕ) (r : Length) (after : List ℕ) (x : FilledTables p l s) (w : SweptSide p l s out r after) where
-  pub matched-long : (t : List ℕ) → r ≡ TooLong → Matched p l s t Match.TooLong
+  pub matched-long : (t : List ℕ) → r ≡ TooLong → Matched p l s t MatchTest.TooLong
   unfolding Matched
   matched-long t e = too-long p l s out r after x w e
 
@@ -123,11 +123,12 @@ module _ (p l s out : List ℕ) (r : Length) (after : List ℕ) (x : FilledTable
   put-long o e = (refused-first (swept p l s) (output p l s o) 12 (too-long p l s out r after x w e), refl)
 
 module _ (p l s : List ℕ) (n : ℕ) (after : List ℕ) (x : SideForm p l s n after) where
-  pub matched-yes : (t : List ℕ) → Recipe t → (c : Bool) → Same (take (n * 4 - 0) (drop 0 after)) t c → c ≡ true → Matched p l s t Match.Yes
+  pub matched-yes : (t : List ℕ) → Recipe t → (c : Bool) → Same (take (n * 4 - 0) (drop 0 after)) t c → c ≡ true
+      → Matched p l s t MatchTest.Yes
   unfolding Matched Same
   matched-yes t y c q z = (swept-passed p l s n after x, matches p l s n after x t y (subst (Same (take (n * 4 - 0) (drop 0 after)) t) z q))
 
-  pub matched-no : (t : List ℕ) (c : Bool) → Same (take (n * 4 - 0) (drop 0 after)) t c → c ≡ false → Matched p l s t Match.No
+  pub matched-no : (t : List ℕ) (c : Bool) → Same (take (n * 4 - 0) (drop 0 after)) t c → c ≡ false → Matched p l s t MatchTest.No
   unfolding Matched Same
   matched-no t c q z = (swept-passed p l s n after x, matches-not p l s n after x t (subst (Same (take (n * 4 - 0) (drop 0 after)) t) z q))
 

@@ -11,17 +11,17 @@ use Rattle.sweeping.specs.declared.Length.{Length}
 use Rattle.sweeping.specs.Swept.{FormSwept}
 use Rattle.refusals.specs.Judged.{number}
 use Rattle.rewriting.specs.declared.SweepAnswer.{SweepAnswer}
-use Rattle.rewriting.specs.declared.Match.{Match}
+use Rattle.rewriting.specs.declared.MatchTest.{MatchTest}
 use Rattle.rewriting.specs.Operations.{Written}
 
 -- the filled pattern's swept form, in a table of 256 records
 abbrev pub SweptSide : List ℕ → List ℕ → List ℕ → List ℕ → Length → List ℕ → Type 0
 SweptSide p l s out r after = (t : Term) → Filled p l s t → FormSwept t out r after
 
-unfoldable pub Matched : List ℕ → List ℕ → List ℕ → List ℕ → Match → Type 0
-Matched p l s r Match.Yes = Passed (swept p l s) × Matches p l s r
-Matched p l s r Match.No = Passed (swept p l s) × ¬ Matches p l s r
-Matched p l s r Match.TooLong = Refused (swept p l s) 12
+unfoldable pub Matched : List ℕ → List ℕ → List ℕ → List ℕ → MatchTest → Type 0
+Matched p l s r MatchTest.Yes = Passed (swept p l s) × Matches p l s r
+Matched p l s r MatchTest.No = Passed (swept p l s) × ¬ Matches p l s r
+Matched p l s r MatchTest.TooLong = Refused (swept p l s) 12
 
 unfoldable pub SideSwept : List ℕ → List ℕ → List ℕ → List ℕ → SweepAnswer → List ℕ → Type 0
 SideSwept p l s o (SweepAnswer.Records n) after = Passed (swept p l s ++ output p l s o) × Written p l s o n after

@@ -39,7 +39,7 @@ pub enum RewriteAnswer {
 }
 
 // Whether a filled pattern sweeps to the recipe.
-enum Match {
+enum MatchTest {
     Yes,
     No,
     TooLong,
@@ -119,19 +119,19 @@ fn sweep_side(side: &[u8], line: &[u8], values: &[u8], out: &mut [u8; SWEPT_BYTE
 }
 
 // Whether the filled pattern sweeps to the recipe.
-fn match_recipe(pattern: &[u8], line: &[u8], values: &[u8], recipe: &[u8]) -> Match
+fn match_recipe(pattern: &[u8], line: &[u8], values: &[u8], recipe: &[u8]) -> MatchTest
     requires { ⌜ FilledTables (now pattern) (now line) (now values) × Recipe (now recipe) ⌝ }
     ensures { λ r. ⌜ Matched (now (pattern .entry)) (now (line .entry)) (now (values .entry)) (now (recipe .entry)) r ⌝ }
 {
     let mut swept = [0u8; SWEPT_BYTES];
     let length = sweep_side(pattern, line, values, &mut swept);
     let Length::Records(n) = length else {
-        return Match::TooLong;
+        return MatchTest::TooLong;
     };
     if copying::same_bytes(&swept[0..n * RECORD], recipe) {
-        return Match::Yes;
+        return MatchTest::Yes;
     }
-    Match::No
+    MatchTest::No
 }
 
 // Writes the swept form of a filled side, if it has room.
@@ -171,9 +171,9 @@ pub fn check(
     }
     let found = match_recipe(pattern, line, values, recipe);
     match found {
-        Match::Yes => CheckAnswer::Yes,
-        Match::No => CheckAnswer::No,
-        Match::TooLong => CheckAnswer::Refused(Refusal::SweptForm),
+        MatchTest::Yes => CheckAnswer::Yes,
+        MatchTest::No => CheckAnswer::No,
+        MatchTest::TooLong => CheckAnswer::Refused(Refusal::SweptForm),
     }
 }
 
@@ -220,9 +220,9 @@ pub fn rewrite(
     }
     let found = match_recipe(left, line, values, recipe);
     match found {
-        Match::No => return RewriteAnswer::Refused(Refusal::NoMatch),
-        Match::TooLong => return RewriteAnswer::Refused(Refusal::SweptForm),
-        Match::Yes => {}
+        MatchTest::No => return RewriteAnswer::Refused(Refusal::NoMatch),
+        MatchTest::TooLong => return RewriteAnswer::Refused(Refusal::SweptForm),
+        MatchTest::Yes => {}
     }
     let put = put_swept(right, line, values, out);
     match put {

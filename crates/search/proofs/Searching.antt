@@ -28,7 +28,7 @@ use Rattle.agenda.specs.Moves.{Question, Move, Failed}
 use Rattle.alternatives.specs.Ways.{Way, HasWays}
 use Rattle.builds.specs.Choices.{Choices, CopiesAre, ChosenBody}
 use Rattle.ordering.specs.Forwarding.{Forwarded}
-use Rattle.alternatives.specs.Applications.{ApplicationDeferred, Counted}
+use Rattle.alternatives.specs.Applications.{ApplicationDeferred, WaysCounted}
 use Rattle.builds.specs.Builds.{Builds}
 use Rattle.agenda.proofs.Frame.{Kept, state-kept}
 use Rattle.search.specs.Collected.{Tallied}
@@ -179,7 +179,7 @@ matches-kept P W s a W₁ e r x = record {
 pub counted-kept :
     (P W : List ℕ) (s : Agenda) (a : List Entry) (W₁ : List ℕ) (w : Ways) → take (s .top) W₁ ≡ take (s .top) W
     → length W₁ ≡ length W → Bounds P W s
-    → Counted P W s a w → Counted P W₁ s a w
+    → WaysCounted P W s a w → WaysCounted P W₁ s a w
 counted-kept P W s a W₁ w e n b c = record {
   ways = λ gs hs l x. c .ways gs hs l (back gs hs l x);
   argument =

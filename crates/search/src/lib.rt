@@ -29,7 +29,7 @@ ghost use Prim.Native.Nat.{_<_};
 ghost use Rattle.agenda.specs.State.{Sat, relinking};
 ghost use Rattle.alternatives.specs.Ways.{Way};
 ghost use Rattle.builds.specs.Choices.{Choices, ChosenBody};
-ghost use Rattle.alternatives.specs.Applications.{ApplicationDeferred, Counted};
+ghost use Rattle.alternatives.specs.Applications.{ApplicationDeferred, WaysCounted};
 ghost use Rattle.builds.specs.Builds.{Builds};
 ghost use Rattle.search.specs.Collected.{Collects, Collected};
 ghost use Rattle.search.specs.Searched.{Begins, Searched};
@@ -83,7 +83,7 @@ fn attempt(
     done: Tally,
 ) -> Tally
     requires { ⌜ Begins relinking (now pattern) (now work) agenda entries limit (now lines) (now values) done
-        × ApplicationDeferred (now pattern) (now work) agenda entries × Counted (now pattern) (now work) agenda entries ways
+        × ApplicationDeferred (now pattern) (now work) agenda entries × WaysCounted (now pattern) (now work) agenda entries ways
         × (i < ways .count) ⌝ }
     ensures { λ r. ⌜ Searched relinking (Way i) (now (pattern .entry)) (now (work .entry)) agenda entries limit (now (lines .entry))
         (now (values .entry)) done (now (work .exit)) (now (lines .exit)) (now (values .exit)) r ⌝ }

@@ -17,8 +17,12 @@ use Rattle.records.proofs.Parts.{whole}
 use Rattle.records.proofs.Slices.{part-slice}
 use Rattle.records.proofs.Tests.{part-other}
 use Rattle.substitution.proofs.Writers.{Other, local-at}
-use Rattle.shifting.specs.Locals.{Marks, Marked, Zeros}
+use Rattle.shifting.specs.Locals.{Marks, Marked}
 use Rattle.shifting.proofs.Slices.{application-slices, abstraction-slices, slices-argument, slices-app, slices-lam, slices-leaf}
+
+-- no local is marked
+abbrev pub Zeros : List ℕ → Type 0
+Zeros m = (j : ℕ) → getD m j 0 ≡ 0
 
 marks-of : (l : List ℕ) (depth n : ℕ) (t : Term) → Part l 0 t → Closed (depth + n) t → depth + size t ≤ numbers → Marks l depth n
 marks-of l depth n t x c s = record { tree = t; part = x; closed = c; shallow = s; least = omega (arith, x .some, x .within) }

@@ -15,6 +15,7 @@ use Rattle.terms.specs.Figures.{numbers}
 use Rattle.terms.specs.Term.{Term, app, lam, loc, size, shift, unshift, uses}
 use Rattle.terms.specs.Table.{bytes, encode}
 use Rattle.terms.proofs.Shift.{uses-below}
+use Rattle.terms.proofs.Table.{app-inj, lam-inj}
 use Rattle.records.specs.declared.Walk.{Walk}
 use Rattle.records.specs.declared.Walk.the-variants.{Upto, No}
 use Rattle.records.specs.Record.{numberAt}
@@ -28,15 +29,14 @@ use Rattle.substitution.proofs.Writers.{Change, Other, wrote-application, wrote
 use Rattle.shifting.specs.Lowering.{Movable, Inside, Lowers, Leaves, Lowered}
 use Rattle.shifting.proofs.Slices.{application-slices, abstraction-slices, slices-argument, slices-app, slices-lam}
 use Rattle.shifting.proofs.Slices.{slices-leaf}
-use Rattle.shifting.proofs.Tests.{heads-same, bodies-same}
 
 pub movable-two : (d c : ℕ) (f a : Term) → Movable d c (app f a) ↔ (Movable d c f × Movable d c a)
-movable-two d c f a = (λ p. heads-same f a (shift d c (unshift d c f)) (shift d c (unshift d c a)) p, λ p. ap₂ app (p .0) (p .1))
+movable-two d c f a = (λ p. app-inj f a (shift d c (unshift d c f)) (shift d c (unshift d c a)) p, λ p. ap₂ app (p .0) (p .1))
 
 pub movable-under : (d c : ℕ) (b : Term) → Movable d c (lam b) ↔ Movable d (c + 1) b
 movable-under d c b =
     let e : suc c ≡ c + 1 = omega arith in (
-      λ p. subst (λ (k : ℕ). Movable d k b) e (bodies-same b (shift d (suc c) (unshift d (suc c) b)) p),
+      λ p. subst (λ (k : ℕ). Movable d k b) e (lam-inj b (shift d (suc c) (unshift d (suc c) b)) p),
       λ p. ap lam (subst (λ (k : ℕ). Movable d k b) (sym e) p),
     )
 

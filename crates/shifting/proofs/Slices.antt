@@ -54,9 +54,6 @@ module _ (l : List ℕ) where
   pub slices-argument : (h : ℕ) (t : Term) → Ends (slice l 4) 0 h → (v : ApplicationSlices l t) → Part (slice l (4 + h)) 0 (v .a)
   slices-argument h t e v = v .argument h (omega (arith, e .exact (v .f) (v .head)))
 
-  pub slices-head : Whole l 0 → getD l 0 0 ≡ 0 → Whole (slice l 4) 0
-  slices-head x k = let v = application-slices (x .tree) (x .part) k in parts.whole (slice l 4) 0 (v .f) (v .head)
-
   -- how many bytes an application, an abstraction and any other term take
   pub slices-app : (h r : ℕ) → getD l 0 0 ≡ 0 → Ends (slice l 4) 0 h → Ends (slice l (4 + h)) 0 r → Ends l 0 (4 + h + r)
   slices-app h r k e d = parts.ends-app l 0 (4 + h) (4 + h + r) k (slice-ends l 4 h e) (slice-ends l (4 + h) r d)
@@ -66,4 +63,3 @@ module _ (l : List ℕ) where
 
   pub slices-leaf : ¬ (getD l 0 0 ≡ 0) → ¬ (getD l 0 0 ≡ 1) → Whole l 0 → Ends l 0 4
   slices-leaf n m x = parts.ends-leaf l 0 n m x
-  -- what was written for a part, told of the table that it stands in

@@ -9,7 +9,7 @@ use native.Mathlib.Decide.{decLt}
 use lib.ListN.{length, getD}
 use Rattle.terms.specs.Figures.{tableBytes}
 use Rattle.terms.specs.Term.{Term, app, lam, loc, con, var, unshift, substitute}
-use Rattle.terms.proofs.Table.{kind, numberOf}
+use Rattle.terms.proofs.Table.{kind, numberOf, app-inj, lam-inj}
 use Rattle.terms.proofs.Substitute.{substitute-here, substitute-low, substitute-high}
 use Rattle.records.specs.declared.Walk.{Walk}
 use Rattle.records.specs.declared.Walk.the-variants as walk
@@ -24,7 +24,7 @@ use Rattle.shifting.specs.declared.Pairing.the-variants.{Upto, No}
 use Rattle.shifting.specs.Tests.{Shifted, PartsCompared}
 use Rattle.shifting.specs.Substitution.{NearBoth, bothFurther, Substitutes, Replaced, Substituted}
 use Rattle.shifting.proofs.Slices.{application-slices, abstraction-slices, slices-argument, slices-app, slices-lam, slices-leaf}
-use Rattle.shifting.proofs.Tests.{heads-same, bodies-same, same-first, compared-ends, compared-yes, compared-no}
+use Rattle.shifting.proofs.Tests.{same-first, compared-ends, compared-yes, compared-no}
 use Rattle.shifting.proofs.Lowering.{unshifted-low, unshifted-high}
 
 -- substitution by kinds
@@ -198,7 +198,7 @@ module _ (b : List ℕ) (k : ℕ) (e t : List ℕ) where
                 let v = application-slices t z g (sym c ∙ w) in
                 m (u .a) y (v .a) (slices-argument b (p .first) x (come .body-ends) u) s
                 (slices-argument t (p .second) z (come .target-ends) v)
-                (heads-same (v .f) (v .a) (substitute k y (u .f)) (substitute k y (u .a))
+                (app-inj (v .f) (v .a) (substitute k y (u .f)) (substitute k y (u .a))
                 (sym (v .is) ∙ h ∙ ap (substitute k y) (u .is)) .1)
 
       pub substituted-stop : (r : Pairing) → r ≡ No → Substituted (slice b 4) k e (slice t 4) r → Substituted b k e t No
@@ -207,7 +207,7 @@ module _ (b : List ℕ) (k : ℕ) (e t : List ℕ) where
           let u = application-slices b x f w in
           let v = application-slices t z g (sym c ∙ w) in
           refused (slice b 4) k e (slice t 4) r i q (u .f) y (v .f) (u .head) s (v .head)
-          (heads-same (v .f) (v .a) (substitute k y (u .f)) (substitute k y (u .a)) (sym (v .is) ∙ h ∙ ap (substitute k y) (u .is)) .0)
+          (app-inj (v .f) (v .a) (substitute k y (u .f)) (substitute k y (u .a)) (sym (v .is) ∙ h ∙ ap (substitute k y) (u .is)) .0)
 
     module _ (w : getD b 0 0 ≡ 1) where
       pub substitutes-body : Substitutes b k e t → Substitutes (slice b 4) (k + 1) e (slice t 4)
@@ -241,7 +241,7 @@ module _ (b : List ℕ) (k : ℕ) (e t : List ℕ) where
               let u = abstraction-slices b x f w in
               let v = abstraction-slices t z g (sym c ∙ w) in
               q (u .b) y (v .b) (u .body) s (v .body)
-              (bodies-same (v .b) (substitute (suc k) y (u .b)) (sym (v .is) ∙ h ∙ ap (substitute k y) (u .is))
+              (lam-inj (v .b) (substitute (suc k) y (u .b)) (sym (v .is) ∙ h ∙ ap (substitute k y) (u .is))
               ∙ ap (λ (i : ℕ). substitute i y (u .b)) (sym (add-one k)))
 
     module _ (n m : ℕ) (i : n ≡ numberAt b 0) (j : m ≡ numberAt t 0) (o : Other b 0) where

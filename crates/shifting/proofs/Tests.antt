@@ -9,10 +9,9 @@ use native.Mathlib.Numerals.{add-one}
 use lib.Dec.{eqb, ltb}
 use lib.ListN.{length, getD}
 use borrow.Author.Tests.{lt-ltb, le-ltb, eqb-true, eqb-false}
-use Rattle.terms.specs.Figures.{numbers, tableBytes}
 use Rattle.terms.specs.Term.{Term, app, lam, loc, con, var, size, shift}
 use Rattle.terms.specs.Heads.{rigid}
-use Rattle.terms.proofs.Table.{kind, numberOf}
+use Rattle.terms.proofs.Table.{kind, numberOf, app-inj, lam-inj}
 use Rattle.terms.proofs.Shift.{size-shift}
 use Rattle.records.specs.declared.Walk.{Walk}
 use Rattle.records.specs.declared.Walk.the-variants.{Upto, No}
@@ -20,18 +19,11 @@ use Rattle.records.specs.Record.{numberAt}
 use Rattle.records.specs.Parts.{slice, Part, Whole, Ends}
 use Rattle.records.specs.Tests.{Says, Near, further}
 use Rattle.records.proofs.Parts.{whole, kind-at, number-at}
-use Rattle.records.proofs.Slices.{part-slice, whole-slice, slice-ends, slice-length}
+use Rattle.records.proofs.Slices.{part-slice, slice-length}
 use Rattle.substitution.proofs.Writers.{Other, local-at}
 use Rattle.shifting.specs.Tests.{PartsComparable, Shifted, PartsCompared}
 use Rattle.shifting.proofs.Slices.{ApplicationSlices, application-slices, abstraction-slices, slices-argument}
 use Rattle.shifting.proofs.Slices.{slices-app, slices-lam, slices-leaf}
-
--- the parts of two equal terms
-pub heads-same : (f a g b : Term) → app f a ≡ app g b → (f ≡ g) × (a ≡ b)
-heads-same f a g b e = (cc, cc)
-
-pub bodies-same : (a b : Term) → lam a ≡ lam b → a ≡ b
-bodies-same a b e = cc
 
 -- a test of two numbers
 pub says-equal : (i j : ℕ) (x y : Term) → (i ≡ j → x ≡ y) → (x ≡ y → i ≡ j) → Says (eqb i j) (x ≡ y)
@@ -145,7 +137,7 @@ module _ (s e : List ℕ) (c d : ℕ) where
                 let u = application-slices s x p z in
                 let v = application-slices e y t w in
                 o (u .a) (v .a) (slices-argument s h x (m .0) u) (second-argument x y u v)
-                (heads-same (u .f) (u .a) (shift d c (v .f)) (shift d c (v .a)) (sym (u .is) ∙ g ∙ ap (shift d c) (v .is)) .1)
+                (app-inj (u .f) (u .a) (shift d c (v .f)) (shift d c (v .a)) (sym (u .is) ∙ g ∙ ap (shift d c) (v .is)) .1)
 
         pub compares-argument : PartsComparable s e c d → PartsComparable (slice s (4 + h)) (slice e (4 + h)) c d
         compares-argument x =
@@ -174,7 +166,7 @@ module _ (s e : List ℕ) (c d : ℕ) where
           let u = application-slices s x p z in
           let v = application-slices e y t w in
           m (u .f) (v .f) (u .head) (v .head)
-          (heads-same (u .f) (u .a) (shift d c (v .f)) (shift d c (v .a)) (sym (u .is) ∙ g ∙ ap (shift d c) (v .is)) .0)
+          (app-inj (u .f) (u .a) (shift d c (v .f)) (shift d c (v .a)) (sym (u .is) ∙ g ∙ ap (shift d c) (v .is)) .0)
 
       -- what the walk over the heads needs
       pub compares-head : PartsComparable s e c d → PartsComparable (slice s 4) (slice e 4) c d
@@ -218,7 +210,7 @@ module _ (s e : List ℕ) (c d : ℕ) where
               let u = abstraction-slices s x p z in
               let v = abstraction-slices e y t (sym k ∙ z) in
               q (u .b) (v .b) (u .body) (v .body)
-              (bodies-same (u .b) (shift d (suc c) (v .b)) (sym (u .is) ∙ g ∙ ap (shift d c) (v .is))
+              (lam-inj (u .b) (shift d (suc c) (v .b)) (sym (u .is) ∙ g ∙ ap (shift d c) (v .is))
               ∙ ap (λ (j : ℕ). shift d j (v .b)) (sym (add-one c)))
 
     module _ (m n : ℕ) (i : m ≡ numberAt s 0) (j : n ≡ numberAt e 0) where
@@ -273,28 +265,7 @@ module _ (s : List ℕ) where
       go (con i) n m = refl
       go (var i) n m = refl
 
--- parts of tables, handed on as slices
-module _ (l m : List ℕ) (at e : ℕ) where
-  pub comparable-at : (c d : ℕ) → Whole l at → Whole m e → c + length l ≤ at + tableBytes → d ≤ numbers
-      → PartsComparable (slice l at) (slice m e) c d
-  comparable-at c d x y h f = record {
-    first = whole-slice l at x;
-    second = whole-slice m e y;
-    shallow = omega (arith, slice-length l at, x .least);
-    few = f;
-  }
-
-  module _ (P : Term → Term → Type 0) (r : Walk) (q : PartsCompared (slice l at) (slice m e) P r) where
-    pub compared-yes-at : (h : ℕ) → r ≡ Upto h → (x y : Term) → Part l at x → Part m e y → P x y
-    compared-yes-at h i x y p t = compared-yes (slice l at) (slice m e) P r q x y (part-slice l at x p) (part-slice m e y t) h i
-
-    pub compared-no-at : r ≡ No → (x y : Term) → Part l at x → Part m e y → ¬ P x y
-    compared-no-at i x y p t = compared-no (slice l at) (slice m e) P r q x y (part-slice l at x p) (part-slice m e y t) i
-
-pub compared-ends-at : (l e : List ℕ) (at : ℕ) (P : Term → Term → Type 0) (h : ℕ) (r : Walk) → r ≡ Upto h
-    → PartsCompared (slice l at) e P r → Ends l at (at + h)
-compared-ends-at l e at P h r i q = slice-ends l at h (compared-ends (slice l at) e P h r i q)
-
+-- a part of a table, handed on as a slice
 pub rigid-at : (l : List ℕ) (at : ℕ) (r : Bool) → ((t : Term) → Part (slice l at) 0 t → r ≡ rigid t) → (t : Term) → Part l at t
     → r ≡ rigid t
 rigid-at l at r f t p = f t (part-slice l at t p)

@@ -10,10 +10,11 @@ use lib.Seq.{length-sets}
 use Rattle.terms.specs.Term.{Term, lam, substitute}
 use Rattle.terms.specs.Table.{encode}
 use Rattle.terms.proofs.Table.{encode-length}
+use Rattle.terms.proofs.Substitute.{size-pos}
 use Rattle.matching.specs.Skeletons.{Fits}
 use Rattle.matching.proofs.Skeletons.{fits-refl, closed-apply}
 use Rattle.records.specs.Parts.{slice, Part, Whole, Ends}
-use Rattle.records.proofs.Parts.{size-some, part-one, part-bytes, whole, at-start}
+use Rattle.records.proofs.Parts.{part-one, part-bytes, whole, at-start}
 use Rattle.records.proofs.Slices.{part-slice}
 use Rattle.sweeping.specs.Swept.{sweptBytes, SweptParts}
 use Rattle.copying.proofs.Stores.{stored}
@@ -42,7 +43,7 @@ module _ (c e t : List ℕ) (x : SkeletonApplicable c e t) where
           head-bytes = x .bytes;
           argument-bytes = argument-bytes;
           head-least = x .least;
-          argument-least = omega (arith, k, size-some (x .argument));
+          argument-least = omega (arith, k, size-pos (x .argument));
           head-most = omega (arith, n, x .few);
           argument-most = omega (arith, k, x .argument-few);
           depth = x .depth;

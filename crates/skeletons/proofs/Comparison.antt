@@ -11,6 +11,7 @@ use Rattle.terms.specs.Figures.{tableBytes}
 use Rattle.terms.specs.Term.{Term, app, lam, loc, con, var, size}
 use Rattle.terms.specs.Table.{bytes, encode}
 use Rattle.terms.proofs.Table.{kind, numberOf, encode-one}
+use Rattle.terms.proofs.Substitute.{size-pos}
 use Rattle.matching.specs.Skeletons.{Fills, Fits}
 use Rattle.matching.proofs.Skeletons.{isVariable, fills-closed, filled-closed, fits-refl}
 use Rattle.records.specs.Record.{numberAt}
@@ -19,7 +20,7 @@ use Rattle.records.specs.Tests.{Asks, Walked}
 use Rattle.records.specs.declared.Ask.the-variants.{Below}
 use Rattle.records.specs.declared.Walk.{Walk}
 use Rattle.records.specs.declared.Walk.the-variants as walk
-use Rattle.records.proofs.Parts.{size-some, whole, kind-at, number-at, leaf-size}
+use Rattle.records.proofs.Parts.{whole, kind-at, number-at, leaf-size}
 use Rattle.records.proofs.Slices.{part-slice, whole-slice, slice-length}
 use Rattle.shifting.specs.declared.Places.{Places}
 use Rattle.shifting.specs.declared.Pairing.{Pairing}
@@ -50,8 +51,8 @@ same-fits x y u v p q h = subst (λ (t : Term). Fits t v) p (subst (Fits x) q h)
 
 -- a single record is known by its kind and its number
 single : (t : Term) → size t ≡ 1 → encode t ≡ bytes (kind t) (numberOf t) []
-single (app f a) e = absurd (omega (arith, size-some f, size-some a))
-single (lam b) e = absurd (omega (arith, size-some b))
+single (app f a) e = absurd (omega (arith, size-pos f, size-pos a))
+single (lam b) e = absurd (omega (arith, size-pos b))
 single (loc n) e = refl
 single (con n) e = refl
 single (var n) e = refl

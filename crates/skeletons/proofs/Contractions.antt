@@ -11,10 +11,12 @@ use Rattle.terms.specs.Figures.{sweptRecords}
 use Rattle.terms.specs.Term.{Term, app, lam, var, size}
 use Rattle.terms.specs.Sweep.{contract}
 use Rattle.terms.specs.Table.{encode}
+use Rattle.terms.proofs.Substitute.{size-pos}
 use Rattle.matching.specs.Skeletons.{isUnsure}
-use Rattle.matching.proofs.Skeletons.{fits-apply, fits-abstract, closed-apply, closed-abstract}
+use Rattle.matching.proofs.Skeletons.{fits-apply, fits-abstract, closed-apply}
+use Rattle.matching.proofs.Repeated.{closed-contract}
 use Rattle.records.specs.Tests.{Equals}
-use Rattle.records.proofs.Parts.{size-some, at-start}
+use Rattle.records.proofs.Parts.{at-start}
 use Rattle.sweeping.specs.declared.Length.{Length}
 use Rattle.sweeping.specs.declared.Length.the-variants.{Records, TooLong}
 use Rattle.sweeping.specs.Swept.{SweptBody, ContractsAbstraction, SweptParts, ContractsApplication, WrittenForm}
@@ -68,7 +70,7 @@ module _ (f a out : List ℕ) (r : Length) (mid : List ℕ) (w : ContractsApplic
   pub applies-contracted : SweptParts f a → ¬ (getD f 0 0 ≡ 4) → (n : ℕ) → r ≡ Records n → WritesApplication f a out n mid
   applies-contracted p z n q = record {
     written = each;
-    some = omega (arith, one .sized, size-some (contract (app (p .head) (p .argument))));
+    some = omega (arith, one .sized, size-pos (contract (app (p .head) (p .argument))));
     few = one .few;
   }
     where
@@ -112,7 +114,7 @@ module _ (b out : List ℕ) (r : Length) (mid : List ℕ) (w : ContractsAbstract
       → WritesAbstraction b out n mid
   abstracts-contracted p t test o n q = record {
     written = each;
-    some = omega (arith, one .sized, size-some (contract (lam (p .body))));
+    some = omega (arith, one .sized, size-pos (contract (lam (p .body))));
     few = one .few;
   }
     where
@@ -129,5 +131,5 @@ module _ (b out : List ℕ) (r : Length) (mid : List ℕ) (w : ContractsAbstract
             skeleton = contract (lam x);
             bytes = m .bytes;
             sized = m .sized;
-            holds = record { closed = λ d c. closed-abstract d x c; fits = λ u i. fits-abstract x u (sym (test x e) ∙ o) i };
+            holds = record { closed = λ d c. closed-contract d x c; fits = λ u i. fits-abstract x u (sym (test x e) ∙ o) i };
           }

@@ -15,13 +15,15 @@ use Rattle.terms.specs.Table.{encode}
 use Rattle.terms.proofs.Sweep.{sweep-normal}
 use Rattle.terms.proofs.Locals.{closed-sweep}
 use Rattle.terms.proofs.Table.{encode-one, encode-length}
+use Rattle.terms.proofs.Substitute.{size-pos}
 use Rattle.matching.specs.Skeletons.{Fits}
 use Rattle.matching.proofs.Targets.{closed-more}
-use Rattle.matching.proofs.Skeletons.{fits-refl, closed-apply, closed-abstract}
+use Rattle.matching.proofs.Skeletons.{fits-refl, closed-apply}
+use Rattle.matching.proofs.Repeated.{closed-contract}
 use Rattle.records.specs.Record.{numberAt}
 use Rattle.records.specs.Parts.{Part}
 use Rattle.records.specs.Tests.{Says, Tells}
-use Rattle.records.proofs.Parts.{size-some, part, kind-at, at-start, leaf-size, application-of, abstraction-of}
+use Rattle.records.proofs.Parts.{part, kind-at, at-start, leaf-size, application-of, abstraction-of}
 use Rattle.assignments.specs.declared.Span.{Span}
 use Rattle.assignments.specs.declared.Entry.{Entry}
 use Rattle.assignments.specs.declared.Entry.the-variants.{Open, Assigned}
@@ -83,7 +85,7 @@ module _ (s : List ℕ) (a : List Entry) (i : ℕ) (x : Span) (e : getD a i Open
           closed = λ d c. closed-more 0 d value (omega arith) (k .given x e .1 .value .0);
           is-skeleton = is-skeleton;
         };
-        some = omega (arith, h .exact, size-some value);
+        some = omega (arith, h .exact, size-pos value);
         few = h .most;
       }
     where
@@ -103,7 +105,7 @@ module _ (l m s : List ℕ) (a : List Entry) (x : SkeletonInput l s a) where
   skeleton-input t d e o h c b g = record {
     tree = t;
     bytes = e;
-    least = omega (arith, table-length m t e, size-some t);
+    least = omega (arith, table-length m t e, size-pos t);
     most = omega (arith, table-length m t e, o, table-length l (x .tree) (x .bytes), x .most);
     depth = d;
     shallow = h;
@@ -251,7 +253,7 @@ module _ (l s : List ℕ) (a : List Entry) (z : getD l 0 0 ≡ 1) (m : List ℕ)
         most = omega (arith, f .fills, w .few);
         depth = x .depth;
         shallow = omega (arith, x .shallow);
-        closed = closed-abstract (x .depth) (f .skeleton) (f .closed (suc (x .depth)) o);
+        closed = closed-contract (x .depth) (f .skeleton) (f .closed (suc (x .depth)) o);
       }
 
   pub skeleton-abstraction : (out : List ℕ) (r : ℕ) (after : List ℕ) → WritesAbstraction (take (n * 4 - 0) (drop 0 p)) out r after

@@ -6,19 +6,19 @@ use Prim.Native.Nat.{ℕ, suc, _+_, _-_, _*_, _≤_, _<_}
 use native.Mathlib.Omega.{arith}
 use native.Mathlib.Numerals.{add-one}
 use lib.ListN.{length, getD, take, drop}
-use lib.Seq.{sets, getD-drop}
+use lib.Seq.{sets}
 use borrow.Author.Tests.{lt-ltb, le-ltb}
 use Rattle.terms.specs.Figures.{constants}
 use Rattle.terms.specs.Term.{Term, app, lam, loc, con, var, size, shift}
 use Rattle.terms.specs.Table.{bytes, encode}
-use Rattle.terms.proofs.Substitute.{substitute-here, substitute-low, substitute-high}
+use Rattle.terms.proofs.Substitute.{substitute-here, substitute-low, substitute-high, size-pos}
 use Rattle.terms.proofs.Table.{encode-length}
 use Rattle.records.specs.Record.{numberAt}
 use Rattle.records.specs.Parts.{slice, Part, Whole}
-use Rattle.records.proofs.Parts.{size-some, whole, part-bytes, kind-at, number-at, at-start, application, abstraction, argument-part}
-use Rattle.records.proofs.Parts.{leaf-size, ends-app, ends-lam, ends-leaf, rest-part}
+use Rattle.records.proofs.Parts.{whole, part-bytes, kind-at, number-at, at-start, application, abstraction, argument-part}
+use Rattle.records.proofs.Parts.{leaf-size, ends-app, ends-lam, ends-leaf}
 use Rattle.records.proofs.Slices.{part-slice, slice-ends}
-use Rattle.substitution.specs.Writers.{substituteFor, NumbersFit, Source, Single, Wrote, Substitution}
+use Rattle.substitution.specs.Writers.{substituteFor, NumbersFit, Source, Wrote, Substitution}
 use Rattle.copying.proofs.Stores.{written-then}
 
 -- a change that follows the binders
@@ -43,7 +43,7 @@ source g l at k room o t x f s e = record {
   shallow = s;
   enough = e;
   least = omega (arith, x .some, x .within);
-  first = omega (arith, size-some (g k t));
+  first = omega (arith, size-pos (g k t));
 }
 
 -- a part handed on as a slice, and what was written for it
@@ -59,15 +59,6 @@ module _ (g : ℕ → Term → Term) (l : List ℕ) (n k : ℕ) where
     exact = λ t x. w .exact t (part-slice l n t x);
     bytes = λ t x. w .bytes t (part-slice l n t x);
   }
-
-pub single-slice : (l : List ℕ) (n : ℕ) → Single l n → Single (slice l n) 0
-single-slice l n x = record {
-  no-application = λ z. x .no-application (sym first ∙ z);
-  no-abstraction = λ z. x .no-abstraction (sym first ∙ z);
-}
-  where
-    first : getD (slice l n) 0 0 ≡ getD l n 0
-    first = ap (λ (y : List ℕ). getD y 0 0) (rest-part l n) ∙ getD-drop n l 0 0 ∙ ap (λ (i : ℕ). getD l i 0) (omega arith)
 
 -- a local, and what is neither application, abstraction nor local
 pub local-at : (l : List ℕ) (at n : ℕ) (t : Term) → Part l at t → getD l at 0 ≡ 2 → n ≡ numberAt l at → t ≡ loc n

@@ -15,13 +15,13 @@ use Rattle.terms.specs.Term.{Term, app, lam, loc, con, var, size, Closed, uses,
 use Rattle.terms.specs.Sweep.{contract, headOf}
 use Rattle.terms.specs.Table.{bytes, encode}
 use Rattle.terms.proofs.Shift.{shift-unshift, size-shift}
-use Rattle.terms.proofs.Substitute.{substitute-unused}
+use Rattle.terms.proofs.Substitute.{substitute-unused, size-pos}
 use Rattle.terms.proofs.Sweep.{contract-app}
 use Rattle.terms.proofs.Contracted.{isProper, Abstracted as Contracting, Abstracted.out as moves, Abstracted.kept as stays, abstracted}
 use Rattle.terms.proofs.Table.{encode-length}
 use Rattle.records.specs.Record.{numberAt}
 use Rattle.records.specs.Parts.{slice, Part, Whole}
-use Rattle.records.proofs.Parts.{size-some, whole, kind-at, at-start, Application, application, abstraction, argument-part}
+use Rattle.records.proofs.Parts.{whole, kind-at, at-start, Application, application, abstraction, argument-part}
 use Rattle.records.proofs.Slices.{part-slice, slice-ends, whole-slice}
 use Rattle.sweeping.specs.declared.Length.the-variants.{Records, TooLong}
 use Rattle.substitution.specs.Writers.{substituteFor, count, NumbersFit, Wrote, Substitution, UsesCounted}
@@ -91,7 +91,7 @@ module _ (f a : List ℕ) (z : getD f 0 0 ≡ 1) (next n : ℕ) (u : UsesCounted
   redex-size x y e g = go (size y) refl
     where
       go : (m : ℕ) → size y ≡ m → length f - 4 + n * (length a - 4) ≡ 4 * size (contract (app x y))
-      go zero s = absurd (omega (arith, size-some y))
+      go zero s = absurd (omega (arith, size-pos y))
       go (suc m) s =
           let v = abstraction f 0 x (at-start f x e) z in
           let c : n ≡ count 0 (v .b) = u .exact (v .b) (part-slice f 4 (v .b) (v .body)) in

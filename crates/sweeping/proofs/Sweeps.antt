@@ -14,12 +14,13 @@ use Rattle.terms.specs.Figures.{constants, sweptRecords}
 use Rattle.terms.specs.Term.{Term, app, lam, loc, con, var, size, Closed, Normal, Occurs, Value}
 use Rattle.terms.specs.Sweep.{sweep, largest, fill}
 use Rattle.terms.specs.Table.{encode}
-use Rattle.terms.proofs.Tests.{or-true}
+use Rattle.terms.proofs.Tests.{or-true, or-right}
 use Rattle.terms.proofs.Sweep.{sweep-normal, fill-same}
 use Rattle.terms.proofs.Locals.{closed-sweep}
 use Rattle.terms.proofs.Table.{encode-length}
+use Rattle.terms.proofs.Substitute.{size-pos}
 use Rattle.records.specs.Record.{numberAt}
-use Rattle.records.proofs.Parts.{size-some, kind-at, number-at, at-start, leaf-size, application-of, abstraction-of}
+use Rattle.records.proofs.Parts.{kind-at, number-at, at-start, leaf-size, application-of, abstraction-of}
 use Rattle.assignments.specs.Entries.{Given, Gives}
 use Rattle.assignments.specs.declared.Entry.{Entry}
 use Rattle.sweeping.specs.declared.Length.{Length}
@@ -45,10 +46,6 @@ occurs-is i (lam b) e = occurs-is i b e
 occurs-is i (loc n) e = absurd (subst T (sym e) tt)
 occurs-is i (con n) e = absurd (subst T (sym e) tt)
 occurs-is i (var n) e = eqb-true i n e
-
-or-right : (a b : Bool) → b ≡ true → a || b ≡ true
-or-right true b e = refl
-or-right false b e = e
 
 is-occurs : (i : ℕ) (t : Term) → Occurs i t → occurs i t ≡ true
 is-occurs i (app f a) (inl o) = rw (is-occurs i f o)
@@ -83,7 +80,7 @@ module _ (l m s : List ℕ) (a : List Entry) (x : Sweepable l s a) where
   ready t d e h c g = record {
     tree = t;
     bytes = e;
-    least = omega (arith, table-length m t e, size-some t);
+    least = omega (arith, table-length m t e, size-pos t);
     depth = d;
     shallow = h;
     closed = c;
@@ -116,7 +113,7 @@ pub ready-fillable : (l s : List ℕ) (a : List Entry) → Fillable l s a → Sw
 ready-fillable l s a x = record {
   tree = x .tree;
   bytes = x .table .0;
-  least = omega (arith, table-length l (x .tree) (x .table .0), size-some (x .tree));
+  least = omega (arith, table-length l (x .tree) (x .table .0), size-pos (x .tree));
   depth = 0;
   shallow = omega (arith, x .few);
   closed = x .table .1;
@@ -141,7 +138,7 @@ swept-table t out p r n x e h =
     let b = stored out p (encode (sweep t)) (n * 4) (y .1 .2) (omega (arith, y .1 .0, encode-length (sweep t))) (omega (arith, y .1 .1)) in
     record {
       all = y .0;
-      some = omega (arith, y .1 .0, size-some (sweep t));
+      some = omega (arith, y .1 .0, size-pos (sweep t));
       few = y .1 .1;
       bytes = b;
       fills = omega (arith, y .1 .0, table-length (take (n * 4 - 0) (drop 0 p)) (sweep t) b);

@@ -1,19 +1,27 @@
 -- Tables: a term is known from its records and from its bytes, the order of the bytes is the order of the records, and good records have
 -- variables in range. By induction on the term, for any way of writing a record that loses nothing. Assumes nothing.
-use mathlib.Core.Path.{_≡_, refl, sym, ap, ap₂, _∙_, subst}
-use mathlib.Core.Bool.{Bool, true, false, _&&_}
+use mathlib.Core.Path.{_≡_, refl, sym, ap, ap₂, _∙_}
+use mathlib.Core.Bool.{true}
 use mathlib.Core.List.{List, [], _∷_, _++_, append-assoc, append-nil}
 use mathlib.Core.Logic.{_⊎_, inl, inr, _↔_}
 use Prim.Native.Nat.{ℕ, _+_, _*_, _/_, _%_, _<_}
 use native.Mathlib.Omega.{arith}
 use native.Mathlib.Nat.{div-add-mod'}
 use native.Mathlib.Decide.{decLt}
-use lib.Dec.{T, ltb}
+use lib.Dec.{ltb}
 use lib.ListN.{length, getD, drop, length-append}
 use borrow.Author.Tests.{ltb-true}
 use Rattle.terms.specs.Term.{Term, app, lam, loc, con, var, size, Below}
 use Rattle.terms.specs.Table.{bytes, preorder, encode, goodRecords}
 use Rattle.terms.specs.Listing.{Lexicographic, records}
+use Rattle.terms.proofs.Tests.{and-split}
+
+-- the parts of two equal terms
+pub app-inj : (f a g b : Term) → app f a ≡ app g b → (f ≡ g) × (a ≡ b)
+app-inj f a g b e = (cc, cc)
+
+pub lam-inj : (b c : Term) → lam b ≡ lam c → b ≡ c
+lam-inj b c e = cc
 
 -- the kind of a term's first record
 abbrev pub kind : Term → ℕ
@@ -195,10 +203,6 @@ order-bytes v w =
       λ h. rw (bv, bw) (to-bytes (items v) (items w) (rw (pv, pw) at h)),
       λ h. rw (pv, pw) (from-bytes (items v) (items w) (rw (bv, bw) at h)),
     )
-
-and-split : (a b : Bool) → a && b ≡ true → (a ≡ true) × (b ≡ true)
-and-split true b e = (refl, e)
-and-split false b e = absurd (subst T (sym e) tt)
 
 -- good records have variables in range
 pub good-below : (v : ℕ) (t : Term) (r : List ℕ) → goodRecords v (encode t ++ r) ≡ true → Below v t × (goodRecords v r ≡ true)

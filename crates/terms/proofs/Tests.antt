@@ -41,6 +41,14 @@ pub or-true : (a b : Bool) → a || b ≡ true → (a ≡ true) ⊎ (b ≡ true)
 or-true true b e = inl refl
 or-true false b e = inr e
 
+pub or-right : (a b : Bool) → b ≡ true → a || b ≡ true
+or-right true b e = refl
+or-right false b e = e
+
+pub and-split : (a b : Bool) → a && b ≡ true → (a ≡ true) × (b ≡ true)
+and-split true b e = (refl, e)
+and-split false b e = absurd (subst T (sym e) tt)
+
 pub and-not : (x y z : Bool) → (T y → T z) → T (not (x && not y)) → T (not (x && not z))
 and-not true true true f h = tt
 and-not true true false f h = f tt

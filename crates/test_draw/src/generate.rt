@@ -10,9 +10,7 @@ use test_scan::scan::under;
 ghost use Prim.Native.Nat.{_≤_};
 ghost use lib.ListN.{length};
 
-// What a pattern is to have many of.
-pub const PLAIN: usize = 0;
-
+// What a pattern is to have many of; 0 is nothing special.
 pub const BETA: usize = 1;
 
 pub const ETA: usize = 2;
@@ -29,9 +27,9 @@ pub const ALL: usize = 6;
 pub const GROUND: usize = 7;
 
 // How a part is made.
-const ABSTRACTION: usize = 0;
+const ABSTRACTION_PART: usize = 0;
 
-const APPLICATION: usize = 1;
+const APPLICATION_PART: usize = 1;
 
 const BETA_REDEX: usize = 2;
 
@@ -59,9 +57,9 @@ fn way_of(shape: usize, size: usize, seed: &mut u64) -> usize {
 // All leaves are variables and each variable is to be one of them, so there are few abstractions.
 fn all_way(size: usize) -> usize {
     if size % 2 == 0 {
-        return ABSTRACTION;
+        return ABSTRACTION_PART;
     }
-    APPLICATION
+    APPLICATION_PART
 }
 
 fn redex_or(d: usize, beta: usize, eta: usize) -> usize {
@@ -76,9 +74,9 @@ fn redex_or(d: usize, beta: usize, eta: usize) -> usize {
 
 fn abstraction_or(d: usize, least: usize) -> usize {
     if d < least {
-        return APPLICATION;
+        return APPLICATION_PART;
     }
-    ABSTRACTION
+    ABSTRACTION_PART
 }
 
 // A local of a set, from `start` on if there is one.
@@ -244,7 +242,7 @@ fn put_small(
 // The kind of a part's first record, and of its second where that is given by the way too.
 fn first_kind(way: usize) -> u8 {
     match way {
-        APPLICATION | BETA_REDEX => Kind::APPLICATION.code,
+        APPLICATION_PART | BETA_REDEX => Kind::APPLICATION.code,
         _ => Kind::ABSTRACTION.code,
     }
 }
@@ -271,7 +269,7 @@ fn put_front(out: &mut [u8], at: usize, way: usize) -> usize
 // The locals that the first part may use.
 fn first_locals(way: usize, locals: u64) -> u64 {
     match way {
-        APPLICATION => locals,
+        APPLICATION_PART => locals,
         ETA_REDEX => past(locals),
         _ => under(locals),
     }
@@ -283,8 +281,8 @@ fn first_size(way: usize, size: usize, seed: &mut u64) -> usize {
         return 0;
     }
     match way {
-        ABSTRACTION => size - 1,
-        APPLICATION => 1 + draw(seed, size - 2),
+        ABSTRACTION_PART => size - 1,
+        APPLICATION_PART => 1 + draw(seed, size - 2),
         BETA_REDEX => 1 + draw(seed, size - 3),
         _ => size - 3,
     }
@@ -339,7 +337,7 @@ pub fn put_part(
         seed,
         next,
     );
-    if way == ABSTRACTION {
+    if way == ABSTRACTION_PART {
         return end;
     }
     if way == ETA_REDEX {

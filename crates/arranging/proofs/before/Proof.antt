@@ -1,4 +1,5 @@
--- `arranging::before` meets its contract. The loop's invariant: the entries passed are the same, so that the others decide. Assumes nothing.
+-- `arranging::before` meets its contract. The loop's invariant: the entries passed are the same, so that the others decide. Assumes
+-- nothing.
 use Prim.Native.Nat.{_-_}
 use Rattle.terms.specs.Figures.{variables}
 use Rattle.arranging.proofs.Comparing.{Undecided, undecided-start, undecided-end, decided-earlier, decided-later, undecided-next}

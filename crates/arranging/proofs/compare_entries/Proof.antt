@@ -1,4 +1,5 @@
--- `arranging::compare_entries` meets its contract: an entry is read as what the line has, and two values go by their bytes. Assumes nothing.
+-- `arranging::compare_entries` meets its contract: an entry is read as what the line has, and two values go by their bytes. Assumes
+-- nothing.
 use mathlib.Core.Path.{sym, _∙_}
 use Rattle.arranging.proofs.Comparing.{value-within, open-against, open-later, by-values}
 use borrow.Author.Needs.{needs}

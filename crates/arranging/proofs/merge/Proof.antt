@@ -1,5 +1,5 @@
--- `arranging::merge` meets its contract. The loop's invariant: lines stand in both tables from the places reached on, and merging them behind
--- what is written merges the whole. Assumes nothing.
+-- `arranging::merge` meets its contract. The loop's invariant: lines stand in both tables from the places reached on, and merging them
+-- behind what is written merges the whole. Assumes nothing.
 use Prim.Native.Nat.{_+_, _-_}
 use native.Mathlib.Omega.{arith}
 use lib.ListN.{length}

@@ -1,7 +1,8 @@
 -- `shifting::is_rigid` meets its contract. An application is rigid as its head is, and any other term by its first record; the measure
 -- is the length of the slice. Assumes nothing.
 use lib.ListN.{length}
-use Rattle.shifting.proofs.Slices.{shorter, slices-head}
+use Rattle.records.proofs.Slices.{head-slice}
+use Rattle.shifting.proofs.Slices.{shorter}
 use Rattle.shifting.proofs.Tests.{rigid-application, rigid-local, rigid-other}
 use borrow.Author.Needs.{needs}
 use Prim.Native.Nat.{ℕ, _<_}
@@ -46,7 +47,7 @@ is-rigid-part-is-rigid-end : (t : ℕ) → is-rigid-in t is-rigid-lts.Need-part-
 is-rigid-part-is-rigid-end t c = search needs
 
 is-rigid-is-rigid-requires : (t : ℕ) → is-rigid-in t is-rigid-lts.Need-is-rigid-requires
-is-rigid-is-rigid-requires t c κs = (search (needs, shorter), search (needs, slices-head))
+is-rigid-is-rigid-requires t c κs = (search (needs, shorter), search (needs, head-slice))
 
 is-rigid-returns : (t : ℕ) → is-rigid-in t is-rigid-lts.Need-returns
 is-rigid-returns t c = search (needs, rigid-application)
