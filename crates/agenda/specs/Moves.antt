@@ -20,7 +20,7 @@ use Rattle.agenda.specs.declared.Decision.{Decision}
 use Rattle.agenda.specs.State.{State, Sat, Bounds, relinking}
 
 abbrev pub progress : Agenda → ℕ
-progress s = (tableBytes - s .top) * 65537 + s .easy
+progress s = (tableBytes - s .top) * (tableBytes + 1) + s .easy
 
 -- the assignments that a step is for, given the goals and the line
 abbrev pub Question : Type 1

@@ -108,7 +108,7 @@ weights k (g ∷ gs) = k + weight g + weights k gs
 
 -- at most 32 goals are deferred, each with a weight of 2,000 or more
 abbrev pub relinking : ℕ
-relinking = 256
+relinking = 8 * patternRecords
 
 pub record State (k : ℕ) (P W : List ℕ) (s : Agenda) (a : List Entry) (gs hs : List Goal) (l : Line) : Type 0 where
   pub easy : Chain Easy P W (s .top) (s .easy) gs

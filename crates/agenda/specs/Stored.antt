@@ -6,8 +6,9 @@
 --   storedBuild part target next argument   the goal that the part builds the target from the argument's target
 use mathlib.Core.Path.{_≡_}
 use mathlib.Core.List.{List, [], _∷_}
-use Prim.Native.Nat.{ℕ, _+_, _/_, _%_, _<_}
+use Prim.Native.Nat.{ℕ, _+_, _*_, _/_, _%_, _<_}
 use lib.ListN.{getD}
+use Rattle.terms.specs.Figures.{numbers}
 use Rattle.agenda.specs.declared.StoredGoal.{StoredGoal}
 use Rattle.agenda.specs.State.{patternAt, targetAt, nextAt, argumentAt}
 
@@ -18,9 +19,9 @@ storedBytes r =
 
 pub record StoredFits (r : StoredGoal) : Type 0 where
   pub part : r .part < 1024
-  pub target : r .target < 262144
-  pub next : r .next < 262144
-  pub argument : r .argument < 262144
+  pub target : r .target < 4 * numbers
+  pub next : r .next < 4 * numbers
+  pub argument : r .argument < 4 * numbers
 
 pub record StoredAt (W : List ℕ) (at : ℕ) (r : StoredGoal) : Type 0 where
   pub part : r .part ≡ patternAt W at

@@ -6,11 +6,11 @@
 // work area suffices; the steps themselves are the crates above it. It rests on `matching` for the mathematics, on `records` and
 // `shifting` for single terms, and on `assignments` for how entries hold a line.
 //
-// The work area's budget is a sum over the goals: a goal may still take up 2,000 bytes for each record of its part of the pattern, and each
-// step takes what it writes from its goal's share. 32 records, a recipe of 96 and the first goal come to 64,400 of 65,536 bytes. The bound
-// on targets, 160 records, and that on loose locals are stated for each goal by the size of its part. Longer patterns or recipes would
-// change that. Types that several crates of the search share stand here: the kit wants no type whose name is a function's but for its
-// capital.
+// What the work area has yet to hold is a sum over the goals: a goal may still take up 2,000 bytes for each record of its part of the
+// pattern, and each step takes what it writes from its goal's share. 32 records, a recipe of 96 and the first goal come to 64,400 of 65,536
+// bytes. The bound on targets, 160 records, and that on loose locals are stated for each goal by the size of its part. Longer patterns or
+// recipes would change that. Types that several crates of the search share stand here: the kit wants no type whose name is a function's but
+// for its capital.
 
 pub mod heads;
 pub mod locals;

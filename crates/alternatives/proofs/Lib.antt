@@ -1,2 +1,1 @@
-pub mod Applications
-pub mod Arguments
+pub mod Alternatives

@@ -2,13 +2,12 @@
 //
 // Such an application comes to its target by the target's own parts, by a head that throws the argument away, or by an argument that is
 // found at one of the target's parts. The crate counts the ways, and tries one: it promises that the agenda it leaves has exactly the
-// assignments of that way, or that there are none. It rests on `agenda` for goals and heads, on `deciding` for skeletons, on `builds` for
-// the abstraction that is written, and on `matching` for why there are no other ways.
+// assignments of that way, or that there are none. It rests on `agenda` for goals, on `deciding` for skeletons, on `builds` for the
+// abstraction that is written, on `arguments` for an argument that is found, and on `matching` for why there are no other ways.
 //
 // Ways are numbers: 0 for the target's own parts, 1 for the constant function, 2 + j for the argument whose first occurrence is the
 // target's part j. One function takes a number and leaves the next agenda, so that the loop over them has one law. What is known of an
-// application is found once, before its ways are gone through, and a part whose head differs from a rigid argument's is passed over before
-// anything is written: most parts of most targets.
+// application is found once, before its ways are gone through.
 
 use agenda::Agenda;
 use agenda::Branch;
@@ -22,11 +21,9 @@ use records::PATTERN_RECORDS;
 use records::RECORD;
 use records::VALUE_RECORDS;
 use records::VARIABLES;
-use records::Walk;
-ghost use Prim.Native.Nat.{suc, _+_, _<_};
-ghost use Rattle.abstractions.specs.Occurrences.{DepthOf};
-ghost use Rattle.alternatives.specs.Applications.{ApplicationDeferred, WaysCounted, ArgumentPlace, Placed};
-ghost use Rattle.alternatives.specs.Ways.{Way};
+ghost use Prim.Native.Nat.{_+_, _<_};
+ghost use Rattle.arguments.specs.Applications.{ApplicationDeferred, WaysCounted};
+ghost use Rattle.arguments.specs.Ways.{Way};
 ghost use Rattle.agenda.specs.Moves.{Branched};
 
 // The ways in which the first deferred goal, an application, can come to its target: by the target's own parts, by a head that throws its
@@ -110,79 +107,6 @@ fn constant_head(
     Branch::Next(builds::push_abstraction(work, agenda, head, &b[0..n]))
 }
 
-// Writes the j-th part of the term at byte `at`, moved out of the `depth` binders above it, from byte `top` on, and gives its end; or No
-// where it uses one of those binders.
-fn place_argument(work: &mut [u8], top: usize, at: usize, j: usize, depth: usize) -> Walk
-    requires { ⌜ ArgumentPlace (now work) top at j × DepthOf (now work) at j depth ⌝ }
-    ensures { λ r. ⌜ Placed (now (work .entry)) top at j (now (work .exit)) r ⌝ }
-{
-    let part = at + RECORD * j;
-    let mut e = [0u8; TARGET_BYTES];
-    let moved = shifting::lower_into(&work[part..], 0, depth, &mut e, 0);
-    let Walk::Upto(n) = moved else {
-        return Walk::No;
-    };
-    copying::copy_into(&e[0..n], work, top);
-    Walk::Upto(top + n)
-}
-
-// The argument found at the j-th part of the target: it sweeps to that part, moved out of the binders above it, and the head builds the
-// target from it. Of parts that give the same argument the first one counts. The quick tests come first.
-fn find_argument(
-    pattern: &[u8],
-    work: &mut [u8],
-    agenda: Agenda,
-    entries: [Entry; VARIABLES],
-    j: usize,
-    ways: Ways,
-) -> Branch
-    requires { ⌜ ApplicationDeferred (now pattern) (now work) agenda entries × WaysCounted (now pattern) (now work) agenda entries ways
-        × (j + 2 < ways .count) ⌝ }
-    ensures { λ r. ⌜ Branched (now (pattern .entry)) (now (work .entry)) agenda entries (Way (suc (suc j))) (now (work .exit)) r ⌝ }
-{
-    let goal = agenda::goal_at(work, agenda.deferred);
-    let argument = ways.argument;
-    let target = goal.target;
-    if ways.rigid {
-        if !agenda::heads::heads_agree(&pattern[argument..], &work[target + RECORD * j..]) {
-            return Branch::Failed;
-        }
-    }
-    let depths = ways.depths;
-    let depth = records::wide(depths[j]);
-    let placed = place_argument(work, agenda.top, target, j, depth);
-    let Walk::Upto(end) = placed else {
-        return Branch::Failed;
-    };
-    let skeleton = ways.skeleton;
-    let bytes = skeleton.bytes;
-    let n = skeleton.length;
-    let top = agenda.top;
-    if !skeletons::may_be(&bytes[0..n], &work[top..]) {
-        return Branch::Failed;
-    }
-    if abstractions::occurs_before(&work[target..], j, &work[top..]) {
-        return Branch::Failed;
-    }
-    let head = goal.part + RECORD;
-    if ways.lacking {
-        if agenda::locals::misses_local(&pattern[head..], &work[target..], &work[top..]) {
-            return Branch::Failed;
-        }
-    }
-    agenda::put_goal(work, end, agenda::build_goal(head, target, goal.next, top));
-    agenda::put_goal(
-        work,
-        end + GOAL,
-        agenda::match_goal(argument, top, agenda.easy),
-    );
-    Branch::Next(Agenda {
-        top: end + 2 * GOAL,
-        easy: end + GOAL,
-        deferred: end,
-    })
-}
-
 // The i-th way in which the first deferred goal, an application, comes to its target.
 pub fn way(
     pattern: &[u8],
@@ -202,5 +126,5 @@ pub fn way(
     if i == 1 {
         return constant_head(pattern, work, agenda, entries, ways);
     }
-    find_argument(pattern, work, agenda, entries, i - 2, ways)
+    arguments::find_argument(pattern, work, agenda, entries, i - 2, ways)
 }

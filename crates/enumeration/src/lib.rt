@@ -8,7 +8,7 @@
 //
 // A refusal 9 or 10 leaves all tables as they were, so that lines have to be counted before one is written to those that are lent. Counting
 // first and then searching again into the lent tables took twice the time on most cases of the benchmark; room for all at once would cost
-// every call the clearing of 128 KB. So the first search has room for 128 lines and 8,192 records, and only a longer listing pays for the
+// every call the clearing of 128 KB. So the first search has room for 128 lines and 8,192 records, and only a longer listing takes the
 // second, with 128 KB on the stack. A station with a smaller stack would change that.
 
 use assignments::LINE;

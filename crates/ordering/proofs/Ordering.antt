@@ -7,7 +7,7 @@ use Prim.Native.Nat.{ℕ, suc, _+_, _-_, _*_, _/_, _%_, _<_, _≤_}
 use native.Mathlib.Omega.{arith}
 use lib.ListN.{length, getD, take, drop}
 use lib.Seq.{sets}
-use Rattle.terms.specs.Figures.{variables, patternRecords, tableBytes}
+use Rattle.terms.specs.Figures.{variables, patternRecords, tableBytes, numbers}
 use Rattle.terms.specs.Term.{Term, app, lam, loc, con, var, size, Below}
 use Rattle.matching.specs.Goals.{Goal, Goal.match, Goal.build, Meets, All}
 use Rattle.matching.specs.Occurrences.{partAt}
@@ -83,7 +83,7 @@ ranks P W top at gs c h b m l =
       short = l;
     }
 
-linked-fits : {r q : StoredGoal} {n : ℕ} → StoredFits r → q ≡ linked r n → n < 262144 → StoredFits q
+linked-fits : {r q : StoredGoal} {n : ℕ} → StoredFits r → q ≡ linked r n → n < 4 * numbers → StoredFits q
 linked-fits f e h = rw e (record { part = f .part; target = f .target; next = h; argument = f .argument })
 
 -- a goal that is written anew above `top`, in front of a list

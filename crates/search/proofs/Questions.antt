@@ -30,7 +30,7 @@ use Rattle.abstractions.specs.Bodies.{chosenIn}
 use Rattle.assignments.specs.declared.Entry.{Entry}
 use Rattle.agenda.specs.declared.Agenda.{Agenda}
 use Rattle.agenda.specs.State.{Chain, GoalAt, State, Sat}
-use Rattle.alternatives.specs.Ways.{Way, HasWays}
+use Rattle.arguments.specs.Ways.{Way, HasWays}
 use Rattle.builds.specs.Choices.{Choices, CopiesAre, ChosenBody}
 
 -- every goal of a list can be listed

@@ -25,10 +25,10 @@ use Rattle.agenda.specs.declared.Agenda.{Agenda}
 use Rattle.agenda.specs.declared.Ways.{Ways}
 use Rattle.agenda.specs.State.{Easy, Deferred, Chain, State, Sat, Bounds, Ready, relinking}
 use Rattle.agenda.specs.Moves.{Question, Move, Failed}
-use Rattle.alternatives.specs.Ways.{Way, HasWays}
+use Rattle.arguments.specs.Ways.{Way, HasWays}
 use Rattle.builds.specs.Choices.{Choices, CopiesAre, ChosenBody}
 use Rattle.ordering.specs.Forwarding.{Forwarded}
-use Rattle.alternatives.specs.Applications.{ApplicationDeferred, WaysCounted}
+use Rattle.arguments.specs.Applications.{ApplicationDeferred, WaysCounted}
 use Rattle.builds.specs.Builds.{Builds}
 use Rattle.agenda.proofs.Frame.{Kept, state-kept}
 use Rattle.search.specs.Collected.{Tallied}

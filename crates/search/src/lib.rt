@@ -3,10 +3,10 @@
 // Easy goals are taken first. When none is left, two deferred goals that give the value of their variable become one easy goal. When there
 // are no such two, the cheapest of those deferred is taken: what is known of its part decides it, or an application is taken in each of its
 // ways in turn, a goal to build with each choice among the copies of its argument. The functions call each other in one cycle; each call
-// finds less room above the agenda, or an earlier goal at its head, so that the search ends. The crate promises that the lines it has found
-// are exactly the lines of some list that is sound, covers every assignment and names each once, for these goals and these entries, stored
-// one after the other; or that such a list has more lines than the limit. It rests on `agenda` and the crates of its steps, and on
-// `listing` for what becomes of a found line.
+// finds less room above the agenda, or an earlier goal as the first of the easy ones, so that the search ends. The crate promises that the
+// lines it has found are exactly the lines of some list that is sound, covers every assignment and names each once, for these goals and
+// these entries, stored one after the other; or that such a list has more lines than the limit. It rests on `agenda` and the crates of its
+// steps, and on `listing` for what becomes of a found line.
 //
 // A cut may always decline: functions that never refused, decided or joined a goal would meet their contracts, and the listing would be the
 // same, later. What is promised is that what they refuse, decide or put in a goal's place is right. That the cuts are made at all is shown
@@ -27,9 +27,9 @@ use records::VARIABLES;
 ghost use mathlib.Core.Path.{_≡_};
 ghost use Prim.Native.Nat.{_<_};
 ghost use Rattle.agenda.specs.State.{Sat, relinking};
-ghost use Rattle.alternatives.specs.Ways.{Way};
+ghost use Rattle.arguments.specs.Ways.{Way};
 ghost use Rattle.builds.specs.Choices.{Choices, ChosenBody};
-ghost use Rattle.alternatives.specs.Applications.{ApplicationDeferred, WaysCounted};
+ghost use Rattle.arguments.specs.Applications.{ApplicationDeferred, WaysCounted};
 ghost use Rattle.builds.specs.Builds.{Builds};
 ghost use Rattle.search.specs.Collected.{Collects, Collected};
 ghost use Rattle.search.specs.Searched.{Begins, Searched};

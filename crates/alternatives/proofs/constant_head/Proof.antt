@@ -1,8 +1,8 @@
 -- `alternatives::constant_head` meets its contract. The abstraction over the target, moved in below its binder, is the head's
 -- target; it has the target's locals. Assumes nothing.
 use native.Mathlib.Omega.{arith}
-use Rattle.alternatives.proofs.Applications.{constant-lacking, raises, raised, raised-within, constant-pushes, constant-pushed}
-use Rattle.alternatives.proofs.Applications.{target-place}
+use Rattle.alternatives.proofs.Alternatives.{constant-lacking, raises, raised, raised-within, constant-pushes, constant-pushed}
+use Rattle.arguments.proofs.Applications.{target-place}
 use borrow.Author.Needs.{needs}
 use Rattle.alternatives.proofs.constant_head.Statement.{statement}
 use Rattle.alternatives.proofs.constant_head.Tie as tie

@@ -1,7 +1,8 @@
 -- `alternatives::split` meets its contract. Two goals are written at the top, for the two parts of the target. Assumes nothing.
 use native.Mathlib.Omega.{arith}
 use Rattle.records.proofs.Parts.{whole-head}
-use Rattle.alternatives.proofs.Applications.{stored-bounds, no-parts, parts-pushed, live, died, fits-match}
+use Rattle.arguments.proofs.Applications.{stored-bounds, live, died, fits-match}
+use Rattle.alternatives.proofs.Alternatives.{no-parts, parts-pushed}
 use borrow.Author.Needs.{needs}
 use Rattle.alternatives.proofs.split.Statement.{statement}
 use Rattle.alternatives.proofs.split.Tie as tie

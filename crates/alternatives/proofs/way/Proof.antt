@@ -1,6 +1,6 @@
 -- `alternatives::way` meets its contract. Each number has its own function. Assumes nothing.
 use native.Mathlib.Omega.{arith}
-use Rattle.alternatives.proofs.Applications.{at-way}
+use Rattle.alternatives.proofs.Alternatives.{at-way}
 use borrow.Author.Needs.{needs}
 use Rattle.alternatives.proofs.way.Statement.{statement}
 use Rattle.alternatives.proofs.way.Tie as tie

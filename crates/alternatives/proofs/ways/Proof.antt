@@ -1,7 +1,9 @@
 -- `alternatives::ways` meets its contract. The end of the target tells how many records it has, and the end of the head where the
 -- argument begins, whose skeleton is a skeleton in every state that stands there. Assumes nothing.
-use Rattle.alternatives.proofs.Applications.{stored-bounds, argument-walkable, argument-source, locals, counted}
-use Rattle.alternatives.proofs.Applications.{head-place, depths-room, target-place, argument-place, argument-whole-slice}
+use Rattle.arguments.proofs.Applications.{stored-bounds}
+use Rattle.alternatives.proofs.Alternatives.{argument-walkable, argument-source, locals, counted}
+use Rattle.arguments.proofs.Applications.{head-place, target-place, argument-place, argument-whole-slice}
+use Rattle.alternatives.proofs.Alternatives.{depths-room}
 use borrow.Author.Needs.{needs}
 use Rattle.alternatives.proofs.ways.Statement.{statement}
 use Rattle.alternatives.proofs.ways.Tie as tie

@@ -1,24 +1,22 @@
--- The ways of an application that was deferred: what each writes at the top is the goals that it leaves, and the goals that are kept stand
--- where they stood. A goal's weight pays for what is written, since the parts of the application weigh less than it does. Assumes nothing.
---   ApplicationSite P W s r f b t   the stored goal r, first of those deferred, is the goal that the application of f and b sweeps to t
---   StoredBounds P W s r            what reading that goal and writing at the top needs
+-- The ways of an application that was deferred, but for an argument that is found: what each writes at the top is the goals that it leaves,
+-- and the goals that are kept stand where they stood. A goal's weight covers what is written, since the parts of the application weigh less
+-- than it does. Assumes nothing.
 use mathlib.Core.Path.{_≡_, refl, sym, ap, _∙_, subst}
 use mathlib.Core.Bool.{Bool, true}
-use mathlib.Core.List.{List, [], _∷_}
-use Prim.Native.Nat.{ℕ, _+_, _-_, _*_, _/_, _%_, _<_, _≤_}
+use mathlib.Core.List.{List, _∷_}
+use Prim.Native.Nat.{ℕ, _+_, _-_, _*_, _/_, _≤_}
 use native.Mathlib.Omega.{arith}
 use lib.ListN.{length, getD, take, drop, replicate, length-take}
 use lib.Seq.{sets}
 use Rattle.terms.specs.Figures.{variables, patternRecords, valueRecords, tableBytes}
-use Rattle.terms.specs.Term.{Term, app, lam, loc, con, var, size, shift}
+use Rattle.terms.specs.Term.{Term, app, size, shift}
 use Rattle.terms.specs.Table.{bytes, encode}
 use Rattle.terms.specs.Listing.{Line}
 use Rattle.terms.specs.Refusal.{OccursIn}
 use Rattle.terms.specs.Heads.{rigid}
-use Rattle.terms.proofs.Table.{kind, encode-length}
+use Rattle.terms.proofs.Table.{encode-length}
 use Rattle.terms.proofs.Shift.{size-shift}
-use Rattle.matching.specs.Lists.{Values}
-use Rattle.matching.specs.Goals.{Goal, Goal.match, Goal.build, Listable}
+use Rattle.matching.specs.Goals.{Goal, Goal.match}
 use Rattle.matching.specs.Alternatives.{constant}
 use Rattle.matching.proofs.Partial.{totalOf}
 use Rattle.matching.proofs.Alternatives.{alternative-parts, alternative-no-parts, listable-parts, listable-constant}
@@ -26,7 +24,7 @@ use Rattle.matching.proofs.Prune.{no-local, constant-local}
 use Rattle.matching.proofs.Step.{constant-normal}
 use Rattle.matching.proofs.Targets.{closed-more, closed-shift, constant-closed, constant-ground}
 use Rattle.records.specs.Parts.{slice, Part, Whole, Ends}
-use Rattle.records.proofs.Slices.{part-slice, whole-slice, slice-length}
+use Rattle.records.proofs.Slices.{part-slice, slice-length}
 use Rattle.records.proofs.Parts.{application, kind-at, whole}
 use Rattle.substitution.specs.Writers.{Source, Wrote}
 use Rattle.substitution.proofs.Writers.{source, slice-wrote}
@@ -39,213 +37,79 @@ use Rattle.agenda.specs.declared.Branch.{Branch}
 use Rattle.agenda.specs.declared.StoredGoal.{StoredGoal}
 use Rattle.agenda.specs.declared.Skeleton.{Skeleton}
 use Rattle.agenda.specs.declared.Ways.{Ways}
-use Rattle.agenda.specs.Stored.{storedBytes, StoredAt, StoredFits}
+use Rattle.agenda.specs.Stored.{storedBytes, StoredAt}
 use Rattle.agenda.specs.State.{targetBytes, Target, State, Bounds, Easy, Deferred, Chain, relinking}
-use Rattle.agenda.specs.Moves.{Question, Move, Moved, Failed, Branched}
+use Rattle.agenda.specs.Moves.{Move, Moved, Failed, Branched}
 use Rattle.abstractions.proofs.Depths.{depths-at, depth-written}
 use Rattle.abstractions.specs.Occurrences.{DepthSource, WroteDepths}
-use Rattle.alternatives.specs.Ways.{Way, HasWays, HasDepths, HeadLacks, Fitting}
+use Rattle.arguments.specs.Ways.{Way, HasWays, HasDepths, HeadLacks, Fitting}
 use Rattle.deciding.specs.Refuting.{SkeletonSource, PartSkeleton}
 use Rattle.builds.specs.Builds.{Pushes, StoredPushed, storedTarget, afterStored}
-use Rattle.alternatives.specs.Applications.{ApplicationDeferred, WaysCounted}
-use Rattle.agenda.specs.Stored.{storedMatch, storedBuild}
+use Rattle.arguments.specs.Applications.{ApplicationDeferred, WaysCounted}
+use Rattle.agenda.specs.Stored.{storedMatch}
 use Rattle.agenda.specs.Locals.{Locals, Lacks}
 use Rattle.agenda.proofs.Lacking.{all-marks-at, locals-at, lacks-at}
 use Rattle.agenda.proofs.Frame.{Kept, part-kept, part-stored, target-kept, chain-kept, holds-kept, kept-sets, kept-then, length-stored}
 use Rattle.agenda.proofs.Frame.{goal-stored, chain-match}
 use Rattle.deciding.proofs.Refutations.{line-values, extended-values, source-at, skeleton-at}
+use Rattle.arguments.proofs.Applications.{application-parts, argument-from, ApplicationSite, StoredBounds, MatchState, site, opened, from}
+use Rattle.arguments.proofs.Applications.{stored-bounds, argument-whole-slice, dead, live, died, stored-as}
 
--- the head and the argument of an application that stands in a table
-pub application-parts : (l : List ℕ) (at : ℕ) (f b : Term) → Part l at (app f b) → Part l (at + 4) f × Part l (at + 4 + 4 * size f) b
-application-parts l at f b x =
-    let v = application l at (app f b) x (kind-at l at (app f b) x) in
-    let p : v .f ≡ f = cc in
-    let q : v .a ≡ b = cc in (
-      subst (Part l (at + 4)) p (v .head),
-      subst (λ (g : Term). Part l (at + 4 + 4 * size g) b) p (subst (Part l (at + 4 + 4 * size (v .f))) q (v .argument)),
-    )
+-- what is known before the ways are gone through
+module _ (P W : List ℕ) (s : Agenda) (a : List Entry) (x : ApplicationDeferred P W s a) (r : StoredGoal) (y : StoredAt W (s .deferred) r)
+  where
+    pub argument-walkable : (h : ℕ) → Ends P (r .part + 4) h → Whole (slice P h) 0 × (patternRecords + length (slice P h) ≤ tableBytes)
+    argument-walkable h e = (argument-whole-slice P W s a x r y h e, omega (arith, slice-length P h, x .ready .bounds .short))
 
-pub argument-from : (l : List ℕ) (at h : ℕ) (f b : Term) → Ends l (at + 4) h → Part l at (app f b) → Part l h b
-argument-from l at h f b e x =
-    let v = application-parts l at f b x in
-    subst (λ (i : ℕ). Part l i b) (sym (e .exact f (v .0))) (v .1)
+    pub argument-source : (h : ℕ) → Ends P (r .part + 4) h → SkeletonSource (slice P h) W a
+    argument-source h e = from P W s a x (SkeletonSource (slice P h) W a) (λ gs hs l f b t z.
+        let v = site P W s a r gs hs l f b t y z in
+        source-at P h W a b (argument-from P (r .part) h f b e (v .part)) (x .ready .bounds .short) (v .suits .0 .0 .1) (totalOf l)
+        (line-values P W s a l (x .ready .bounds) (z .entries) b))
 
-pub record ApplicationSite (P W : List ℕ) (s : Agenda) (r : StoredGoal) (f b t : Term) : Type 0 where
-  pub part : Part P (r .part) (app f b)
-  pub target : Target W (s .top) (size (app f b)) (r .target) t
-  pub suits : Listable variables (OccursIn P) (match (app f b) t)
-  pub next : r .next < s .deferred
-  pub part-even : r .part % 4 ≡ 0
-  pub target-even : r .target % 4 ≡ 0
-  pub next-even : r .next % 4 ≡ 0
+    pub locals : Locals (slice P (r .part + 4)) (slice W (r .target))
+    locals = from P W s a x (Locals (slice P (r .part + 4)) (slice W (r .target))) (λ gs hs l f b t z.
+        let v = site P W s a r gs hs l f b t y z .target in
+        locals-at P (r .part + 4) W (r .target) (stored-bounds P W s a x r y .head) (x .ready .bounds .short)
+        (all-marks-at W (r .target) (patternRecords - size (app f b)) t (v .part) (omega arith) (v .closed) (omega (arith, v .short))))
 
-pub record StoredBounds (P W : List ℕ) (s : Agenda) (r : StoredGoal) : Type 0 where
-  pub head : Whole P (r .part + 4)
-  pub target : Whole W (r .target)
-  pub target-low : r .target + 4 ≤ s .top
-  pub part-low : r .part + 12 ≤ length P
-  pub next : r .next < s .deferred
-  pub room : s .top + 5744 ≤ tableBytes
+    pub counted :
+        (h g : ℕ) (c d : Bool) (m : List ℕ) (o : ℕ) (i : Skeleton) → Ends W (r .target) h → Ends P (r .part + 4) g
+        → ((t : Term) → Part (slice P g) 0 t → c ≡ rigid t) → PartSkeleton (slice P g) W a (i .bytes) (i .length)
+        → Lacks (slice P (r .part + 4)) (slice W (r .target)) d → WroteDepths (slice W (r .target)) 0 (replicate valueRecords 0) 0 m o
+        → WaysCounted P W s a (record { count = (h - r .target) / 4 + 2; argument = g; rigid = c; skeleton = i; lacking = d; depths = m })
+    counted h g c d m o i e j k p n u = record {
+      ways = λ gs hs l z. opened P W s a x gs l (HasWays ((h - r .target) / 4 + 2))
+          (λ f b t us o. omega (arith, e .exact t (site P W s a r gs us l f b t y o .target .part))) hs z;
+      argument = subst (λ (i : ℕ). Ends P (i + 4) g) (y .part) j;
+      rigid-argument = rigid-at P g c k;
+      depths-are = λ gs hs l z. opened P W s a x gs l (HasDepths m)
+          (λ f b t us v i q. depth-written W (r .target) _ m o u i t (site P W s a r gs us l f b t y v .target .part) q) hs z;
+      skeleton-table = p .table;
+      skeleton-fits = λ gs hs l z. opened P W s a x gs l (Fitting (p .table .tree) l) (λ f b t us v φ w q.
+          skeleton-at P g W a (i .bytes) (i .length) p b (argument-from P (r .part) g f b j (site P W s a r gs us l f b t y v .part)) φ w
+          (extended-values P W s a l (x .ready .bounds) (v .entries) b φ q)) hs z;
+      lacking-head = λ i gs hs l z.
+          let q = lacks-at P (r .part + 4) W (r .target) d i n in
+          opened P W s a x gs l HeadLacks (λ f b t us o.
+          let v = site P W s a r gs us l f b t y o in
+          let q′ = q .1 f t (application-parts P (r .part) f b (v .part) .0) (v .target .part) in
+          (q .0, q′ .0, q′ .1)) hs z;
+    }
 
-module _ (P W : List ℕ) (s : Agenda) (a : List Entry) where
-  abbrev pub MatchState : List Goal → Line → Term → Term → Term → List Goal → Type 0
-  MatchState gs l f b t hs = State relinking P W s a gs (match (app f b) t ∷ hs) l
+    pub depths-room : DepthSource (slice W (r .target)) 0 valueRecords 0
+    depths-room = from P W s a x (DepthSource (slice W (r .target)) 0 valueRecords 0) (λ gs hs l f b t z.
+        let v = site P W s a r gs hs l f b t y z .target in
+        depths-at W (r .target) 0 valueRecords 0 t (v .part) (omega (arith, v .short)) (omega (arith, v .short)))
 
-  pub site : (r : StoredGoal) (gs hs : List Goal) (l : Line) (f b t : Term) → StoredAt W (s .deferred) r → MatchState gs l f b t hs
-      → ApplicationSite P W s r f b t
-  site r gs hs l f b t y x =
-      let n = x .deferred .0 in
-      record {
-        part = subst (λ (i : ℕ). Part P i (app f b)) (sym (y .part)) (n .goal .part);
-        target = subst (λ (i : ℕ). Target W (s .top) (size (app f b)) i t) (sym (y .target)) (n .goal .target);
-        suits = n .goal .suits;
-        next = omega (arith, y .next, n .falls);
-        part-even = omega (arith, y .part);
-        target-even = omega (arith, y .target);
-        next-even = omega (arith, y .next);
-      }
-
-  module _ (x : ApplicationDeferred P W s a) where
-    -- the first deferred goal is an application, in each state that stands there
-    pub opened :
-        (gs : List Goal) (l : Line) (Q : List Goal → Type 0)
-        → ((f b t : Term) (hs : List Goal) → MatchState gs l f b t hs → Q (match (app f b) t ∷ hs))
-        → (hs : List Goal) → State relinking P W s a gs hs l → Q hs
-    opened gs l Q h [] y = absurd (omega (arith, x .some-deferred, y .deferred))
-    opened gs l Q h (match (app f b) t ∷ hs) y = h f b t hs y
-    opened gs l Q h (match (lam b) t ∷ hs) y = absurd (y .deferred .0 .kind)
-    opened gs l Q h (match (loc n) t ∷ hs) y = absurd (y .deferred .0 .kind)
-    opened gs l Q h (match (con n) t ∷ hs) y = absurd (y .deferred .0 .kind)
-    opened gs l Q h (match (var n) t ∷ hs) y = absurd (y .deferred .0 .kind)
-    opened gs l Q h (build f t e ∷ hs) y = absurd (omega (arith, x .kind, y .deferred .0 .goal .kind))
-
-    -- the state that a way starts from
-    pub from : (A : Type 0) → ((gs hs : List Goal) (l : Line) (f b t : Term) → MatchState gs l f b t hs → A) → A
-    from A h = opened (x .ready .gs) (x .ready .line) (λ _. A) (λ f b t hs y. h (x .ready .gs) hs (x .ready .line) f b t y)
-        (x .ready .hs) (x .ready .state)
-
-    module _ (r : StoredGoal) (y : StoredAt W (s .deferred) r) where
-      pub stored-bounds : StoredBounds P W s r
-      stored-bounds = from (StoredBounds P W s r) (λ gs hs l f b t z.
-          let v = site r gs hs l f b t y z in
-          let u = application-parts P (r .part) f b (v .part) in
-          record {
-            head = whole P (r .part + 4) f (u .0);
-            target = whole W (r .target) t (v .target .part);
-            target-low = omega (arith, v .target .below, v .target .part .some);
-            part-low = omega (arith, u .0 .some, u .1 .some, u .1 .within);
-            next = v .next;
-            room = omega (arith, z .room, u .0 .some, u .1 .some);
-          })
-
-      -- what is known before the ways are gone through
-      pub argument-whole : (h : ℕ) → Ends P (r .part + 4) h → Whole P h
-      argument-whole h e =
-          from (Whole P h) (λ gs hs l f b t z. whole P h b (argument-from P (r .part) h f b e (site r gs hs l f b t y z .part)))
-
-      pub argument-place : (h : ℕ) → Ends P (r .part + 4) h → h ≤ length P
-      argument-place h e = omega (arith, e .within)
-
-      pub argument-whole-slice : (h : ℕ) → Ends P (r .part + 4) h → Whole (slice P h) 0
-      argument-whole-slice h e = whole-slice P h (argument-whole h e)
-
-      pub argument-walkable : (h : ℕ) → Ends P (r .part + 4) h → Whole (slice P h) 0 × (patternRecords + length (slice P h) ≤ tableBytes)
-      argument-walkable h e = (argument-whole-slice h e, omega (arith, slice-length P h, x .ready .bounds .short))
-
-      pub argument-source : (h : ℕ) → Ends P (r .part + 4) h → SkeletonSource (slice P h) W a
-      argument-source h e = from (SkeletonSource (slice P h) W a) (λ gs hs l f b t z.
-          let v = site r gs hs l f b t y z in
-          source-at P h W a b (argument-from P (r .part) h f b e (v .part)) (x .ready .bounds .short) (v .suits .0 .0 .1) (totalOf l)
-          (line-values P W s a l (x .ready .bounds) (z .entries) b))
-
-      pub head-place : r .part + 4 ≤ length P
-      head-place = omega (arith, stored-bounds .part-low)
-
-      pub locals : Locals (slice P (r .part + 4)) (slice W (r .target))
-      locals = from (Locals (slice P (r .part + 4)) (slice W (r .target))) (λ gs hs l f b t z.
-          let v = site r gs hs l f b t y z .target in
-          locals-at P (r .part + 4) W (r .target) (stored-bounds .head) (x .ready .bounds .short)
-          (all-marks-at W (r .target) (patternRecords - size (app f b)) t (v .part) (omega arith) (v .closed) (omega (arith, v .short))))
-
-      pub counted :
-          (h g : ℕ) (c d : Bool) (m : List ℕ) (o : ℕ) (i : Skeleton) → Ends W (r .target) h → Ends P (r .part + 4) g
-          → ((t : Term) → Part (slice P g) 0 t → c ≡ rigid t) → PartSkeleton (slice P g) W a (i .bytes) (i .length)
-          → Lacks (slice P (r .part + 4)) (slice W (r .target)) d → WroteDepths (slice W (r .target)) 0 (replicate valueRecords 0) 0 m o
-          → WaysCounted P W s a (record { count = (h - r .target) / 4 + 2; argument = g; rigid = c; skeleton = i; lacking = d; depths = m })
-      counted h g c d m o i e j k p n u = record {
-        ways = λ gs hs l z. opened gs l (HasWays ((h - r .target) / 4 + 2))
-            (λ f b t us o. omega (arith, e .exact t (site r gs us l f b t y o .target .part))) hs z;
-        argument = subst (λ (i : ℕ). Ends P (i + 4) g) (y .part) j;
-        rigid-argument = rigid-at P g c k;
-        depths-are = λ gs hs l z. opened gs l (HasDepths m)
-            (λ f b t us v i q. depth-written W (r .target) _ m o u i t (site r gs us l f b t y v .target .part) q) hs z;
-        skeleton-table = p .table;
-        skeleton-fits = λ gs hs l z. opened gs l (Fitting (p .table .tree) l) (λ f b t us v φ w q.
-            skeleton-at P g W a (i .bytes) (i .length) p b (argument-from P (r .part) g f b j (site r gs us l f b t y v .part)) φ w
-            (extended-values P W s a l (x .ready .bounds) (v .entries) b φ q)) hs z;
-        lacking-head = λ i gs hs l z.
-            let q = lacks-at P (r .part + 4) W (r .target) d i n in
-            opened gs l HeadLacks (λ f b t us o.
-            let v = site r gs us l f b t y o in
-            let q′ = q .1 f t (application-parts P (r .part) f b (v .part) .0) (v .target .part) in
-            (q .0, q′ .0, q′ .1)) hs z;
-      }
-
-      pub target-place : r .target ≤ length W
-      target-place = omega (arith, stored-bounds .target .least)
-
-      pub depths-room : DepthSource (slice W (r .target)) 0 valueRecords 0
-      depths-room = from (DepthSource (slice W (r .target)) 0 valueRecords 0) (λ gs hs l f b t z.
-          let v = site r gs hs l f b t y z .target in
-          depths-at W (r .target) 0 valueRecords 0 t (v .part) (omega (arith, v .short)) (omega (arith, v .short)))
-
-      pub argument-ends : (w : Ways) → WaysCounted P W s a w → Ends P (r .part + 4) (w .argument)
-      argument-ends w c = subst (λ (i : ℕ). Ends P (i + 4) (w .argument)) (sym (y .part)) (c .argument)
-
-      -- no way
-      pub dead :
-          (i : ℕ) (X : List ℕ) → take (s .top) X ≡ take (s .top) W
-          → ((f b t : Term) (gs hs : List Goal) (l : Line) (φ : ℕ → Term) → ApplicationSite P W s r f b t → Values φ
-          → ¬ Way i gs (match (app f b) t ∷ hs) l φ)
-          → Failed relinking P W s a (Way i) X
-      dead i X k h = record {
-        none = λ gs hs l z φ v. opened gs l (λ us. ¬ Way i gs us l φ) (λ f b t us o. h f b t gs us l φ (site r gs us l f b t y o) v) hs z;
-        kept = k;
-      }
-
-      pub no-parts : ¬ (getD W (r .target) 0 ≡ 0) → Failed relinking P W s a (Way 0) W
-      no-parts k = dead 0 W refl (λ f b t gs hs l φ v w p.
-          alternative-no-parts φ f b t (λ q. k (kind-at W (r .target) t (v .target .part) ∙ q)) (p .1 .0))
-
--- what a way answers
-pub live : (P W : List ℕ) (s : Agenda) (a : List Entry) (Q : Question) (X : List ℕ) (s′ : Agenda) → Move relinking P W s a Q X s′ a
-    → Branched P W s a Q X (Branch.Next s′)
-unfolding Branched
-live P W s a Q X s′ x = x
-
-pub died : (P W : List ℕ) (s : Agenda) (a : List Entry) (Q : Question) (X : List ℕ) → Failed relinking P W s a Q X
-    → Branched P W s a Q X Branch.Failed
-unfolding Branched
-died P W s a Q X x = x
+    pub no-parts : ¬ (getD W (r .target) 0 ≡ 0) → Failed relinking P W s a (Way 0) W
+    no-parts k = dead P W s a x r y 0 W refl (λ f b t gs hs l φ v w p.
+        alternative-no-parts φ f b t (λ q. k (kind-at W (r .target) t (v .target .part) ∙ q)) (p .1 .0))
 
 pub at-way :
     (P W : List ℕ) (s : Agenda) (a : List Entry) (i j : ℕ) (X : List ℕ) (r : Branch) → i ≡ j → Branched P W s a (Way j) X r
     → Branched P W s a (Way i) X r
 at-way P W s a i j X r e x = subst (λ (n : ℕ). Branched P W s a (Way n) X r) (sym e) x
-
--- a goal that is written
-pub stored-as : (W Y : List ℕ) (at : ℕ) (i j : StoredGoal) → i ≡ j → Y ≡ sets W at (storedBytes i) → Y ≡ sets W at (storedBytes j)
-stored-as W Y at i j p q = q ∙ ap (λ (k : StoredGoal). sets W at (storedBytes k)) p
-
-pub fits-build :
-    (i : StoredGoal) (part target next argument : ℕ) → i ≡ storedBuild part target next argument → part < 1024 → target < 262144
-    → next < 262144
-    → argument < 262144 → StoredFits i
-fits-build i part target next argument p x y z w = rw p (record { part = x; target = y; next = z; argument = w })
-
-pub fits-match : (i : StoredGoal) (part target next : ℕ) → i ≡ storedMatch part target next → part < 1024 → target < 262144 → next < 262144
-    → StoredFits i
-fits-match i part target next p x y z = rw p (record { part = x; target = y; next = z; argument = omega arith })
 
 -- the goals that the target's own parts leave
 module _ (P W : List ℕ) (s : Agenda) (a : List Entry) (r : StoredGoal) (h e : ℕ) (Y X : List ℕ) (bounds : Bounds P W s)

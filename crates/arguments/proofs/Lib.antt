@@ -1,2 +1,2 @@
 pub mod Applications
-pub mod Ways
+pub mod Arguments

@@ -1,10 +1,10 @@
--- `alternatives::place_argument` meets its contract. A part that can be moved out of the binders above it is written at the top; no
+-- `arguments::place_argument` meets its contract. A part that can be moved out of the binders above it is written at the top; no
 -- other one is an argument. Assumes nothing.
 use native.Mathlib.Omega.{arith}
-use Rattle.alternatives.proofs.Arguments.{lowers, stuck, part-within, moved-end, copied-room, placed}
+use Rattle.arguments.proofs.Arguments.{lowers, stuck, part-within, moved-end, copied-room, placed}
 use borrow.Author.Needs.{needs}
-use Rattle.alternatives.proofs.place_argument.Statement.{statement}
-use Rattle.alternatives.proofs.place_argument.Tie as tie
+use Rattle.arguments.proofs.place_argument.Statement.{statement}
+use Rattle.arguments.proofs.place_argument.Tie as tie
 
 mul-part : tie.Need-mul-part
 mul-part c = search needs

@@ -27,7 +27,7 @@ use Rattle.assignments.specs.declared.Entry.{Entry}
 use Rattle.agenda.specs.declared.Agenda.{Agenda}
 use Rattle.agenda.specs.declared.Ways.{Ways}
 use Rattle.agenda.specs.State.{targetBytes, State, Ready, patternAt, relinking}
-use Rattle.alternatives.specs.Ways.{HasWays, HasDepths, HeadLacks, Fitting}
+use Rattle.arguments.specs.Ways.{HasWays, HasDepths, HeadLacks, Fitting}
 use Rattle.deciding.specs.Refuting.{Prefix}
 
 pub record ApplicationDeferred (P W : List ℕ) (s : Agenda) (a : List Entry) : Type 0 where

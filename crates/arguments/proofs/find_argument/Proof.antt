@@ -1,17 +1,17 @@
--- `alternatives::find_argument` meets its contract. The part that is placed is an argument unless it has another head, doesn't fit
+-- `arguments::find_argument` meets its contract. The part that is placed is an argument unless it has another head, doesn't fit
 -- the argument's skeleton, stands earlier or leaves a local of the target out; two goals are written for it. Assumes nothing.
 use mathlib.Core.Path.{_∙_}
 use borrow.Author.Tests.{not-true}
 use native.Mathlib.Omega.{arith}
-use Rattle.alternatives.proofs.Applications.{stored-bounds, head-place, argument-whole, argument-place, argument-whole-slice}
-use Rattle.alternatives.proofs.Applications.{argument-ends, fits-match, fits-build}
-use Rattle.alternatives.proofs.Arguments.{places, depth, few-records, part-place, part-whole-slice, unlike, no-argument}
-use Rattle.alternatives.proofs.Arguments.{ending, looks, top-whole, target-within, top-within}
-use Rattle.alternatives.proofs.Arguments.{comparable, unfitting, again, lacking, found}
+use Rattle.arguments.proofs.Applications.{stored-bounds, head-place, argument-whole, argument-place, argument-whole-slice}
+use Rattle.arguments.proofs.Applications.{argument-ends, fits-match, fits-build}
+use Rattle.arguments.proofs.Arguments.{places, depth, few-records, part-place, part-whole-slice, unlike, no-argument}
+use Rattle.arguments.proofs.Arguments.{ending, looks, top-whole, target-within, top-within}
+use Rattle.arguments.proofs.Arguments.{comparable, unfitting, again, lacking, found}
 use Rattle.deciding.proofs.Refutations.{skeleton-comparable}
 use borrow.Author.Needs.{needs}
-use Rattle.alternatives.proofs.find_argument.Statement.{statement}
-use Rattle.alternatives.proofs.find_argument.Tie as tie
+use Rattle.arguments.proofs.find_argument.Statement.{statement}
+use Rattle.arguments.proofs.find_argument.Tie as tie
 
 -- places that lie far back, from one between
 abbrev placed-before : tie.Else4 → tie.After-placed

@@ -45,8 +45,8 @@ use Rattle.agenda.specs.declared.Ways.{Ways}
 use Rattle.agenda.specs.Stored.{storedBytes, StoredAt}
 use Rattle.agenda.specs.State.{targetBytes, Target, State, Easy, Deferred, Chain, relinking}
 use Rattle.agenda.specs.Moves.{Move, Moved, Failed, Branched}
-use Rattle.alternatives.specs.Ways.{Way, Fitting}
-use Rattle.alternatives.specs.Applications.{ApplicationDeferred, WaysCounted, argumentOf, ArgumentPlace, Argument, Placed}
+use Rattle.arguments.specs.Ways.{Way, Fitting}
+use Rattle.arguments.specs.Applications.{ApplicationDeferred, WaysCounted, argumentOf, ArgumentPlace, Argument, Placed}
 use Rattle.agenda.specs.Locals.{ArgumentComparable, Misses}
 use Rattle.agenda.specs.Heads.{Agree}
 use Rattle.agenda.proofs.Agreement.{unlike-at}
@@ -56,9 +56,9 @@ use Rattle.agenda.specs.Stored.{storedMatch, storedBuild}
 use Rattle.agenda.proofs.Frame.{Kept, part-kept, part-stored, target-kept, chain-kept, holds-kept, kept-sets, kept-then, length-stored}
 use Rattle.agenda.proofs.Frame.{goal-stored, chain-match, chain-build}
 use Rattle.deciding.proofs.Refutations.{skeleton-part}
-use Rattle.alternatives.proofs.Applications.{application-parts, argument-from, stored-as, live, died, ApplicationSite, MatchState}
-use Rattle.alternatives.proofs.Applications.{site, opened}
-use Rattle.alternatives.proofs.Applications.{from, stored-bounds, argument-ends, dead}
+use Rattle.arguments.proofs.Applications.{application-parts, argument-from, stored-as, live, died, ApplicationSite, MatchState}
+use Rattle.arguments.proofs.Applications.{site, opened}
+use Rattle.arguments.proofs.Applications.{from, stored-bounds, argument-ends, dead}
 
 -- how large and how deep a part is
 part-most : (t : Term) (j : ℕ) → j < size t → partAt 0 t j .0 + size (partAt 0 t j .1) ≤ size t
