@@ -159,6 +159,9 @@ died P W s a Q X x = x
 pub stored-as : (W Y : List ℕ) (at : ℕ) (i j : StoredGoal) → i ≡ j → Y ≡ sets W at (storedBytes i) → Y ≡ sets W at (storedBytes j)
 stored-as W Y at i j p q = q ∙ ap (λ (k : StoredGoal). sets W at (storedBytes k)) p
 
+pub fits-as : (i j : StoredGoal) → i ≡ j → StoredFits j → StoredFits i
+fits-as i j p x = subst StoredFits (sym p) x
+
 pub fits-build :
     (i : StoredGoal) (part target next argument : ℕ) → i ≡ storedBuild part target next argument → part < 1024 → target < 4 * numbers
     → next < 4 * numbers

@@ -46,7 +46,8 @@ use Rattle.agenda.specs.Stored.{storedBytes, StoredAt}
 use Rattle.agenda.specs.State.{targetBytes, Target, State, Easy, Deferred, Chain, relinking}
 use Rattle.agenda.specs.Moves.{Move, Moved, Failed, Branched}
 use Rattle.arguments.specs.Ways.{Way, Fitting}
-use Rattle.arguments.specs.Applications.{ApplicationDeferred, WaysCounted, argumentOf, ArgumentPlace, Argument, Placed}
+use Rattle.arguments.specs.Applications.{ApplicationDeferred, WaysCounted, argumentOf, ArgumentPlace, Argument, Placed, ArgumentRoom}
+use Rattle.arguments.specs.Applications.{ArgumentPushed}
 use Rattle.agenda.specs.Locals.{ArgumentComparable, Misses}
 use Rattle.agenda.specs.Heads.{Agree}
 use Rattle.agenda.proofs.Agreement.{unlike-at}
@@ -58,7 +59,7 @@ use Rattle.agenda.proofs.Frame.{goal-stored, chain-match, chain-build}
 use Rattle.deciding.proofs.Refutations.{skeleton-part}
 use Rattle.arguments.proofs.Applications.{application-parts, argument-from, stored-as, live, died, ApplicationSite, MatchState}
 use Rattle.arguments.proofs.Applications.{site, opened}
-use Rattle.arguments.proofs.Applications.{from, stored-bounds, argument-ends, dead}
+use Rattle.arguments.proofs.Applications.{from, stored-bounds, argument-whole, argument-ends, dead, fits-build, fits-match}
 
 -- how large and how deep a part is
 part-most : (t : Term) (j : ℕ) → j < size t → partAt 0 t j .0 + size (partAt 0 t j .1) ≤ size t
@@ -447,15 +448,38 @@ module _ (P W : List ℕ) (s : Agenda) (a : List Entry) (x : ApplicationDeferred
           };
         }
 
-    -- the same, with the goals as they were made
-    pub found : (h : ℕ) (e : Bool) (i k : StoredGoal) (Y Z : List ℕ) → Ends P (r .part + 4) h
-        → Earlier (slice X (r .target)) j (slice X (s .top)) e
-        → e ≡ false
-        → i ≡ storedBuild (r .part + 4) (r .target) (r .next) (s .top) → k ≡ storedMatch h (s .top) (s .easy)
-        → Y ≡ sets X end (storedBytes i) → Z ≡ sets Y (end + 8) (storedBytes k)
-        → Branched P W s a (Way (suc (suc j))) Z (Branch.Next (record { top = end + 2 * 8; easy = end + 8; deferred = end }))
-    found h e i k Y Z eh b c p q first second =
-        live P W s a (Way (suc (suc j))) Z (record { top = end + 2 * 8; easy = end + 8; deferred = end })
-        (argument-move h eh (subst (Earlier (slice X (r .target)) j (slice X (s .top))) c b) Y Z
-        (stored-as X Y end i (storedBuild (r .part + 4) (r .target) (r .next) (s .top)) p first)
-        (stored-as Y Z (end + 8) k (storedMatch h (s .top) (s .easy)) q second))
+    -- room for the two goals, and the search goes on from there
+    pub argument-room : (h : ℕ) → Ends P (r .part + 4) h → ArgumentRoom X s r h end
+    argument-room h eh =
+        let n = stored-bounds P W s a x r y in
+        let bounds = x .ready .bounds in
+        record {
+          room = omega (arith, n .room, ending .most, ending .whole);
+          most = omega (arith, ending .whole);
+          build-fits = fits-build _ (r .part + 4) (r .target) (r .next) (s .top) refl (omega (arith, n .part-low, bounds .short))
+              (omega (arith, n .target-low, bounds .top)) (omega (arith, n .next, bounds .deferred-room, bounds .top))
+              (omega (arith, bounds .top));
+          match-fits = fits-match _ h (s .top) (s .easy) refl
+              (omega (arith, argument-whole P W s a x r y h eh .least, bounds .short)) (omega (arith, bounds .top))
+              (omega (arith, bounds .easy-room, bounds .top));
+        }
+
+    pub found : (h : ℕ) (e : Bool) (Z : List ℕ) (s′ : Agenda) → Ends P (r .part + 4) h
+        → Earlier (slice X (r .target)) j (slice X (s .top)) e → e ≡ false → ArgumentPushed X s r h end Z s′
+        → Branched P W s a (Way (suc (suc j))) Z (Branch.Next s′)
+    found h e Z s′ eh b c d =
+        subst (λ (q : Agenda). Branched P W s a (Way (suc (suc j))) Z (Branch.Next q)) (sym (d .agenda))
+        (live P W s a (Way (suc (suc j))) Z (record { top = end + 2 * 8; easy = end + 8; deferred = end })
+        (argument-move h eh (subst (Earlier (slice X (r .target)) j (slice X (s .top))) c b) _ Z refl (d .stored)))
+
+-- the two goals as they were made
+pub pushed : (W : List ℕ) (s : Agenda) (r : StoredGoal) (h end : ℕ) (i k : StoredGoal) (Y Z : List ℕ)
+    → i ≡ storedBuild (r .part + 4) (r .target) (r .next) (s .top) → Y ≡ sets W end (storedBytes i)
+    → k ≡ storedMatch h (s .top) (s .easy) → Z ≡ sets Y (end + 8) (storedBytes k)
+    → ArgumentPushed W s r h end Z (record { top = end + 2 * 8; easy = end + 8; deferred = end })
+pushed W s r h end i k Y Z p first q second = record {
+  stored = stored-as Y Z (end + 8) k (storedMatch h (s .top) (s .easy)) q second
+      ∙ ap (λ (l : List ℕ). sets l (end + 8) (storedBytes (storedMatch h (s .top) (s .easy))))
+      (stored-as W Y end i (storedBuild (r .part + 4) (r .target) (r .next) (s .top)) p first);
+  agenda = refl;
+}

@@ -7,6 +7,9 @@
 --   Argument W top t j X r         the j-th part of t uses none of the binders above it, and stands moved out of them in X from byte `top`
 --                                  on
 --   Placed W top at j X r          the same of the term of W at byte `at`; or its j-th part is no argument
+--   ArgumentRoom W s r h end       two goals can be written from byte `end` on: that the head of the application in the goal r builds its
+--                                  target from what stands at the top, and that its argument, at byte h of the pattern, sweeps to that
+--   ArgumentPushed W s r h end X s′   they were
 use mathlib.Core.Path.{_≡_}
 use mathlib.Core.Bool.{true}
 use mathlib.Core.List.{List}
@@ -25,7 +28,9 @@ use Rattle.records.specs.declared.Walk.{Walk}
 use Rattle.records.specs.declared.Walk.the-variants.{Upto, No}
 use Rattle.assignments.specs.declared.Entry.{Entry}
 use Rattle.agenda.specs.declared.Agenda.{Agenda}
+use Rattle.agenda.specs.declared.StoredGoal.{StoredGoal}
 use Rattle.agenda.specs.declared.Ways.{Ways}
+use Rattle.agenda.specs.Stored.{storedBytes, storedMatch, storedBuild, StoredFits}
 use Rattle.agenda.specs.State.{targetBytes, State, Ready, patternAt, relinking}
 use Rattle.arguments.specs.Ways.{HasWays, HasDepths, HeadLacks, Fitting}
 use Rattle.deciding.specs.Refuting.{Prefix}
@@ -60,6 +65,18 @@ pub record Argument (W : List ℕ) (top : ℕ) (t : Term) (j : ℕ) (X : List �
   pub copy : Copy (partAt 0 t j) (argumentOf t j)
   pub bytes : X ≡ sets W top (encode (argumentOf t j))
   pub end : r ≡ top + 4 * size (argumentOf t j)
+
+pub record ArgumentRoom (W : List ℕ) (s : Agenda) (r : StoredGoal) (h end : ℕ) : Type 0 where
+  pub room : end + 16 ≤ length W
+  pub most : length W ≤ tableBytes
+  pub build-fits : StoredFits (storedBuild (r .part + 4) (r .target) (r .next) (s .top))
+  pub match-fits : StoredFits (storedMatch h (s .top) (s .easy))
+
+pub record ArgumentPushed (W : List ℕ) (s : Agenda) (r : StoredGoal) (h end : ℕ) (X : List ℕ) (s′ : Agenda) : Type 0 where
+  pub stored :
+      X ≡ sets (sets W end (storedBytes (storedBuild (r .part + 4) (r .target) (r .next) (s .top)))) (end + 8)
+      (storedBytes (storedMatch h (s .top) (s .easy)))
+  pub agenda : s′ ≡ record { top = end + 2 * 8; easy = end + 8; deferred = end }
 
 unfoldable pub Placed : List ℕ → ℕ → ℕ → ℕ → List ℕ → Walk → Type 0
 Placed W top at j X (Upto r) = (t : Term) → Part W at t → Argument W top t j X r

@@ -12,6 +12,7 @@
 use agenda::Agenda;
 use agenda::Branch;
 use agenda::GOAL;
+use agenda::StoredGoal;
 use agenda::TARGET_BYTES;
 use agenda::Ways;
 use assignments::Entry;
@@ -20,7 +21,7 @@ use records::VARIABLES;
 use records::Walk;
 ghost use Prim.Native.Nat.{suc, _+_, _<_};
 ghost use Rattle.abstractions.specs.Occurrences.{DepthOf};
-ghost use Rattle.arguments.specs.Applications.{ApplicationDeferred, WaysCounted, ArgumentPlace, Placed};
+ghost use Rattle.arguments.specs.Applications.{ApplicationDeferred, WaysCounted, ArgumentPlace, Placed, ArgumentRoom, ArgumentPushed};
 ghost use Rattle.arguments.specs.Ways.{Way};
 ghost use Rattle.agenda.specs.Moves.{Branched};
 
@@ -38,6 +39,29 @@ fn place_argument(work: &mut [u8], top: usize, at: usize, j: usize, depth: usize
     };
     copying::copy_into(&e[0..n], work, top);
     Walk::Upto(top + n)
+}
+
+// Writes two goals from byte `end` on: that the goal's head builds its target from what stands at the top, and that its argument, at byte
+// `argument` of the pattern, sweeps to that.
+fn push_argument(
+    work: &mut [u8],
+    agenda: Agenda,
+    goal: StoredGoal,
+    argument: usize,
+    end: usize,
+) -> Agenda
+    requires { ⌜ ArgumentRoom (now work) agenda goal argument end ⌝ }
+    ensures { λ r. ⌜ ArgumentPushed (now (work .entry)) agenda goal argument end (now (work .exit)) r ⌝ }
+{
+    let built = agenda::build_goal(goal.part + RECORD, goal.target, goal.next, agenda.top);
+    agenda::put_goal(work, end, built);
+    let swept = agenda::match_goal(argument, agenda.top, agenda.easy);
+    agenda::put_goal(work, end + GOAL, swept);
+    Agenda {
+        top: end + 2 * GOAL,
+        easy: end + GOAL,
+        deferred: end,
+    }
 }
 
 // The argument found at the j-th part of the target: it sweeps to that part, moved out of the binders above it, and the head builds the
@@ -84,15 +108,5 @@ pub fn find_argument(
             return Branch::Failed;
         }
     }
-    agenda::put_goal(work, end, agenda::build_goal(head, target, goal.next, top));
-    agenda::put_goal(
-        work,
-        end + GOAL,
-        agenda::match_goal(argument, top, agenda.easy),
-    );
-    Branch::Next(Agenda {
-        top: end + 2 * GOAL,
-        easy: end + GOAL,
-        deferred: end,
-    })
+    Branch::Next(push_argument(work, agenda, goal, argument, end))
 }

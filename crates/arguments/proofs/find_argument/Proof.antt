@@ -3,11 +3,11 @@
 use mathlib.Core.Path.{_∙_}
 use borrow.Author.Tests.{not-true}
 use native.Mathlib.Omega.{arith}
-use Rattle.arguments.proofs.Applications.{stored-bounds, head-place, argument-whole, argument-place, argument-whole-slice}
-use Rattle.arguments.proofs.Applications.{argument-ends, fits-match, fits-build}
+use Rattle.arguments.proofs.Applications.{head-place, argument-place, argument-whole-slice}
+use Rattle.arguments.proofs.Applications.{argument-ends}
 use Rattle.arguments.proofs.Arguments.{places, depth, few-records, part-place, part-whole-slice, unlike, no-argument}
 use Rattle.arguments.proofs.Arguments.{ending, looks, top-whole, target-within, top-within}
-use Rattle.arguments.proofs.Arguments.{comparable, unfitting, again, lacking, found}
+use Rattle.arguments.proofs.Arguments.{comparable, unfitting, again, lacking, argument-room, found}
 use Rattle.deciding.proofs.Refutations.{skeleton-comparable}
 use borrow.Author.Needs.{needs}
 use Rattle.arguments.proofs.find_argument.Statement.{statement}
@@ -222,97 +222,26 @@ returns-5 c =
     lacking _ _ _ _ (start .pre .0) _ (goal-at .goal-at .ensures .0) _ _ _ _ (place-argument .place-argument .ensures)
     (placed .placed .given .1) _ (c .before .misses-local .ensures) (c .if6 .taken)
 
-build-goal-requires : tie.Need-build-goal-requires
-build-goal-requires c κs = search needs
-
-put-goal-requires : tie.Need-put-goal-requires
-put-goal-requires c κs =
+push-argument-requires : tie.Need-push-argument-requires
+push-argument-requires c κs =
     let else4 : tie.Else4 = search in
     let placed = placed-before else4 in
     let place-argument = place-before placed in
     let goal-at = stored-before placed in
     let start : tie.Start = search in
-    let n = stored-bounds _ _ _ _ (start .pre .0) _ (goal-at .goal-at .ensures .0) in
-    let e = ending _ _ _ _ (start .pre .0) _ (goal-at .goal-at .ensures .0) _ _ _ _
-    (place-argument .place-argument .ensures) (placed .placed .given .1) in (
-      omega (arith, n .room, e .most, e .whole),
-      fits-build _ _ _ _ _ (c .build-goal .ensures) (omega (arith, n .part-low, start .pre .0 .ready .bounds .short))
-          (omega (arith, n .target-low, start .pre .0 .ready .bounds .top))
-          (omega (arith, n .next, start .pre .0 .ready .bounds .deferred-room, start .pre .0 .ready .bounds .top))
-          (omega (arith, start .pre .0 .ready .bounds .top)),
-    )
-
-add-put-goal : tie.Need-add-put-goal
-add-put-goal c =
-    let else4 : tie.Else4 = search in
-    let placed = placed-before else4 in
-    let place-argument = place-before placed in
-    let goal-at = stored-before placed in
-    let start : tie.Start = search in
-    let e = ending _ _ _ _ (start .pre .0) _ (goal-at .goal-at .ensures .0) _ _ _ _
-    (place-argument .place-argument .ensures) (placed .placed .given .1) in
-    search needs
-
-match-goal-requires : tie.Need-match-goal-requires
-match-goal-requires c κs = search needs
-
-put-goal-requires-2 : tie.Need-put-goal-requires-2
-put-goal-requires-2 c κs =
-    let else4 : tie.Else4 = search in
-    let placed = placed-before else4 in
-    let place-argument = place-before placed in
-    let goal-at = stored-before placed in
-    let start : tie.Start = search in
-    let n = stored-bounds _ _ _ _ (start .pre .0) _ (goal-at .goal-at .ensures .0) in
-    let e = ending _ _ _ _ (start .pre .0) _ (goal-at .goal-at .ensures .0) _ _ _ _
-    (place-argument .place-argument .ensures) (placed .placed .given .1) in (
-      omega (arith, n .room, e .most, e .whole),
-      fits-match _ _ _ _ (c .match-goal .ensures) (omega (
-        arith,
-        argument-whole _ _ _ _ (start .pre .0) _ (goal-at .goal-at .ensures .0) _
-            (argument-ends _ _ _ _ (start .pre .0) _ (goal-at .goal-at .ensures .0) _ (start .pre .1)) .least,
-        start .pre .0 .ready .bounds .short,
-      )) (omega (arith, start .pre .0 .ready .bounds .top))
-          (omega (arith, start .pre .0 .ready .bounds .easy-room, start .pre .0 .ready .bounds .top)),
-    )
-
-mul-t41 : tie.Need-mul-t41
-mul-t41 c = search needs
-
-add-t45 : tie.Need-add-t45
-add-t45 c =
-    let else4 : tie.Else4 = search in
-    let placed = placed-before else4 in
-    let place-argument = place-before placed in
-    let goal-at = stored-before placed in
-    let start : tie.Start = search in
-    let e = ending _ _ _ _ (start .pre .0) _ (goal-at .goal-at .ensures .0) _ _ _ _
-    (place-argument .place-argument .ensures) (placed .placed .given .1) in
-    omega (arith, e .most, start .pre .0 .ready .bounds .top)
-
-add-t75 : tie.Need-add-t75
-add-t75 c =
-    let else4 : tie.Else4 = search in
-    let placed = placed-before else4 in
-    let place-argument = place-before placed in
-    let goal-at = stored-before placed in
-    let start : tie.Start = search in
-    let e = ending _ _ _ _ (start .pre .0) _ (goal-at .goal-at .ensures .0) _ _ _ _
-    (place-argument .place-argument .ensures) (placed .placed .given .1) in
-    omega (arith, e .most, start .pre .0 .ready .bounds .top)
+    argument-room _ _ _ _ (start .pre .0) _ (goal-at .goal-at .ensures .0) _ _ _ _ (place-argument .place-argument .ensures)
+    (placed .placed .given .1) _ (argument-ends _ _ _ _ (start .pre .0) _ (goal-at .goal-at .ensures .0) _ (start .pre .1))
 
 same-length-6 : tie.Need-same-length-6
 same-length-6 c =
-    let put-goal2 : tie.After-put-goal2 = search in
-    let put-goal : tie.After-put-goal = search in
+    let push-argument : tie.After-push-argument = search in
     let else4 : tie.Else4 = search in
     let place-argument = place-before (placed-before else4) in
-    put-goal2 .put-goal2 .kept .0 ∙ put-goal .put-goal .kept .0 ∙ place-argument .place-argument .kept .0
+    push-argument .push-argument .kept .0 ∙ place-argument .place-argument .kept .0
 
 returns-6 : tie.Need-returns-6
 returns-6 c =
-    let put-goal : tie.After-put-goal = search in
-    let build-goal : tie.After-build-goal = search in
+    let push-argument : tie.After-push-argument = search in
     let else4 : tie.Else4 = search in
     let occurs-before : tie.After-occurs-before = search in
     let placed = placed-before else4 in
@@ -320,10 +249,9 @@ returns-6 c =
     let start : tie.Start = search in
     let place-argument = place-before placed in
     found _ _ _ _ (start .pre .0) _ (goal-at .goal-at .ensures .0) _ _ _ _
-    (place-argument .place-argument .ensures) (placed .placed .given .1) _ _ _ _ _ _
+    (place-argument .place-argument .ensures) (placed .placed .given .1) _ _ _ _
     (argument-ends _ _ _ _ (start .pre .0) _ (goal-at .goal-at .ensures .0) _ (start .pre .1)) (occurs-before .occurs-before .ensures)
-    (else4 .if4 .left) (build-goal .build-goal .ensures) (c .before .before .before .match-goal .ensures) (put-goal .put-goal .ensures)
-    (c .before .before .put-goal2 .ensures)
+    (else4 .if4 .left) (push-argument .push-argument .ensures)
 
 pub find-argument-spec : {M : Type 1} → statement M
 find-argument-spec =
@@ -379,13 +307,6 @@ find-argument-spec =
     misses-local-requires
     same-length-5
     returns-5
-    build-goal-requires
-    put-goal-requires
-    add-put-goal
-    match-goal-requires
-    put-goal-requires-2
-    mul-t41
-    add-t45
-    add-t75
+    push-argument-requires
     same-length-6
     returns-6)
