@@ -11,7 +11,7 @@ use lib.Seq.{sets}
 use borrow.Author.Tests.{lt-ltb, le-ltb}
 use Rattle.terms.specs.Figures.{numbers, tableBytes}
 use Rattle.terms.specs.Term.{Term, app, lam, loc, con, var, size, shift}
-use Rattle.terms.specs.Table.{bytes, encode}
+use Rattle.terms.specs.Table.{recordBytes, encode}
 use Rattle.terms.proofs.Shift.{size-shift}
 use Rattle.terms.proofs.Table.{encode-length}
 use Rattle.terms.proofs.Substitute.{size-pos}
@@ -129,7 +129,7 @@ module _ (s : List ℕ) (d : ℕ) (m : List ℕ) (k : ℕ) (out : List ℕ) (o :
       let c : chosenIn m k ≡ false = le-ltb 0 (getD m k 0) (omega arith) in
       record { exact = λ t u. rw c (w .exact t u); bytes = λ t u. rw c (w .bytes t u) }
 
-  pub chose-local : (p : List ℕ) → ¬ (getD m k 0 ≡ 0) → p ≡ sets out o (bytes 2 d []) → Chose s d m k out o p (o + 4)
+  pub chose-local : (p : List ℕ) → ¬ (getD m k 0 ≡ 0) → p ≡ sets out o (recordBytes 2 d []) → Chose s d m k out o p (o + 4)
   chose-local p z w =
       let c : chosenIn m k ≡ true = lt-ltb 0 (getD m k 0) (omega arith) in
       record { exact = λ t u. rw c (omega arith); bytes = λ t u. rw c w }
@@ -153,7 +153,7 @@ module _ (s : List ℕ) (d : ℕ) (e m : List ℕ) (k : ℕ) (out : List ℕ) (o
       }
 
   module _ (far : NoCopy s d e) where
-    module _ (p q w : List ℕ) (h n i r end j : ℕ) (z : getD s 0 0 ≡ 0) (first : p ≡ sets out o (bytes 0 0 []))
+    module _ (p q w : List ℕ) (h n i r end j : ℕ) (z : getD s 0 0 ≡ 0) (first : p ≡ sets out o (recordBytes 0 0 []))
         (x : Body (slice s 4) d e m k p (o + 4) q h n i) (y : Body (slice s (4 + h)) d e m i q n w r end j) where
       body-parts : (t b : Term) → Part s 0 t → Part e 0 b → (j ≡ k + copies b d t) × (end ≡ o + 4 * size (body b d t (chosenIn m) k))
           × (w ≡ sets out o (encode (body b d t (chosenIn m) k)))
@@ -169,13 +169,13 @@ module _ (s : List ℕ) (d : ℕ) (e m : List ℕ) (k : ℕ) (out : List ℕ) (o
           ∙ ap (λ (g : ℕ). app (body b d (a .f) (chosenIn m) k) (body b d (a .a) (chosenIn m) g)) (sym number) in
           let f = x .exact (a .f) b (a .head) v in
           let g = y .exact (a .a) b c v in
-          let last : n ≡ o + length (bytes 0 0 (encode (body b d (a .f) (chosenIn m) k))) =
+          let last : n ≡ o + length (recordBytes 0 0 (encode (body b d (a .f) (chosenIn m) k))) =
           omega (arith, encode-length (body b d (a .f) (chosenIn m) k)) in
-          let before = written-then (bytes 0 0 []) (encode (body b d (a .f) (chosenIn m) k)) out p q o (o + 4) first
+          let before = written-then (recordBytes 0 0 []) (encode (body b d (a .f) (chosenIn m) k)) out p q o (o + 4) first
           (x .bytes (a .f) b (a .head) v) refl in (
             omega (arith, y .number (a .a) b c v),
             rw is (omega arith),
-            rw is (written-then (bytes 0 0 (encode (body b d (a .f) (chosenIn m) k))) (encode (body b d (a .a) (chosenIn m) i))
+            rw is (written-then (recordBytes 0 0 (encode (body b d (a .f) (chosenIn m) k))) (encode (body b d (a .a) (chosenIn m) i))
                 out q w o n before (y .bytes (a .a) b c v) last),
           )
 
@@ -189,7 +189,7 @@ module _ (s : List ℕ) (d : ℕ) (e m : List ℕ) (k : ℕ) (out : List ℕ) (o
         bytes = λ t b u v. body-parts t b u v .2;
       }
 
-    module _ (p q : List ℕ) (r end j : ℕ) (z : getD s 0 0 ≡ 1) (first : p ≡ sets out o (bytes 1 0 []))
+    module _ (p q : List ℕ) (r end j : ℕ) (z : getD s 0 0 ≡ 1) (first : p ≡ sets out o (recordBytes 1 0 []))
         (x : Body (slice s 4) (d + 1) e m k p (o + 4) q r end j) where
       body-below : (t b : Term) → Part s 0 t → Part e 0 b → (j ≡ k + copies b d t) × (end ≡ o + 4 * size (body b d t (chosenIn m) k))
           × (q ≡ sets out o (encode (body b d t (chosenIn m) k)))
@@ -204,7 +204,7 @@ module _ (s : List ℕ) (d : ℕ) (e m : List ℕ) (k : ℕ) (out : List ℕ) (o
           let f = x .exact (a .b) b (a .body) v in (
             x .number (a .b) b (a .body) v ∙ ap (k +_) (sym count),
             rw is (omega arith),
-            rw is (written-then (bytes 1 0 []) (encode (body b (d + 1) (a .b) (chosenIn m) k)) out p q o (o + 4) first
+            rw is (written-then (recordBytes 1 0 []) (encode (body b (d + 1) (a .b) (chosenIn m) k)) out p q o (o + 4) first
                 (x .bytes (a .b) b (a .body) v) refl),
           )
 

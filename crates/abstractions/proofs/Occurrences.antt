@@ -9,13 +9,12 @@ use native.Mathlib.Decide.{decLt}
 use lib.ListN.{length, getD}
 use Rattle.terms.specs.Figures.{tableBytes}
 use Rattle.terms.specs.Term.{Term, app, lam, loc, con, var, size}
-use Rattle.terms.proofs.Table.{app-inj, lam-inj}
 use Rattle.matching.specs.Occurrences.{partAt, Copy}
 use Rattle.matching.proofs.Occurrences.{partAt-head, partAt-argument, partAt-first}
 use Rattle.records.specs.declared.Walk.{Walk}
 use Rattle.records.specs.declared.Walk.the-variants.{Upto, No}
 use Rattle.records.specs.Parts.{slice, Part, Whole}
-use Rattle.records.proofs.Parts.{whole, kind-at, leaf-size, application, abstraction}
+use Rattle.records.proofs.Parts.{whole, leaf-size, application-parts, abstraction-part}
 use Rattle.records.proofs.Slices.{part-slice, whole-slice, slice-length, head-slice, body-slice}
 use Rattle.shifting.specs.Tests.{PartsComparable, Shifted, PartsCompared}
 use Rattle.shifting.proofs.Slices.{ApplicationSlices, application-slices, abstraction-slices}
@@ -50,28 +49,13 @@ module _ (R : ℕ → ℕ × Term → Type 0) (d : ℕ) where
   index-leaf t q zero h = index-first t q
   index-leaf t q (suc j) h = absurd (omega arith)
 
--- the parts of an application and of an abstraction that stands in a table
-app-parts : (l : List ℕ) (at : ℕ) (f a : Term) → Part l at (app f a) → Part l (at + 4) f × Part l (at + 4 + 4 * size f) a
-app-parts l at f a p =
-    let v = application l at (app f a) p (kind-at l at (app f a) p) in
-    let s = app-inj f a (v .f) (v .a) (v .is) in (
-      subst (Part l (at + 4)) (sym (s .0)) (v .head),
-      subst (λ (u : Term). Part l (at + 4 + 4 * size u) a) (sym (s .0))
-          (subst (Part l (at + 4 + 4 * size (v .f))) (sym (s .1)) (v .argument)),
-    )
-
-lam-part : (l : List ℕ) (at : ℕ) (b : Term) → Part l at (lam b) → Part l (at + 4) b
-lam-part l at b p =
-    let v = abstraction l at (lam b) p (kind-at l at (lam b) p) in
-    subst (Part l (at + 4)) (sym (lam-inj b (v .b) (v .is))) (v .body)
-
 moved : (l : List ℕ) (i j : ℕ) (t : Term) → i ≡ j → Part l i t → Part l j t
 moved l i j t e p = subst (λ (k : ℕ). Part l k t) e p
 
 -- the j-th part stands 4 * j bytes on
 pub part-at : (l : List ℕ) (at d : ℕ) (t : Term) (j : ℕ) → Part l at t → j < size t → Part l (at + 4 * j) (partAt d t j .1)
 part-at l at d (app f a) j p h =
-    let s = app-parts l at f a p in
+    let s = application-parts l at f a p in
     index-app (λ i q. Part l (at + 4 * i) (q .1)) d f a (moved l at (at + 4 * 0) (app f a) (omega arith) p)
     (λ i m. moved l (at + 4 + 4 * i) (at + 4 * suc i) (partAt d f i .1) (omega arith) (part-at l (at + 4) d f i (s .0) m))
     (λ i m.
@@ -81,7 +65,7 @@ part-at l at d (app f a) j p h =
 part-at l at d (lam b) j p h =
     index-lam (λ i q. Part l (at + 4 * i) (q .1)) d b (moved l at (at + 4 * 0) (lam b) (omega arith) p)
     (λ i m. moved l (at + 4 + 4 * i) (at + 4 * suc i) (partAt (suc d) b i .1) (omega arith)
-    (part-at l (at + 4) (suc d) b i (lam-part l at b p) m))
+    (part-at l (at + 4) (suc d) b i (abstraction-part l at b p) m))
     j h
 part-at l at d (loc n) j p h =
     index-leaf (λ i q. Part l (at + 4 * i) (q .1)) d (loc n) (moved l at (at + 4 * 0) (loc n) (omega arith) p) j h

@@ -10,7 +10,7 @@ use borrow.Author.Tests.{eqb-false}
 use Rattle.terms.specs.Term.{Term, app}
 use Rattle.terms.specs.Heads.{rigid}
 use Rattle.matching.specs.Occurrences.{Unlike}
-use Rattle.matching.proofs.Prune.{unlike-kind, unlike-head, unlike-constant}
+use Rattle.matching.proofs.Cuts.{unlike-kind, unlike-head, unlike-constant}
 use Rattle.records.specs.Record.{numberAt}
 use Rattle.records.specs.Parts.{slice, Part, Whole}
 use Rattle.records.proofs.Parts.{kind-at, number-at}

@@ -1,7 +1,7 @@
 -- What stands below `top` stays where the bytes below it are kept, and a goal that is written above it can be read. From the bytes that
 -- are kept a part is read again, and the rest follows goal by goal. Assumes nothing.
 --   Kept W X top   the bytes of W and X below `top` are the same
-use mathlib.Core.Path.{_≡_, refl, sym, ap, ap₂, _∙_, subst}
+use mathlib.Core.Path.{_≡_, sym, ap, ap₂, _∙_, subst}
 use mathlib.Core.Option.{Option, none, some}
 use mathlib.Core.List.{List, [], _∷_, _++_, append-assoc}
 use Prim.Native.Nat.{ℕ, suc, _+_, _*_, _%_, _<_, _≤_}
@@ -25,7 +25,10 @@ use Rattle.shifting.proofs.Lowering.{take-sets}
 use Rattle.agenda.specs.declared.Agenda.{Agenda}
 use Rattle.agenda.specs.declared.StoredGoal.{StoredGoal}
 use Rattle.agenda.specs.Stored.{storedBytes, StoredAt}
-use Rattle.agenda.specs.State.{Target, GoalAt, Chain, State, targetAt, nextAt, argumentAt}
+use Rattle.agenda.specs.State.{goalBytes, Target, GoalAt, Chain, State, targetAt, nextAt, argumentAt}
+
+pub byte-below : (W X : List ℕ) (top i : ℕ) → i < top → take top X ≡ take top W → getD X i 0 ≡ getD W i 0
+byte-below W X top i h e = sym (getD-take top X i 0 h) ∙ ap (λ (l : List ℕ). getD l i 0) e ∙ getD-take top W i 0 h
 
 pub record Kept (W X : List ℕ) (top : ℕ) : Type 0 where
   pub same : take top X ≡ take top W
@@ -50,12 +53,12 @@ module _ (W X : List ℕ) (top : ℕ) (k : Kept W X top) where
       (sym (take-append-drop (4 * size t) (drop at X)) ∙ ap (_++ drop (4 * size t) (drop at X)) q)
 
   pub byte-kept : (i : ℕ) → i < top → getD X i 0 ≡ getD W i 0
-  byte-kept i h = sym (getD-take top X i 0 h) ∙ ap (λ (l : List ℕ). getD l i 0) (k .same) ∙ getD-take top W i 0 h
+  byte-kept i h = byte-below W X top i h (k .same)
 
   pub word-kept : (i : ℕ) → i + 2 ≤ top → wordAt X i ≡ wordAt W i
   word-kept i h = ap₂ (λ (x y : ℕ). x * 256 + y) (byte-kept i (omega arith)) (byte-kept (i + 1) (omega arith))
 
-  pub next-kept : (at : ℕ) → at + 8 ≤ top → nextAt X at ≡ nextAt W at
+  pub next-kept : (at : ℕ) → at + goalBytes ≤ top → nextAt X at ≡ nextAt W at
   next-kept at h = ap (4 *_) (word-kept (at + 4) (omega arith))
 
   module _ (higher : ℕ) (up : top ≤ higher) where
@@ -71,7 +74,7 @@ module _ (W X : List ℕ) (top : ℕ) (k : Kept W X top) where
     }
 
     module _ (P : List ℕ) where
-      goal-kept : (at : ℕ) (g : Goal) → at + 8 ≤ top → GoalAt P W top at g → GoalAt P X higher at g
+      goal-kept : (at : ℕ) (g : Goal) → at + goalBytes ≤ top → GoalAt P W top at g → GoalAt P X higher at g
       goal-kept at (match p t) h x = record {
         kind = byte-kept (at + 1) (omega arith) ∙ x .kind;
         part = subst (λ (i : ℕ). Part P (4 * i) p) (sym (byte-kept at (omega arith))) (x .part);
@@ -171,8 +174,8 @@ pub length-stored : (vs W X : List ℕ) (at : ℕ) → X ≡ sets W at vs → le
 length-stored vs W X at e = ap length e ∙ length-sets W at vs
 
 -- an stored goal that was stored
-module _ (W X : List ℕ) (at : ℕ) (r : StoredGoal) (e : X ≡ sets W at (storedBytes r)) (room : at + 8 ≤ length W) where
-  byte : (i j : ℕ) → i < 8 → j ≡ at + i → getD X j 0 ≡ getD (storedBytes r) i 0
+module _ (W X : List ℕ) (at : ℕ) (r : StoredGoal) (e : X ≡ sets W at (storedBytes r)) (room : at + goalBytes ≤ length W) where
+  byte : (i j : ℕ) → i < goalBytes → j ≡ at + i → getD X j 0 ≡ getD (storedBytes r) i 0
   byte i j h q = ap₂ (λ (l : List ℕ) (n : ℕ). getD l n 0) e q ∙ getD-stored (storedBytes r) W at i (omega arith) (omega arith)
 
   pub goal-stored : r .part % 4 ≡ 0 → r .target % 4 ≡ 0 → r .next % 4 ≡ 0 → r .argument % 4 ≡ 0 → StoredAt X at r
@@ -185,7 +188,7 @@ module _ (W X : List ℕ) (at : ℕ) (r : StoredGoal) (e : X ≡ sets W at (stor
   }
 
 -- and the list that it begins
-module _ (K : Goal → Type 0) (P X : List ℕ) (top at : ℕ) (r : StoredGoal) (x : StoredAt X at r) (low : 0 < at) (room : at + 8 ≤ top)
+module _ (K : Goal → Type 0) (P X : List ℕ) (top at : ℕ) (r : StoredGoal) (x : StoredAt X at r) (low : 0 < at) (room : at + goalBytes ≤ top)
     (even : at % 4 ≡ 0) (falls : r .next < at) where
   pub chain-match :
       (p t : Term) (gs : List Goal) → r .kind ≡ 0 → K (match p t) → Part P (r .part) p → Target X top (size p) (r .target) t

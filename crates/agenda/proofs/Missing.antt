@@ -38,9 +38,10 @@ misses-found P W E k r q after other b h x y g m =
 
 -- parts of tables, handed on as slices
 module _ (P : List ℕ) (i : ℕ) (W : List ℕ) (j : ℕ) (E : List ℕ) (e : ℕ) where
-  pub comparable-at : Whole P i → length P ≤ 4 * patternRecords → Marks (slice W j) 0 patternRecords → Marks (slice E e) 0 patternRecords
+  pub argument-comparable-at : Whole P i → length P ≤ 4 * patternRecords → Marks (slice W j) 0 patternRecords
+      → Marks (slice E e) 0 patternRecords
       → ArgumentComparable (slice P i) (slice W j) (slice E e)
-  comparable-at x h m n = record { part = whole-slice P i x; short = omega (arith, slice-length P i); target = m; argument = n }
+  argument-comparable-at x h m n = record { part = whole-slice P i x; short = omega (arith, slice-length P i); target = m; argument = n }
 
   pub misses-at : (b : Bool) → b ≡ true → Misses (slice P i) (slice W j) (slice E e) b
       → (k : ℕ) × ((f t x : Term) → Part P i f → Part W j t → Part E e x → (uses k t ≡ true) × (uses k f ≡ false) × (uses k x ≡ false))

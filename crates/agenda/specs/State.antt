@@ -1,11 +1,14 @@
 -- How the goals, targets and values of a search stand in the work area.
 --   patternAt, targetAt, nextAt, argumentAt   the four fields of a goal that stands at a byte of the work area, as bytes
+--   goalBytes                                 the bytes of a goal
+--   matchKind, buildKind                      the kinds of goals, as numbers
 --   targetBytes                               the most bytes of a target
 --   Target W top n at t                       the term t stands in W from byte `at` on, below `top`, and is small enough for a part of n
 --                                             records to meet
 --   GoalAt P W top at g                       the goal g stands in W at byte `at`
 --   Easy g, Deferred g                        g may stand in the list of the easy goals, or of those deferred
 --   Chain K P W top at gs                     the goals gs, all of kind K, are a linked list in W that begins at byte `at`
+--   recordWeight, buildWeight                 the bytes that a goal may still take up for each record of its part, and one to build besides
 --   weights k gs                              the bytes that the goals gs may still take up, k more for each
 --   relinking                                 the bytes that bringing a goal forward may take up
 --   State k P W s a gs hs l the agenda s has the easy goals gs and the goals hs deferred, the entries a are the line l, and the work area
@@ -30,8 +33,17 @@ use Rattle.assignments.specs.declared.Entry.{Entry}
 use Rattle.assignments.specs.Held.{Holds}
 use Rattle.agenda.specs.declared.Agenda.{Agenda}
 
--- a goal is eight bytes: the pattern's part as a record number, 0 or 1 for the kind of goal, and as record numbers of two bytes each its
--- target, the next goal (0: none) and, of a goal to build, the argument's target
+-- a goal is eight bytes: the pattern's part as a record number, the kind of goal, and as record numbers of two bytes each its target, the
+-- next goal (0: none) and, of a goal to build, the argument's target
+abbrev pub goalBytes : ℕ
+goalBytes = 8
+
+abbrev pub matchKind : ℕ
+matchKind = 0
+
+abbrev pub buildKind : ℕ
+buildKind = 1
+
 abbrev pub patternAt : List ℕ → ℕ → ℕ
 patternAt W at = 4 * getD W at 0
 
@@ -58,13 +70,13 @@ pub record Target (W : List ℕ) (top n at : ℕ) (t : Term) : Type 0 where
   pub short : size t + 2 * n ≤ valueRecords
 
 pub record MatchAt (P W : List ℕ) (top at : ℕ) (p t : Term) : Type 0 where
-  pub kind : getD W (at + 1) 0 ≡ 0
+  pub kind : getD W (at + 1) 0 ≡ matchKind
   pub part : Part P (patternAt W at) p
   pub target : Target W top (size p) (targetAt W at) t
   pub suits : Listable variables (OccursIn P) (match p t)
 
 pub record BuildAt (P W : List ℕ) (top at : ℕ) (f t e : Term) : Type 0 where
-  pub kind : getD W (at + 1) 0 ≡ 1
+  pub kind : getD W (at + 1) 0 ≡ buildKind
   pub part : Part P (patternAt W at) f
   pub target : Target W top (suc (size f)) (targetAt W at) t
   pub argument : Target W top (suc (size f)) (argumentAt W at) e
@@ -89,7 +101,7 @@ Deferred (build f t e) = Unit {0}
 pub record Node (K : Goal → Type 0) (P W : List ℕ) (top at : ℕ) (g : Goal) : Type 0 where
   pub kind : K g
   pub low : 0 < at
-  pub room : at + 8 ≤ top
+  pub room : at + goalBytes ≤ top
   pub even : at % 4 ≡ 0
   pub falls : nextAt W at < at
   pub goal : GoalAt P W top at g
@@ -98,9 +110,15 @@ abbrev pub Chain : (Goal → Type 0) → List ℕ → List ℕ → ℕ → ℕ �
 Chain K P W top at [] = at ≡ 0
 Chain K P W top at (g ∷ gs) = Node K P W top at g × Chain K P W top (nextAt W at) gs
 
+abbrev pub recordWeight : ℕ
+recordWeight = 2000
+
+abbrev pub buildWeight : ℕ
+buildWeight = 1000
+
 abbrev pub weight : Goal → ℕ
-weight (match p t) = 2000 * size p
-weight (build f t e) = 2000 * size f + 1000
+weight (match p t) = recordWeight * size p
+weight (build f t e) = recordWeight * size f + buildWeight
 
 abbrev pub weights : ℕ → List Goal → ℕ
 weights k [] = 0
@@ -108,7 +126,7 @@ weights k (g ∷ gs) = k + weight g + weights k gs
 
 -- at most 32 goals are deferred, each with a weight of 2,000 or more
 abbrev pub relinking : ℕ
-relinking = 8 * patternRecords
+relinking = goalBytes * patternRecords
 
 pub record State (k : ℕ) (P W : List ℕ) (s : Agenda) (a : List Entry) (gs hs : List Goal) (l : Line) : Type 0 where
   pub easy : Chain Easy P W (s .top) (s .easy) gs
@@ -116,7 +134,7 @@ pub record State (k : ℕ) (P W : List ℕ) (s : Agenda) (a : List Entry) (gs hs
   pub entries : Holds W (s .top) a l
   pub line : length l ≡ variables
   pub assigns : Assigns (OccursIn P) l
-  pub room : s .top + weights 8 gs + weights 0 hs ≤ tableBytes + k
+  pub room : s .top + weights goalBytes gs + weights 0 hs ≤ tableBytes + k
 
 abbrev pub Sat : List Goal → List Goal → Line → Predicate
 Sat gs hs l φ = All gs φ × All hs φ × Extends φ l
@@ -125,11 +143,11 @@ pub record Bounds (P W : List ℕ) (s : Agenda) : Type 0 where
   pub whole : length W ≡ tableBytes
   pub short : length P ≤ 4 * patternRecords
   pub top : s .top ≤ tableBytes
-  pub start : 8 ≤ s .top
+  pub start : goalBytes ≤ s .top
   pub even : s .top % 4 ≡ 0
-  pub easy-room : s .easy + 8 ≤ s .top
+  pub easy-room : s .easy + goalBytes ≤ s .top
   pub easy-even : s .easy % 4 ≡ 0
-  pub deferred-room : s .deferred + 8 ≤ s .top
+  pub deferred-room : s .deferred + goalBytes ≤ s .top
   pub deferred-even : s .deferred % 4 ≡ 0
 
 pub record Ready (k : ℕ) (P W : List ℕ) (s : Agenda) (a : List Entry) : Type 0 where

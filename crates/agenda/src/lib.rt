@@ -23,6 +23,7 @@ ghost use mathlib.Core.Path.{_≡_};
 ghost use Prim.Native.Nat.{_+_, _≤_};
 ghost use lib.ListN.{length};
 ghost use lib.Seq.{sets};
+ghost use Rattle.agenda.specs.State.{goalBytes};
 ghost use Rattle.agenda.specs.Stored.{storedBytes, StoredAt, StoredFits, storedMatch, storedBuild};
 
 // Where a search stands in the work area: the first free byte, and where its two lists of goals begin (0: none is left). Easy goals have
@@ -137,7 +138,7 @@ pub fn build_goal(part: usize, target: usize, next: usize, argument: usize) -> S
 
 // The goal at byte `at`.
 pub fn goal_at(work: &[u8], at: usize) -> StoredGoal
-    requires { ⌜ at + 8 ≤ length (now work) ⌝ }
+    requires { ⌜ at + goalBytes ≤ length (now work) ⌝ }
     ensures is { λ r. ⌜ StoredAt (now (work .entry)) at r ⌝ }
     ensures fits { λ r. ⌜ StoredFits r ⌝ }
 {
@@ -152,7 +153,7 @@ pub fn goal_at(work: &[u8], at: usize) -> StoredGoal
 
 // Writes a goal at byte `at`; nothing else changes.
 pub fn put_goal(work: &mut [u8], at: usize, goal: StoredGoal)
-    requires { ⌜ (at + 8 ≤ length (now work)) × StoredFits goal ⌝ }
+    requires { ⌜ (at + goalBytes ≤ length (now work)) × StoredFits goal ⌝ }
     ensures { λ _. ⌜ now (work .exit) ≡ sets (now (work .entry)) at (storedBytes goal) ⌝ }
 {
     let part = goal.part / RECORD;

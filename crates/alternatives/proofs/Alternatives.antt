@@ -10,7 +10,7 @@ use lib.ListN.{length, getD, take, drop, replicate, length-take}
 use lib.Seq.{sets}
 use Rattle.terms.specs.Figures.{variables, patternRecords, valueRecords, tableBytes}
 use Rattle.terms.specs.Term.{Term, app, size, shift}
-use Rattle.terms.specs.Table.{bytes, encode}
+use Rattle.terms.specs.Table.{recordBytes, encode}
 use Rattle.terms.specs.Listing.{Line}
 use Rattle.terms.specs.Refusal.{OccursIn}
 use Rattle.terms.specs.Heads.{rigid}
@@ -20,12 +20,12 @@ use Rattle.matching.specs.Goals.{Goal, Goal.match}
 use Rattle.matching.specs.Alternatives.{constant}
 use Rattle.matching.proofs.Partial.{totalOf}
 use Rattle.matching.proofs.Alternatives.{alternative-parts, alternative-no-parts, listable-parts, listable-constant}
-use Rattle.matching.proofs.Prune.{no-local, constant-local}
+use Rattle.matching.proofs.Cuts.{no-local, constant-local}
 use Rattle.matching.proofs.Step.{constant-normal}
 use Rattle.matching.proofs.Targets.{closed-more, closed-shift, constant-closed, constant-ground}
 use Rattle.records.specs.Parts.{slice, Part, Whole, Ends}
 use Rattle.records.proofs.Slices.{part-slice, slice-length}
-use Rattle.records.proofs.Parts.{application, kind-at, whole}
+use Rattle.records.proofs.Parts.{application, application-parts, kind-at, whole}
 use Rattle.substitution.specs.Writers.{Source, Wrote}
 use Rattle.substitution.proofs.Writers.{source, slice-wrote}
 use Rattle.sweeping.proofs.Contraction.{closed-fits}
@@ -38,13 +38,13 @@ use Rattle.agenda.specs.declared.StoredGoal.{StoredGoal}
 use Rattle.agenda.specs.declared.Skeleton.{Skeleton}
 use Rattle.agenda.specs.declared.Ways.{Ways}
 use Rattle.agenda.specs.Stored.{storedBytes, StoredAt}
-use Rattle.agenda.specs.State.{targetBytes, Target, State, Bounds, Easy, Deferred, Chain, relinking}
+use Rattle.agenda.specs.State.{goalBytes, targetBytes, Target, State, Bounds, Easy, Deferred, Chain, relinking}
 use Rattle.agenda.specs.Moves.{Move, Moved, Failed, Branched}
 use Rattle.abstractions.proofs.Depths.{depths-at, depth-written}
 use Rattle.abstractions.specs.Occurrences.{DepthSource, WroteDepths}
 use Rattle.arguments.specs.Ways.{Way, HasWays, HasDepths, HeadLacks, Fitting}
 use Rattle.deciding.specs.Refuting.{SkeletonSource, PartSkeleton}
-use Rattle.builds.specs.Builds.{Pushes, StoredPushed, storedTarget, afterStored}
+use Rattle.builds.specs.Builds.{Pushes, StoredPushed, afterStored}
 use Rattle.arguments.specs.Applications.{ApplicationDeferred, WaysCounted}
 use Rattle.agenda.specs.Stored.{storedMatch}
 use Rattle.agenda.specs.Locals.{Locals, Lacks}
@@ -52,8 +52,9 @@ use Rattle.agenda.proofs.Lacking.{all-marks-at, locals-at, lacks-at}
 use Rattle.agenda.proofs.Frame.{Kept, part-kept, part-stored, target-kept, chain-kept, holds-kept, kept-sets, kept-then, length-stored}
 use Rattle.agenda.proofs.Frame.{goal-stored, chain-match}
 use Rattle.deciding.proofs.Refutations.{line-values, extended-values, source-at, skeleton-at}
-use Rattle.arguments.proofs.Applications.{application-parts, argument-from, ApplicationSite, StoredBounds, MatchState, site, opened, from}
-use Rattle.arguments.proofs.Applications.{stored-bounds, argument-whole-slice, dead, live, died, stored-as}
+use Rattle.arguments.proofs.Applications.{argument-from, ApplicationSite, StoredBounds, MatchState, application-site, application-opened}
+use Rattle.arguments.proofs.Applications.{from-application}
+use Rattle.arguments.proofs.Applications.{stored-bounds, argument-whole-slice, way-failed, branch-next, branch-failed, stored-as}
 
 -- what is known before the ways are gone through
 module _ (P W : List ℕ) (s : Agenda) (a : List Entry) (x : ApplicationDeferred P W s a) (r : StoredGoal) (y : StoredAt W (s .deferred) r)
@@ -62,48 +63,49 @@ module _ (P W : List ℕ) (s : Agenda) (a : List Entry) (x : ApplicationDeferred
     argument-walkable h e = (argument-whole-slice P W s a x r y h e, omega (arith, slice-length P h, x .ready .bounds .short))
 
     pub argument-source : (h : ℕ) → Ends P (r .part + 4) h → SkeletonSource (slice P h) W a
-    argument-source h e = from P W s a x (SkeletonSource (slice P h) W a) (λ gs hs l f b t z.
-        let v = site P W s a r gs hs l f b t y z in
+    argument-source h e = from-application P W s a x (SkeletonSource (slice P h) W a) (λ gs hs l f b t z.
+        let v = application-site P W s a r gs hs l f b t y z in
         source-at P h W a b (argument-from P (r .part) h f b e (v .part)) (x .ready .bounds .short) (v .suits .0 .0 .1) (totalOf l)
         (line-values P W s a l (x .ready .bounds) (z .entries) b))
 
-    pub locals : Locals (slice P (r .part + 4)) (slice W (r .target))
-    locals = from P W s a x (Locals (slice P (r .part + 4)) (slice W (r .target))) (λ gs hs l f b t z.
-        let v = site P W s a r gs hs l f b t y z .target in
+    pub head-locals : Locals (slice P (r .part + 4)) (slice W (r .target))
+    head-locals = from-application P W s a x (Locals (slice P (r .part + 4)) (slice W (r .target))) (λ gs hs l f b t z.
+        let v = application-site P W s a r gs hs l f b t y z .target in
         locals-at P (r .part + 4) W (r .target) (stored-bounds P W s a x r y .head) (x .ready .bounds .short)
         (all-marks-at W (r .target) (patternRecords - size (app f b)) t (v .part) (omega arith) (v .closed) (omega (arith, v .short))))
 
-    pub counted :
+    pub ways-counted :
         (h g : ℕ) (c d : Bool) (m : List ℕ) (o : ℕ) (i : Skeleton) → Ends W (r .target) h → Ends P (r .part + 4) g
         → ((t : Term) → Part (slice P g) 0 t → c ≡ rigid t) → PartSkeleton (slice P g) W a (i .bytes) (i .length)
         → Lacks (slice P (r .part + 4)) (slice W (r .target)) d → WroteDepths (slice W (r .target)) 0 (replicate valueRecords 0) 0 m o
         → WaysCounted P W s a (record { count = (h - r .target) / 4 + 2; argument = g; rigid = c; skeleton = i; lacking = d; depths = m })
-    counted h g c d m o i e j k p n u = record {
-      ways = λ gs hs l z. opened P W s a x gs l (HasWays ((h - r .target) / 4 + 2))
-          (λ f b t us o. omega (arith, e .exact t (site P W s a r gs us l f b t y o .target .part))) hs z;
+    ways-counted h g c d m o i e j k p n u = record {
+      ways = λ gs hs l z. application-opened P W s a x gs l (HasWays ((h - r .target) / 4 + 2))
+          (λ f b t us o. omega (arith, e .exact t (application-site P W s a r gs us l f b t y o .target .part))) hs z;
       argument = subst (λ (i : ℕ). Ends P (i + 4) g) (y .part) j;
       rigid-argument = rigid-at P g c k;
-      depths-are = λ gs hs l z. opened P W s a x gs l (HasDepths m)
-          (λ f b t us v i q. depth-written W (r .target) _ m o u i t (site P W s a r gs us l f b t y v .target .part) q) hs z;
+      depths-are = λ gs hs l z. application-opened P W s a x gs l (HasDepths m)
+          (λ f b t us v i q. depth-written W (r .target) _ m o u i t (application-site P W s a r gs us l f b t y v .target .part) q) hs z;
       skeleton-table = p .table;
-      skeleton-fits = λ gs hs l z. opened P W s a x gs l (Fitting (p .table .tree) l) (λ f b t us v φ w q.
-          skeleton-at P g W a (i .bytes) (i .length) p b (argument-from P (r .part) g f b j (site P W s a r gs us l f b t y v .part)) φ w
+      skeleton-fits = λ gs hs l z. application-opened P W s a x gs l (Fitting (p .table .tree) l) (λ f b t us v φ w q.
+          skeleton-at P g W a (i .bytes) (i .length) p b (argument-from P (r .part) g f b j
+          (application-site P W s a r gs us l f b t y v .part)) φ w
           (extended-values P W s a l (x .ready .bounds) (v .entries) b φ q)) hs z;
       lacking-head = λ i gs hs l z.
           let q = lacks-at P (r .part + 4) W (r .target) d i n in
-          opened P W s a x gs l HeadLacks (λ f b t us o.
-          let v = site P W s a r gs us l f b t y o in
+          application-opened P W s a x gs l HeadLacks (λ f b t us o.
+          let v = application-site P W s a r gs us l f b t y o in
           let q′ = q .1 f t (application-parts P (r .part) f b (v .part) .0) (v .target .part) in
           (q .0, q′ .0, q′ .1)) hs z;
     }
 
     pub depths-room : DepthSource (slice W (r .target)) 0 valueRecords 0
-    depths-room = from P W s a x (DepthSource (slice W (r .target)) 0 valueRecords 0) (λ gs hs l f b t z.
-        let v = site P W s a r gs hs l f b t y z .target in
+    depths-room = from-application P W s a x (DepthSource (slice W (r .target)) 0 valueRecords 0) (λ gs hs l f b t z.
+        let v = application-site P W s a r gs hs l f b t y z .target in
         depths-at W (r .target) 0 valueRecords 0 t (v .part) (omega (arith, v .short)) (omega (arith, v .short)))
 
     pub no-parts : ¬ (getD W (r .target) 0 ≡ 0) → Failed relinking P W s a (Way 0) W
-    no-parts k = dead P W s a x r y 0 W refl (λ f b t gs hs l φ v w p.
+    no-parts k = way-failed P W s a x r y 0 W refl (λ f b t gs hs l φ v w p.
         alternative-no-parts φ f b t (λ q. k (kind-at W (r .target) t (v .target .part) ∙ q)) (p .1 .0))
 
 pub at-way :
@@ -116,27 +118,28 @@ module _ (P W : List ℕ) (s : Agenda) (a : List Entry) (r : StoredGoal) (h e : 
     (eh : Ends P (r .part + 4) h) (ee : Ends W (r .target + 4) e)
     (y : StoredAt W (s .deferred) r) (n : StoredBounds P W s r)
     (first : Y ≡ sets W (s .top) (storedBytes (storedMatch h e (s .easy))))
-    (second : X ≡ sets Y (s .top + 8) (storedBytes (storedMatch (r .part + 4) (r .target + 4) (s .top))))
+    (second : X ≡ sets Y (s .top + goalBytes) (storedBytes (storedMatch (r .part + 4) (r .target + 4) (s .top))))
   where
     length-Y : length Y ≡ tableBytes
     length-Y = length-stored (storedBytes (storedMatch h e (s .easy))) W Y (s .top) first ∙ bounds .whole
 
     length-X : length X ≡ tableBytes
-    length-X = length-stored (storedBytes (storedMatch (r .part + 4) (r .target + 4) (s .top))) Y X (s .top + 8) second ∙ length-Y
+    length-X = length-stored (storedBytes (storedMatch (r .part + 4) (r .target + 4) (s .top))) Y X (s .top + goalBytes) second ∙ length-Y
 
     kept-first : Kept W Y (s .top)
     kept-first = kept-sets (storedBytes (storedMatch h e (s .easy))) W Y (s .top) (s .top) first (omega arith)
         (omega (arith, bounds .whole, bounds .top))
 
-    kept-second : Kept Y X (s .top + 8)
-    kept-second = kept-sets (storedBytes (storedMatch (r .part + 4) (r .target + 4) (s .top))) Y X (s .top + 8) (s .top + 8) second
+    kept-second : Kept Y X (s .top + goalBytes)
+    kept-second = kept-sets (storedBytes (storedMatch (r .part + 4) (r .target + 4) (s .top))) Y X (s .top + goalBytes)
+        (s .top + goalBytes) second
         (omega arith) (omega (arith, length-Y, n .room))
 
     kept-all : Kept W X (s .top)
-    kept-all = kept-then W Y X (s .top) (s .top + 8) (omega arith) kept-first kept-second
+    kept-all = kept-then W Y X (s .top) (s .top + goalBytes) (omega arith) kept-first kept-second
 
     abbrev after : Agenda
-    after = record { top = s .top + 2 * 8; easy = s .top + 8; deferred = r .next }
+    after = record { top = s .top + 2 * goalBytes; easy = s .top + goalBytes; deferred = r .next }
 
     parts-state :
         (gs hs : List Goal) (l : Line) (f b t u : Term) → ApplicationSite P W s r f b (app t u) → MatchState P W s a gs l f b (app t u) hs
@@ -169,41 +172,43 @@ module _ (P W : List ℕ) (s : Agenda) (a : List Entry) (r : StoredGoal) (h e : 
         let one : StoredAt Y (s .top) (storedMatch h e (s .easy)) =
         goal-stored W Y (s .top) (storedMatch h e (s .easy)) first (omega (arith, bounds .whole, n .room))
         (omega (arith, v .part-even)) (omega (arith, v .target-even)) (bounds .easy-even) (omega arith) in
-        let two : StoredAt X (s .top + 8) (storedMatch (r .part + 4) (r .target + 4) (s .top)) =
-        goal-stored Y X (s .top + 8) (storedMatch (r .part + 4) (r .target + 4) (s .top)) second (omega (arith, length-Y, n .room))
+        let two : StoredAt X (s .top + goalBytes) (storedMatch (r .part + 4) (r .target + 4) (s .top)) =
+        goal-stored Y X (s .top + goalBytes) (storedMatch (r .part + 4) (r .target + 4) (s .top)) second (omega (arith, length-Y, n .room))
         (omega (arith, v .part-even)) (omega (arith, v .target-even)) (bounds .even) (omega arith) in
-        let inner : Chain Easy P Y (s .top + 8) (s .top) (match b u ∷ gs) =
-        chain-match Easy P Y (s .top + 8) (s .top) (storedMatch h e (s .easy)) one (omega (arith, bounds .start)) (omega arith)
+        let inner : Chain Easy P Y (s .top + goalBytes) (s .top) (match b u ∷ gs) =
+        chain-match Easy P Y (s .top + goalBytes) (s .top) (storedMatch h e (s .easy)) one (omega (arith, bounds .start)) (omega arith)
         (bounds .even)
         (omega (arith, bounds .easy-room))
         b u gs refl tt (argument-from P (r .part) h f b eh (v .part))
-        (target-kept W Y (s .top) kept-first (s .top + 8) (omega arith) (size b) e u argument) (o .1)
-        (chain-kept W Y (s .top) kept-first (s .top + 8) (omega arith) P Easy (s .easy) gs (z .easy)) in
+        (target-kept W Y (s .top) kept-first (s .top + goalBytes) (omega arith) (size b) e u argument) (o .1)
+        (chain-kept W Y (s .top) kept-first (s .top + goalBytes) (omega arith) P Easy (s .easy) gs (z .easy)) in
         record {
-          easy = chain-match Easy P X (s .top + 2 * 8) (s .top + 8) (storedMatch (r .part + 4) (r .target + 4) (s .top)) two (omega arith)
+          easy = chain-match Easy P X (s .top + 2 * goalBytes) (s .top + goalBytes)
+              (storedMatch (r .part + 4) (r .target + 4) (s .top)) two (omega arith)
               (omega arith) (omega (arith, bounds .even)) (omega arith)
               f t (match b u ∷ gs) refl tt (c .0)
-              (target-kept W X (s .top) kept-all (s .top + 2 * 8) (omega arith) (size f) (r .target + 4) t head) (o .0)
-              (chain-kept Y X (s .top + 8) kept-second (s .top + 2 * 8) (omega arith) P Easy (s .top) (match b u ∷ gs) inner);
-          deferred = chain-kept W X (s .top) kept-all (s .top + 2 * 8) (omega arith) P Deferred (r .next) hs
+              (target-kept W X (s .top) kept-all (s .top + 2 * goalBytes) (omega arith) (size f) (r .target + 4) t head) (o .0)
+              (chain-kept Y X (s .top + goalBytes) kept-second (s .top + 2 * goalBytes) (omega arith) P Easy (s .top)
+              (match b u ∷ gs) inner);
+          deferred = chain-kept W X (s .top) kept-all (s .top + 2 * goalBytes) (omega arith) P Deferred (r .next) hs
               (subst (λ (i : ℕ). Chain Deferred P W (s .top) i hs) (sym (y .next)) (z .deferred .1));
-          entries = holds-kept W X (s .top) kept-all (s .top + 2 * 8) (omega arith) a l (z .entries);
+          entries = holds-kept W X (s .top) kept-all (s .top + 2 * goalBytes) (omega arith) a l (z .entries);
           line = z .line;
           assigns = z .assigns;
           room = omega (arith, z .room);
         }
 
-    parts : ApplicationDeferred P W s a → getD W (r .target) 0 ≡ 0 → Move relinking P W s a (Way 0) X after a
-    parts x k = record {
-      go = λ gs hs l z. opened P W s a x gs l (λ us. Moved P X after a (Way 0 gs us l)) (λ f b t us o.
-          let w = site P W s a r gs us l f b t y o in
+    way-parts : ApplicationDeferred P W s a → getD W (r .target) 0 ≡ 0 → Move relinking P W s a (Way 0) X after a
+    way-parts x k = record {
+      go = λ gs hs l z. application-opened P W s a x gs l (λ us. Moved P X after a (Way 0 gs us l)) (λ f b t us o.
+          let w = application-site P W s a r gs us l f b t y o in
           let v = application W (r .target) t (w .target .part) k in
           subst (λ (g : Term). MatchState P W s a gs l f b g us → Moved P X after a (Way 0 gs (match (app f b) g ∷ us) l)) (sym (v .is))
           (λ q. record {
             gs = match f (v .f) ∷ match b (v .a) ∷ gs;
             hs = us;
             line = l;
-            state = parts-state gs us l f b (v .f) (v .a) (site P W s a r gs us l f b (app (v .f) (v .a)) y q) q;
+            state = parts-state gs us l f b (v .f) (v .a) (application-site P W s a r gs us l f b (app (v .f) (v .a)) y q) q;
             same = λ φ _. (
               λ p. let m = alternative-parts φ f b gs (v .f) (v .a) .0 (p .1 .0, p .0) in (m, p .1 .1, p .2),
               λ p. let m = alternative-parts φ f b gs (v .f) (v .a) .1 (p .0) in (m .1, (m .0, p .1), p .2),
@@ -226,25 +231,25 @@ module _ (P W : List ℕ) (s : Agenda) (a : List Entry) (r : StoredGoal) (h e : 
     }
 
 -- the same, with the goals as they were made
-pub parts-pushed :
+pub way-parts-pushed :
     (P W : List ℕ) (s : Agenda) (a : List Entry) (r : StoredGoal) (h e : ℕ) (Y X : List ℕ) (i j : StoredGoal)
     (x : ApplicationDeferred P W s a)
     → StoredAt W (s .deferred) r
     → Ends P (r .part + 4) h → Ends W (r .target + 4) e → i ≡ storedMatch h e (s .easy)
     → j ≡ storedMatch (r .part + 4) (r .target + 4) (s .top)
-    → Y ≡ sets W (s .top) (storedBytes i) → X ≡ sets Y (s .top + 8) (storedBytes j) → getD W (r .target) 0 ≡ 0
-    → Move relinking P W s a (Way 0) X (record { top = s .top + 2 * 8; easy = s .top + 8; deferred = r .next }) a
-parts-pushed P W s a r h e Y X i j x y eh ee p q first second =
-    parts P W s a r h e Y X (x .ready .bounds) eh ee y (stored-bounds P W s a x r y)
+    → Y ≡ sets W (s .top) (storedBytes i) → X ≡ sets Y (s .top + goalBytes) (storedBytes j) → getD W (r .target) 0 ≡ 0
+    → Move relinking P W s a (Way 0) X (record { top = s .top + 2 * goalBytes; easy = s .top + goalBytes; deferred = r .next }) a
+way-parts-pushed P W s a r h e Y X i j x y eh ee p q first second =
+    way-parts P W s a r h e Y X (x .ready .bounds) eh ee y (stored-bounds P W s a x r y)
     (stored-as W Y (s .top) i (storedMatch h e (s .easy)) p first)
-    (stored-as Y X (s .top + 8) j (storedMatch (r .part + 4) (r .target + 4) (s .top)) q second) x
+    (stored-as Y X (s .top + goalBytes) j (storedMatch (r .part + 4) (r .target + 4) (s .top)) q second) x
 
 -- a head that lacks a local of the target is no abstraction over it
 pub constant-lacking : (P W : List ℕ) (s : Agenda) (a : List Entry) (w : Ways) → ApplicationDeferred P W s a → WaysCounted P W s a w
     → w .lacking ≡ true
     → Branched P W s a (Way 1) W Branch.Failed
-constant-lacking P W s a w x c e = died P W s a (Way 1) W (record {
-  none = λ gs hs l z φ v. opened P W s a x gs l (λ us. HeadLacks us → ¬ Way 1 gs us l φ) (λ f b t us o k p.
+constant-lacking P W s a w x c e = branch-failed P W s a (Way 1) W (record {
+  none = λ gs hs l z φ v. application-opened P W s a x gs l (λ us. HeadLacks us → ¬ Way 1 gs us l φ) (λ f b t us o k p.
       no-local φ v f (constant t) (k .0) (k .1) (constant-local (k .0) t ∙ k .2) (p .1 .0)) hs z (c .lacking-head e gs hs l z);
   kept = refl;
 })
@@ -253,11 +258,11 @@ constant-lacking P W s a w x c e = died P W s a (Way 1) W (record {
 module _ (P W : List ℕ) (s : Agenda) (a : List Entry) (x : ApplicationDeferred P W s a) (r : StoredGoal)
     (y : StoredAt W (s .deferred) r) where
   pub raises : (room : ℕ) → room ≡ targetBytes → Source (shift 1) (slice W (r .target)) 0 0 room 0
-  raises room h = from P W s a x (Source (shift 1) (slice W (r .target)) 0 0 room 0) (λ gs hs l f b t z.
-      let u = site P W s a r gs hs l f b t y z .target in
+  raises room h = from-application P W s a x (Source (shift 1) (slice W (r .target)) 0 0 room 0) (λ gs hs l f b t z.
+      let u = application-site P W s a r gs hs l f b t y z .target in
       source (shift 1) (slice W (r .target)) 0 0 room 0 t (part-slice W (r .target) t (u .part))
-      (closed-fits (33 - size (app f b)) (shift 1 0 t)
-      (closed-shift 1 0 (32 - size (app f b)) (33 - size (app f b)) t (omega (arith, u .few)) (u .closed))
+      (closed-fits (patternRecords + 1 - size (app f b)) (shift 1 0 t)
+      (closed-shift 1 0 (patternRecords - size (app f b)) (patternRecords + 1 - size (app f b)) t (omega (arith, u .few)) (u .closed))
       (omega (arith, u .short, size-shift 1 0 t)))
       (omega (arith, u .short)) (omega (arith, u .short, size-shift 1 0 t)))
 
@@ -277,7 +282,8 @@ module _ (P W : List ℕ) (s : Agenda) (a : List Entry) (x : ApplicationDeferred
           (omega arith, omega (arith, size-shift 1 0 t, v .target .short))
 
       pub raised-within : n ≤ targetBytes
-      raised-within = from P W s a x (n ≤ targetBytes) (λ gs hs l f b t z. raised-end f b t (site P W s a r gs hs l f b t y z) .1)
+      raised-within = from-application P W s a x (n ≤ targetBytes)
+          (λ gs hs l f b t z. raised-end f b t (application-site P W s a r gs hs l f b t y z) .1)
 
       pub raised : Raised (take (n - 0) (drop 0 after))
       raised = record {
@@ -299,26 +305,27 @@ module _ (P W : List ℕ) (s : Agenda) (a : List Entry) (x : ApplicationDeferred
     })
 
     -- the goal that it leaves
-    module _ (X : List ℕ) (q : X ≡ sets (sets W (s .top) (bytes 1 0 c)) (s .top + 4 + length c)
-        (storedBytes (storedTarget (storedMatch (r .part + 4) (r .target) (r .next)) (s .top) (s .easy)))) where
+    module _ (X : List ℕ) (q : X ≡ sets (sets W (s .top) (recordBytes 1 0 c)) (s .top + 4 + length c)
+        (storedBytes (storedMatch (r .part + 4) (s .top) (s .easy)))) where
       abbrev at : ℕ
       at = s .top + 4 + length c
 
       abbrev X₁ : List ℕ
-      X₁ = sets W (s .top) (bytes 1 0 c)
+      X₁ = sets W (s .top) (recordBytes 1 0 c)
 
       abbrev next-stored : StoredGoal
-      next-stored = storedTarget (storedMatch (r .part + 4) (r .target) (r .next)) (s .top) (s .easy)
+      next-stored = storedMatch (r .part + 4) (s .top) (s .easy)
 
       abbrev last : Agenda
-      last = record { top = at + 8; easy = at; deferred = r .next }
+      last = record { top = at + goalBytes; easy = at; deferred = r .next }
 
       whole-X₁ : length X₁ ≡ tableBytes
-      whole-X₁ = length-stored (bytes 1 0 c) W X₁ (s .top) refl ∙ x .ready .bounds .whole
+      whole-X₁ = length-stored (recordBytes 1 0 c) W X₁ (s .top) refl ∙ x .ready .bounds .whole
 
       kept-target : Kept W X₁ (s .top)
       kept-target =
-          kept-sets (bytes 1 0 c) W X₁ (s .top) (s .top) refl (omega arith) (omega (arith, x .ready .bounds .whole, x .ready .bounds .top))
+          kept-sets (recordBytes 1 0 c) W X₁ (s .top) (s .top) refl (omega arith)
+          (omega (arith, x .ready .bounds .whole, x .ready .bounds .top))
 
       kept-goal : Kept X₁ X at
       kept-goal =
@@ -340,9 +347,9 @@ module _ (P W : List ℕ) (s : Agenda) (a : List Entry) (x : ApplicationDeferred
           let u = application-parts P (r .part) f b (v .part) in
           let written : Part X (s .top) (constant t) =
           part-kept X₁ X at kept-goal (s .top) (constant t) (omega arith)
-          (subst (λ (d : List ℕ). Part (sets W (s .top) d) (s .top) (constant t)) (ap (bytes 1 0) (sym (w .is f b t v)))
+          (subst (λ (d : List ℕ). Part (sets W (s .top) d) (s .top) (constant t)) (ap (recordBytes 1 0) (sym (w .is f b t v)))
           (part-stored (constant t) W (s .top) (omega (arith, bounds .whole, n .room, g .short)))) in
-          let target : Target X (at + 8) (size f) (s .top) (constant t) = record {
+          let target : Target X (at + goalBytes) (size f) (s .top) (constant t) = record {
             part = written;
             below = omega arith;
             normal = constant-normal t (g .normal);
@@ -356,13 +363,13 @@ module _ (P W : List ℕ) (s : Agenda) (a : List Entry) (x : ApplicationDeferred
           goal-stored X₁ X at next-stored q (omega (arith, whole-X₁, n .room, w .short)) (omega (arith, v .part-even)) (bounds .even)
           (bounds .easy-even) refl in
           record {
-            easy = chain-match Easy P X (at + 8) at next-stored stored-goal (omega (arith, bounds .start)) (omega arith)
+            easy = chain-match Easy P X (at + goalBytes) at next-stored stored-goal (omega (arith, bounds .start)) (omega arith)
                 (omega (arith, bounds .even)) (omega (arith, bounds .easy-room))
                 f (constant t) gs refl tt (u .0) target (listable-constant variables (OccursIn P) f b t (v .suits))
-                (chain-kept W X (s .top) kept-both (at + 8) (omega arith) P Easy (s .easy) gs (z .easy));
-            deferred = chain-kept W X (s .top) kept-both (at + 8) (omega arith) P Deferred (r .next) hs
+                (chain-kept W X (s .top) kept-both (at + goalBytes) (omega arith) P Easy (s .easy) gs (z .easy));
+            deferred = chain-kept W X (s .top) kept-both (at + goalBytes) (omega arith) P Deferred (r .next) hs
                 (subst (λ (i : ℕ). Chain Deferred P W (s .top) i hs) (sym (y .next)) (z .deferred .1));
-            entries = holds-kept W X (s .top) kept-both (at + 8) (omega arith) a l (z .entries);
+            entries = holds-kept W X (s .top) kept-both (at + goalBytes) (omega arith) a l (z .entries);
             line = z .line;
             assigns = z .assigns;
             room = omega (arith, z .room, w .short);
@@ -370,18 +377,18 @@ module _ (P W : List ℕ) (s : Agenda) (a : List Entry) (x : ApplicationDeferred
 
       constant-move : Move relinking P W s a (Way 1) X last a
       constant-move = record {
-        go = λ gs hs l z. opened P W s a x gs l (λ us. Moved P X last a (Way 1 gs us l)) (λ f b t us o. record {
+        go = λ gs hs l z. application-opened P W s a x gs l (λ us. Moved P X last a (Way 1 gs us l)) (λ f b t us o. record {
           gs = match f (constant t) ∷ gs;
           hs = us;
           line = l;
-          state = constant-state gs us l f b t (site P W s a r gs us l f b t y o) o;
+          state = constant-state gs us l f b t (application-site P W s a r gs us l f b t y o) o;
           same = λ φ _. (λ p. ((p .1 .0, p .0), p .1 .1, p .2), λ p. (p .0 .1, (p .0 .0, p .1), p .2));
         }) hs z;
         kept = kept-both .same;
         higher = omega arith;
         falls = omega (arith, x .ready .bounds .top, stored-bounds P W s a x r y .room, w .short);
-        bounds = from P W s a x (Bounds P X last) (λ gs hs l f b t z.
-            let v = site P W s a r gs hs l f b t y z in
+        bounds = from-application P W s a x (Bounds P X last) (λ gs hs l f b t z.
+            let v = application-site P W s a r gs hs l f b t y z in
             let n = stored-bounds P W s a x r y in
             let bounds = x .ready .bounds in
             let k : length c ≡ 4 * size (shift 1 0 t) = ap length (w .is f b t v) ∙ encode-length (shift 1 0 t) in
@@ -400,13 +407,13 @@ module _ (P W : List ℕ) (s : Agenda) (a : List Entry) (x : ApplicationDeferred
 
     pub constant-pushed : (X : List ℕ) (s′ : Agenda) → StoredPushed W s i c X s′ → Branched P W s a (Way 1) X (Branch.Next s′)
     constant-pushed X s′ g =
-        let q : X ≡ sets (sets W (s .top) (bytes 1 0 c)) (s .top + 4 + length c)
-        (storedBytes (storedTarget (storedMatch (r .part + 4) (r .target) (r .next)) (s .top) (s .easy))) =
+        let q : X ≡ sets (sets W (s .top) (recordBytes 1 0 c)) (s .top + 4 + length c)
+        (storedBytes (storedMatch (r .part + 4) (s .top) (s .easy))) =
         g .stored ∙ ap
-        (λ (k : StoredGoal). sets (sets W (s .top) (bytes 1 0 c)) (s .top + 4 + length c)
-        (storedBytes (storedTarget k (s .top) (s .easy)))) ei in
+        (λ (k : StoredGoal). sets (sets W (s .top) (recordBytes 1 0 c)) (s .top + 4 + length c)
+        (storedBytes (storedMatch (k .part) (s .top) (s .easy)))) ei in
         let e : s′ ≡ afterStored s (storedMatch (r .part + 4) (r .target) (r .next)) (s .top + 4 + length c) =
         g .agenda ∙ ap (λ (k : StoredGoal). afterStored s k (s .top + 4 + length c)) ei in
         subst (λ (o : Agenda). Branched P W s a (Way 1) X (Branch.Next o)) (sym e)
-        (live P W s a (Way 1) X (afterStored s (storedMatch (r .part + 4) (r .target) (r .next)) (s .top + 4 + length c))
+        (branch-next P W s a (Way 1) X (afterStored s (storedMatch (r .part + 4) (r .target) (r .next)) (s .top + 4 + length c))
         (constant-move X q))

@@ -1,6 +1,6 @@
 // The ways of an application that was deferred: one that isn't rigid.
 //
-// Such an application comes to its target by the target's own parts, by a head that throws the argument away, or by an argument that is
+// Such an application comes to its target by the target's own parts, by a head that ignores the argument, or by an argument that is
 // found at one of the target's parts. The crate counts the ways, and tries one: it promises that the agenda it leaves has exactly the
 // assignments of that way, or that there are none. It rests on `agenda` for goals, on `deciding` for skeletons, on `builds` for the
 // abstraction that is written, on `arguments` for an argument that is found, and on `matching` for why there are no other ways.
@@ -26,8 +26,8 @@ ghost use Rattle.arguments.specs.Applications.{ApplicationDeferred, WaysCounted
 ghost use Rattle.arguments.specs.Ways.{Way};
 ghost use Rattle.agenda.specs.Moves.{Branched};
 
-// The ways in which the first deferred goal, an application, can come to its target: by the target's own parts, by a head that throws its
-// argument away, and by each part of the target as the argument's.
+// The ways in which the first deferred goal, an application, can come to its target: by the target's own parts, by a head that ignores
+// its argument, and by each part of the target as the argument's.
 pub fn ways(pattern: &[u8], work: &[u8], agenda: Agenda, entries: [Entry; VARIABLES]) -> Ways
     requires { ⌜ ApplicationDeferred (now pattern) (now work) agenda entries ⌝ }
     ensures { λ r. ⌜ WaysCounted (now (pattern .entry)) (now (work .entry)) agenda entries r ⌝ }
@@ -39,7 +39,7 @@ pub fn ways(pattern: &[u8], work: &[u8], agenda: Agenda, entries: [Entry; VARIAB
     let argument = records::end_at(pattern, head);
     let part = &pattern[argument..];
     let rigid = shifting::is_rigid(part);
-    let walk = records::ask_part(part, Ask::Below, PATTERN_RECORDS);
+    let walk = records::ask_part(part, Ask::Bound, PATTERN_RECORDS);
     let skeleton = deciding::skeleton_of(part, walk, work, entries);
     let lacking = agenda::locals::lacks_local(&pattern[head..], &work[target..]);
     let mut depths = [0u8; VALUE_RECORDS];
@@ -83,7 +83,7 @@ fn split(pattern: &[u8], work: &mut [u8], agenda: Agenda, entries: [Entry; VARIA
     })
 }
 
-// A head that throws its argument away: it is the abstraction over the target, moved in below the binder. A head that lacks a local of the
+// A head that ignores its argument: it is the abstraction over the target, moved in below the binder. A head that lacks a local of the
 // target lacks it in that abstraction too.
 fn constant_head(
     pattern: &[u8],
@@ -107,24 +107,24 @@ fn constant_head(
     Branch::Next(builds::push_abstraction(work, agenda, head, &b[0..n]))
 }
 
-// The i-th way in which the first deferred goal, an application, comes to its target.
+// The way with this number in which the first deferred goal, an application, comes to its target.
 pub fn way(
     pattern: &[u8],
     work: &mut [u8],
     agenda: Agenda,
     entries: [Entry; VARIABLES],
-    i: usize,
+    number: usize,
     ways: Ways,
 ) -> Branch
     requires { ⌜ ApplicationDeferred (now pattern) (now work) agenda entries × WaysCounted (now pattern) (now work) agenda entries ways
-        × (i < ways .count) ⌝ }
-    ensures { λ r. ⌜ Branched (now (pattern .entry)) (now (work .entry)) agenda entries (Way i) (now (work .exit)) r ⌝ }
+        × (number < ways .count) ⌝ }
+    ensures { λ r. ⌜ Branched (now (pattern .entry)) (now (work .entry)) agenda entries (Way number) (now (work .exit)) r ⌝ }
 {
-    if i == 0 {
+    if number == 0 {
         return split(pattern, work, agenda, entries);
     }
-    if i == 1 {
+    if number == 1 {
         return constant_head(pattern, work, agenda, entries, ways);
     }
-    arguments::find_argument(pattern, work, agenda, entries, i - 2, ways)
+    arguments::find_argument(pattern, work, agenda, entries, number - 2, ways)
 }

@@ -17,28 +17,18 @@ use Rattle.matching.specs.Lists.{Values}
 use Rattle.matching.specs.Goals.{Goal, Goal.match, Goal.build, Listable}
 use Rattle.records.specs.Parts.{slice, Part, Whole, Ends}
 use Rattle.records.proofs.Slices.{whole-slice}
-use Rattle.records.proofs.Parts.{application, kind-at, whole}
+use Rattle.records.proofs.Parts.{application-parts, whole}
 use Rattle.assignments.specs.declared.Entry.{Entry}
 use Rattle.agenda.specs.declared.Agenda.{Agenda}
 use Rattle.agenda.specs.declared.Branch.{Branch}
 use Rattle.agenda.specs.declared.StoredGoal.{StoredGoal}
 use Rattle.agenda.specs.declared.Ways.{Ways}
-use Rattle.agenda.specs.Stored.{storedBytes, StoredAt, StoredFits}
+use Rattle.agenda.specs.Stored.{partLimit, storedBytes, StoredAt, StoredFits}
 use Rattle.agenda.specs.State.{Target, State, relinking}
 use Rattle.agenda.specs.Moves.{Question, Move, Failed, Branched}
 use Rattle.arguments.specs.Ways.{Way}
 use Rattle.arguments.specs.Applications.{ApplicationDeferred, WaysCounted}
 use Rattle.agenda.specs.Stored.{storedMatch, storedBuild}
-
--- the head and the argument of an application that stands in a table
-pub application-parts : (l : List ℕ) (at : ℕ) (f b : Term) → Part l at (app f b) → Part l (at + 4) f × Part l (at + 4 + 4 * size f) b
-application-parts l at f b x =
-    let v = application l at (app f b) x (kind-at l at (app f b) x) in
-    let p : v .f ≡ f = cc in
-    let q : v .a ≡ b = cc in (
-      subst (Part l (at + 4)) p (v .head),
-      subst (λ (g : Term). Part l (at + 4 + 4 * size g) b) p (subst (Part l (at + 4 + 4 * size (v .f))) q (v .argument)),
-    )
 
 pub argument-from : (l : List ℕ) (at h : ℕ) (f b : Term) → Ends l (at + 4) h → Part l at (app f b) → Part l h b
 argument-from l at h f b e x =
@@ -66,9 +56,10 @@ module _ (P W : List ℕ) (s : Agenda) (a : List Entry) where
   abbrev pub MatchState : List Goal → Line → Term → Term → Term → List Goal → Type 0
   MatchState gs l f b t hs = State relinking P W s a gs (match (app f b) t ∷ hs) l
 
-  pub site : (r : StoredGoal) (gs hs : List Goal) (l : Line) (f b t : Term) → StoredAt W (s .deferred) r → MatchState gs l f b t hs
+  pub application-site : (r : StoredGoal) (gs hs : List Goal) (l : Line) (f b t : Term) → StoredAt W (s .deferred) r
+      → MatchState gs l f b t hs
       → ApplicationSite P W s r f b t
-  site r gs hs l f b t y x =
+  application-site r gs hs l f b t y x =
       let n = x .deferred .0 in
       record {
         part = subst (λ (i : ℕ). Part P i (app f b)) (sym (y .part)) (n .goal .part);
@@ -82,27 +73,28 @@ module _ (P W : List ℕ) (s : Agenda) (a : List Entry) where
 
   module _ (x : ApplicationDeferred P W s a) where
     -- the first deferred goal is an application, in each state that stands there
-    pub opened :
+    pub application-opened :
         (gs : List Goal) (l : Line) (Q : List Goal → Type 0)
         → ((f b t : Term) (hs : List Goal) → MatchState gs l f b t hs → Q (match (app f b) t ∷ hs))
         → (hs : List Goal) → State relinking P W s a gs hs l → Q hs
-    opened gs l Q h [] y = absurd (omega (arith, x .some-deferred, y .deferred))
-    opened gs l Q h (match (app f b) t ∷ hs) y = h f b t hs y
-    opened gs l Q h (match (lam b) t ∷ hs) y = absurd (y .deferred .0 .kind)
-    opened gs l Q h (match (loc n) t ∷ hs) y = absurd (y .deferred .0 .kind)
-    opened gs l Q h (match (con n) t ∷ hs) y = absurd (y .deferred .0 .kind)
-    opened gs l Q h (match (var n) t ∷ hs) y = absurd (y .deferred .0 .kind)
-    opened gs l Q h (build f t e ∷ hs) y = absurd (omega (arith, x .kind, y .deferred .0 .goal .kind))
+    application-opened gs l Q h [] y = absurd (omega (arith, x .some-deferred, y .deferred))
+    application-opened gs l Q h (match (app f b) t ∷ hs) y = h f b t hs y
+    application-opened gs l Q h (match (lam b) t ∷ hs) y = absurd (y .deferred .0 .kind)
+    application-opened gs l Q h (match (loc n) t ∷ hs) y = absurd (y .deferred .0 .kind)
+    application-opened gs l Q h (match (con n) t ∷ hs) y = absurd (y .deferred .0 .kind)
+    application-opened gs l Q h (match (var n) t ∷ hs) y = absurd (y .deferred .0 .kind)
+    application-opened gs l Q h (build f t e ∷ hs) y = absurd (omega (arith, x .kind, y .deferred .0 .goal .kind))
 
     -- the state that a way starts from
-    pub from : (A : Type 0) → ((gs hs : List Goal) (l : Line) (f b t : Term) → MatchState gs l f b t hs → A) → A
-    from A h = opened (x .ready .gs) (x .ready .line) (λ _. A) (λ f b t hs y. h (x .ready .gs) hs (x .ready .line) f b t y)
+    pub from-application : (A : Type 0) → ((gs hs : List Goal) (l : Line) (f b t : Term) → MatchState gs l f b t hs → A) → A
+    from-application A h =
+        application-opened (x .ready .gs) (x .ready .line) (λ _. A) (λ f b t hs y. h (x .ready .gs) hs (x .ready .line) f b t y)
         (x .ready .hs) (x .ready .state)
 
     module _ (r : StoredGoal) (y : StoredAt W (s .deferred) r) where
       pub stored-bounds : StoredBounds P W s r
-      stored-bounds = from (StoredBounds P W s r) (λ gs hs l f b t z.
-          let v = site r gs hs l f b t y z in
+      stored-bounds = from-application (StoredBounds P W s r) (λ gs hs l f b t z.
+          let v = application-site r gs hs l f b t y z in
           let u = application-parts P (r .part) f b (v .part) in
           record {
             head = whole P (r .part + 4) f (u .0);
@@ -114,46 +106,48 @@ module _ (P W : List ℕ) (s : Agenda) (a : List Entry) where
           })
 
       -- what is known before the ways are gone through
-      pub argument-whole : (h : ℕ) → Ends P (r .part + 4) h → Whole P h
-      argument-whole h e =
-          from (Whole P h) (λ gs hs l f b t z. whole P h b (argument-from P (r .part) h f b e (site r gs hs l f b t y z .part)))
+      pub application-argument-whole : (h : ℕ) → Ends P (r .part + 4) h → Whole P h
+      application-argument-whole h e =
+          from-application (Whole P h) (λ gs hs l f b t z. whole P h b
+          (argument-from P (r .part) h f b e (application-site r gs hs l f b t y z .part)))
 
-      pub argument-place : (h : ℕ) → Ends P (r .part + 4) h → h ≤ length P
-      argument-place h e = omega (arith, e .within)
+      pub application-argument-within : (h : ℕ) → Ends P (r .part + 4) h → h ≤ length P
+      application-argument-within h e = omega (arith, e .within)
 
       pub argument-whole-slice : (h : ℕ) → Ends P (r .part + 4) h → Whole (slice P h) 0
-      argument-whole-slice h e = whole-slice P h (argument-whole h e)
+      argument-whole-slice h e = whole-slice P h (application-argument-whole h e)
 
       pub head-place : r .part + 4 ≤ length P
       head-place = omega (arith, stored-bounds .part-low)
 
-      pub target-place : r .target ≤ length W
-      target-place = omega (arith, stored-bounds .target .least)
+      pub application-target-within : r .target ≤ length W
+      application-target-within = omega (arith, stored-bounds .target .least)
 
       pub argument-ends : (w : Ways) → WaysCounted P W s a w → Ends P (r .part + 4) (w .argument)
       argument-ends w c = subst (λ (i : ℕ). Ends P (i + 4) (w .argument)) (sym (y .part)) (c .argument)
 
       -- no way
-      pub dead :
+      pub way-failed :
           (i : ℕ) (X : List ℕ) → take (s .top) X ≡ take (s .top) W
           → ((f b t : Term) (gs hs : List Goal) (l : Line) (φ : ℕ → Term) → ApplicationSite P W s r f b t → Values φ
           → ¬ Way i gs (match (app f b) t ∷ hs) l φ)
           → Failed relinking P W s a (Way i) X
-      dead i X k h = record {
-        none = λ gs hs l z φ v. opened gs l (λ us. ¬ Way i gs us l φ) (λ f b t us o. h f b t gs us l φ (site r gs us l f b t y o) v) hs z;
+      way-failed i X k h = record {
+        none = λ gs hs l z φ v. application-opened gs l (λ us. ¬ Way i gs us l φ)
+            (λ f b t us o. h f b t gs us l φ (application-site r gs us l f b t y o) v) hs z;
         kept = k;
       }
 
 -- what a way answers
-pub live : (P W : List ℕ) (s : Agenda) (a : List Entry) (Q : Question) (X : List ℕ) (s′ : Agenda) → Move relinking P W s a Q X s′ a
+pub branch-next : (P W : List ℕ) (s : Agenda) (a : List Entry) (Q : Question) (X : List ℕ) (s′ : Agenda) → Move relinking P W s a Q X s′ a
     → Branched P W s a Q X (Branch.Next s′)
 unfolding Branched
-live P W s a Q X s′ x = x
+branch-next P W s a Q X s′ x = x
 
-pub died : (P W : List ℕ) (s : Agenda) (a : List Entry) (Q : Question) (X : List ℕ) → Failed relinking P W s a Q X
+pub branch-failed : (P W : List ℕ) (s : Agenda) (a : List Entry) (Q : Question) (X : List ℕ) → Failed relinking P W s a Q X
     → Branched P W s a Q X Branch.Failed
 unfolding Branched
-died P W s a Q X x = x
+branch-failed P W s a Q X x = x
 
 -- a goal that is written
 pub stored-as : (W Y : List ℕ) (at : ℕ) (i j : StoredGoal) → i ≡ j → Y ≡ sets W at (storedBytes i) → Y ≡ sets W at (storedBytes j)
@@ -163,11 +157,10 @@ pub fits-as : (i j : StoredGoal) → i ≡ j → StoredFits j → StoredFits i
 fits-as i j p x = subst StoredFits (sym p) x
 
 pub fits-build :
-    (i : StoredGoal) (part target next argument : ℕ) → i ≡ storedBuild part target next argument → part < 1024 → target < 4 * numbers
-    → next < 4 * numbers
-    → argument < 4 * numbers → StoredFits i
+    (i : StoredGoal) (part target next argument : ℕ) → i ≡ storedBuild part target next argument → part < partLimit → target < 4 * numbers
+    → next < 4 * numbers → argument < 4 * numbers → StoredFits i
 fits-build i part target next argument p x y z w = rw p (record { part = x; target = y; next = z; argument = w })
 
-pub fits-match : (i : StoredGoal) (part target next : ℕ) → i ≡ storedMatch part target next → part < 1024 → target < 4 * numbers → next < 4 * numbers
-    → StoredFits i
+pub fits-match : (i : StoredGoal) (part target next : ℕ) → i ≡ storedMatch part target next → part < partLimit → target < 4 * numbers
+    → next < 4 * numbers → StoredFits i
 fits-match i part target next p x y z = rw p (record { part = x; target = y; next = z; argument = omega arith })

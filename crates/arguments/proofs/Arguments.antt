@@ -20,7 +20,7 @@ use Rattle.matching.specs.Goals.{Goal, Goal.match, Goal.build}
 use Rattle.matching.specs.Occurrences.{partAt, FirstCopy}
 use Rattle.matching.specs.Skeletons.{Fits}
 use Rattle.matching.proofs.Occurrences.{each-part, first-lowered, first-movable, first-not-again, first-from}
-use Rattle.matching.proofs.Prune.{build-local}
+use Rattle.matching.proofs.Cuts.{build-local}
 use Rattle.matching.proofs.Alternatives.{alternative-argument, listable-argument}
 use Rattle.matching.proofs.Targets.{closed-more, part-closed, part-normal, part-ground, part-size}
 use Rattle.records.specs.Parts.{slice, Part, Whole, Ends}
@@ -28,7 +28,7 @@ use Rattle.records.specs.Tests.{Walked}
 use Rattle.records.specs.declared.Walk.{Walk}
 use Rattle.records.specs.declared.Walk.the-variants.{Upto, No}
 use Rattle.records.proofs.Slices.{whole-slice, slice-upto, slice-no}
-use Rattle.records.proofs.Parts.{whole}
+use Rattle.records.proofs.Parts.{application-parts, whole}
 use Rattle.substitution.specs.Writers.{Wrote}
 use Rattle.copying.proofs.Stores as Stores
 use Rattle.assignments.specs.declared.Entry.{Entry}
@@ -43,7 +43,7 @@ use Rattle.agenda.specs.declared.Branch.{Branch}
 use Rattle.agenda.specs.declared.StoredGoal.{StoredGoal}
 use Rattle.agenda.specs.declared.Ways.{Ways}
 use Rattle.agenda.specs.Stored.{storedBytes, StoredAt}
-use Rattle.agenda.specs.State.{targetBytes, Target, State, Easy, Deferred, Chain, relinking}
+use Rattle.agenda.specs.State.{goalBytes, targetBytes, Target, State, Easy, Deferred, Chain, relinking}
 use Rattle.agenda.specs.Moves.{Move, Moved, Failed, Branched}
 use Rattle.arguments.specs.Ways.{Way, Fitting}
 use Rattle.arguments.specs.Applications.{ApplicationDeferred, WaysCounted, argumentOf, ArgumentPlace, Argument, Placed, ArgumentRoom}
@@ -52,14 +52,15 @@ use Rattle.agenda.specs.Locals.{ArgumentComparable, Misses}
 use Rattle.agenda.specs.Heads.{Agree}
 use Rattle.agenda.proofs.Agreement.{unlike-at}
 use Rattle.agenda.proofs.Lacking.{all-marks-at}
-use Rattle.agenda.proofs.Missing.{comparable-at, misses-at}
+use Rattle.agenda.proofs.Missing.{argument-comparable-at, misses-at}
 use Rattle.agenda.specs.Stored.{storedMatch, storedBuild}
 use Rattle.agenda.proofs.Frame.{Kept, part-kept, part-stored, target-kept, chain-kept, holds-kept, kept-sets, kept-then, length-stored}
 use Rattle.agenda.proofs.Frame.{goal-stored, chain-match, chain-build}
 use Rattle.deciding.proofs.Refutations.{skeleton-part}
-use Rattle.arguments.proofs.Applications.{application-parts, argument-from, stored-as, live, died, ApplicationSite, MatchState}
-use Rattle.arguments.proofs.Applications.{site, opened}
-use Rattle.arguments.proofs.Applications.{from, stored-bounds, argument-whole, argument-ends, dead, fits-build, fits-match}
+use Rattle.arguments.proofs.Applications.{argument-from, stored-as, branch-next, branch-failed, ApplicationSite, MatchState}
+use Rattle.arguments.proofs.Applications.{application-site, application-opened}
+use Rattle.arguments.proofs.Applications.{from-application, stored-bounds, application-argument-whole, argument-ends, way-failed}
+use Rattle.arguments.proofs.Applications.{fits-build, fits-match}
 
 -- how large and how deep a part is
 part-most : (t : Term) (j : ℕ) → j < size t → partAt 0 t j .0 + size (partAt 0 t j .1) ≤ size t
@@ -74,8 +75,8 @@ module _ (W : List ℕ) (top at j : ℕ) where
         let e : t ≡ x .tree = encode-inj t (x .tree) (p .rest) (x .part .rest) (sym (p .bytes) ∙ x .part .bytes) .0 in
         subst (λ (u : Term). j < size u) (sym e) (x .within)
 
-    pub part-within : at + 4 * j ≤ length W
-    part-within =
+    pub argument-part-within : at + 4 * j ≤ length W
+    argument-part-within =
         let q = part-at W at 0 (x .tree) j (x .part) (number-within (x .tree) (x .part)) in
         omega (arith, q .within)
 
@@ -153,8 +154,8 @@ module _ (P W : List ℕ) (s : Agenda) (a : List Entry) (x : ApplicationDeferred
     numbered gs hs l f b t z = omega (arith, c .ways gs (match (app f b) t ∷ hs) l z)
 
     pub places : ArgumentPlace W (s .top) (r .target) j
-    places = from P W s a x (ArgumentPlace W (s .top) (r .target) j) (λ gs hs l f b t z.
-        let v = site P W s a r gs hs l f b t y z .target in
+    places = from-application P W s a x (ArgumentPlace W (s .top) (r .target) j) (λ gs hs l f b t z.
+        let v = application-site P W s a r gs hs l f b t y z .target in
         record {
           tree = t;
           part = v .part;
@@ -165,8 +166,8 @@ module _ (P W : List ℕ) (s : Agenda) (a : List Entry) (x : ApplicationDeferred
         })
 
     pub depth : DepthOf W (r .target) j (getD (w .depths) j 0)
-    depth t p k = from P W s a x (getD (w .depths) j 0 ≡ partAt 0 t j .0) (λ gs hs l f b u z.
-        let q = site P W s a r gs hs l f b u y z .target .part in
+    depth t p k = from-application P W s a x (getD (w .depths) j 0 ≡ partAt 0 t j .0) (λ gs hs l f b u z.
+        let q = application-site P W s a r gs hs l f b u y z .target .part in
         let e : u ≡ t = encode-inj u t (q .rest) (p .rest) (sym (q .bytes) ∙ p .bytes) .0 in
         subst (λ (v : Term). getD (w .depths) j 0 ≡ partAt 0 v j .0) e
         (c .depths-are gs (match (app f b) u ∷ hs) l z j (numbered gs hs l f b u z)))
@@ -175,12 +176,12 @@ module _ (P W : List ℕ) (s : Agenda) (a : List Entry) (x : ApplicationDeferred
     few-records = omega (arith, places .within, places .few)
 
     part-whole : Whole W (r .target + 4 * j)
-    part-whole = from P W s a x (Whole W (r .target + 4 * j)) (λ gs hs l f b t z.
+    part-whole = from-application P W s a x (Whole W (r .target + 4 * j)) (λ gs hs l f b t z.
         whole W (r .target + 4 * j) (partAt 0 t j .1)
-        (part-at W (r .target) 0 t j (site P W s a r gs hs l f b t y z .target .part) (numbered gs hs l f b t z)))
+        (part-at W (r .target) 0 t j (application-site P W s a r gs hs l f b t y z .target .part) (numbered gs hs l f b t z)))
 
-    pub part-place : r .target + 4 * j ≤ length W
-    part-place = omega (arith, part-whole .least)
+    pub target-part-within : r .target + 4 * j ≤ length W
+    target-part-within = omega (arith, part-whole .least)
 
     pub part-whole-slice : Whole (slice W (r .target + 4 * j)) 0
     part-whole-slice = whole-slice W (r .target + 4 * j) part-whole
@@ -190,7 +191,7 @@ module _ (P W : List ℕ) (s : Agenda) (a : List Entry) (x : ApplicationDeferred
         → Branched P W s a (Way (suc (suc j))) W Branch.Failed
     unlike e q n k =
         let m = unlike-at P (w .argument) W (r .target + 4 * j) e n q in
-        died P W s a (Way (suc (suc j))) W (dead P W s a x r y (suc (suc j)) W refl (λ f b t gs hs l φ v u o.
+        branch-failed P W s a (Way (suc (suc j))) W (way-failed P W s a x r y (suc (suc j)) W refl (λ f b t gs hs l φ v u o.
         let i = argument-from P (r .part) (w .argument) f b (argument-ends P W s a x r y w c) (v .part) in
         let d = o .1 .0 .1 in
         m b (partAt 0 t j .1) i (part-at W (r .target) 0 t j (v .target .part) (d .within)) (sym (c .rigid-argument b i) ∙ k) φ
@@ -200,7 +201,7 @@ module _ (P W : List ℕ) (s : Agenda) (a : List Entry) (x : ApplicationDeferred
       → Branched P W s a (Way (suc (suc j))) X Branch.Failed
   no-argument X w p c =
       let n = placed-no W (s .top) (r .target) j X w p c in
-      died P W s a (Way (suc (suc j))) X (dead P W s a x r y (suc (suc j)) X (n .0) (λ f b t gs hs l φ v u o.
+      branch-failed P W s a (Way (suc (suc j))) X (way-failed P W s a x r y (suc (suc j)) X (n .0) (λ f b t gs hs l φ v u o.
       n .1 t (o .1 .0 .0) (v .target .part) (o .1 .0 .1)))
 
   module _ (X : List ℕ) (end : ℕ) (walk : Walk) (placed : Placed W (s .top) (r .target) j X walk) (upto : walk ≡ Upto end) where
@@ -235,8 +236,8 @@ module _ (P W : List ℕ) (s : Agenda) (a : List Entry) (x : ApplicationDeferred
       pub same : take (s .top) X ≡ take (s .top) W
 
     pub ending : Ending
-    ending = from P W s a x Ending (λ gs hs l f b t z.
-        let v = site P W s a r gs hs l f b t y z in
+    ending = from-application P W s a x Ending (λ gs hs l f b t z.
+        let v = application-site P W s a r gs hs l f b t y z in
         let o = standing f b t v in
         let c = application-parts P (r .part) f b (v .part) in
         record {
@@ -248,15 +249,15 @@ module _ (P W : List ℕ) (s : Agenda) (a : List Entry) (x : ApplicationDeferred
         })
 
     target-whole : Whole X (r .target)
-    target-whole = from P W s a x (Whole X (r .target)) (λ gs hs l f b t z.
-        whole X (r .target) t (standing f b t (site P W s a r gs hs l f b t y z) .target))
+    target-whole = from-application P W s a x (Whole X (r .target)) (λ gs hs l f b t z.
+        whole X (r .target) t (standing f b t (application-site P W s a r gs hs l f b t y z) .target))
 
     pub top-whole : Whole X (s .top)
-    top-whole = from P W s a x (Whole X (s .top)) (λ gs hs l f b t z.
-        whole X (s .top) (argumentOf t j) (standing f b t (site P W s a r gs hs l f b t y z) .part))
+    top-whole = from-application P W s a x (Whole X (s .top)) (λ gs hs l f b t z.
+        whole X (s .top) (argumentOf t j) (standing f b t (application-site P W s a r gs hs l f b t y z) .part))
 
-    pub target-within : r .target ≤ length X
-    target-within = omega (arith, target-whole .least)
+    pub pushed-target-within : r .target ≤ length X
+    pushed-target-within = omega (arith, target-whole .least)
 
     pub top-within : s .top ≤ length X
     top-within = omega (arith, top-whole .least)
@@ -265,12 +266,12 @@ module _ (P W : List ℕ) (s : Agenda) (a : List Entry) (x : ApplicationDeferred
     looks = looks-at X X (r .target) (s .top) 0 target-whole top-whole (omega (arith, ending .whole))
 
     pub comparable : ArgumentComparable (slice P (r .part + 4)) (slice X (r .target)) (slice X (s .top))
-    comparable = from P W s a x (ArgumentComparable (slice P (r .part + 4)) (slice X (r .target)) (slice X (s .top)))
+    comparable = from-application P W s a x (ArgumentComparable (slice P (r .part + 4)) (slice X (r .target)) (slice X (s .top)))
         (λ gs hs l f b t z.
-        let v = site P W s a r gs hs l f b t y z in
+        let v = application-site P W s a r gs hs l f b t y z in
         let o = standing f b t v in
         let n = patternRecords - size (app f b) in
-        comparable-at P (r .part + 4) X (r .target) X (s .top) (stored-bounds P W s a x r y .head) (x .ready .bounds .short)
+        argument-comparable-at P (r .part + 4) X (r .target) X (s .top) (stored-bounds P W s a x r y .head) (x .ready .bounds .short)
         (all-marks-at X (r .target) n t (o .target) (omega arith) (v .target .closed) (omega (arith, v .target .short)))
         (all-marks-at X (s .top) n (argumentOf t j) (o .part) (omega arith)
         (part-closed t j (argumentOf t j) (o .found .within) (o .found .copy) n (v .target .closed))
@@ -280,7 +281,7 @@ module _ (P W : List ℕ) (s : Agenda) (a : List Entry) (x : ApplicationDeferred
     pub again : (b : Bool) → Earlier (slice X (r .target)) j (slice X (s .top)) b → b ≡ true
         → Branched P W s a (Way (suc (suc j))) X Branch.Failed
     again k e c =
-        died P W s a (Way (suc (suc j))) X (dead P W s a x r y (suc (suc j)) X (ending .same) (λ f b t gs hs l φ v u o.
+        branch-failed P W s a (Way (suc (suc j))) X (way-failed P W s a x r y (suc (suc j)) X (ending .same) (λ f b t gs hs l φ v u o.
         let n = standing f b t v in
         let m = earlier-yes-at X X (r .target) (s .top) j k e t (argumentOf t j) (n .target) (n .part) c in
         first-not-again t (m .0) j (o .1 .0 .0) (m .1) (m .3) (o .1 .0 .1)))
@@ -293,9 +294,10 @@ module _ (P W : List ℕ) (s : Agenda) (a : List Entry) (x : ApplicationDeferred
     unfitting w c b e i =
         let k = c .skeleton-table in
         let q = may-be-at (take (w .skeleton .length - 0) (drop 0 (w .skeleton .bytes))) X (s .top) b i e in
-        died P W s a (Way (suc (suc j))) X (record {
-          none = λ gs hs l z φ v. opened P W s a x gs l (λ us. Fitting (k .tree) l us → ¬ Way (suc (suc j)) gs us l φ) (λ f b t us o m p.
-              let n = standing f b t (site P W s a r gs us l f b t y o) in
+        branch-failed P W s a (Way (suc (suc j))) X (record {
+          none = λ gs hs l z φ v. application-opened P W s a x gs l (λ us. Fitting (k .tree) l us → ¬ Way (suc (suc j)) gs us l φ)
+              (λ f b t us o m p.
+              let n = standing f b t (application-site P W s a r gs us l f b t y o) in
               let u : p .1 .0 .0 ≡ argumentOf t j = first-lowered t j (p .1 .0 .0) (p .1 .0 .1) in
               q (k .tree) (argumentOf t j) (skeleton-part (w .skeleton .bytes) (w .skeleton .length) k) (n .part)
               (subst (Fits (k .tree)) (p .1 .0 .2 ∙ u) (m φ v (p .2)))) hs z
@@ -308,7 +310,7 @@ module _ (P W : List ℕ) (s : Agenda) (a : List Entry) (x : ApplicationDeferred
         → Branched P W s a (Way (suc (suc j))) X Branch.Failed
     lacking c e i =
         let q = misses-at P (r .part + 4) X (r .target) X (s .top) c i e in
-        died P W s a (Way (suc (suc j))) X (dead P W s a x r y (suc (suc j)) X (ending .same) (λ f b t gs hs l φ v u o.
+        branch-failed P W s a (Way (suc (suc j))) X (way-failed P W s a x r y (suc (suc j)) X (ending .same) (λ f b t gs hs l φ v u o.
         let n = standing f b t v in
         let k = application-parts P (r .part) f b (v .part) in
         let m = q .1 f t (argumentOf t j) (k .0) (n .target) (n .part) in
@@ -318,7 +320,7 @@ module _ (P W : List ℕ) (s : Agenda) (a : List Entry) (x : ApplicationDeferred
     module _ (h : ℕ) (eh : Ends P (r .part + 4) h) (earlier : Earlier (slice X (r .target)) j (slice X (s .top)) false)
         (Y Z : List ℕ)
         (first : Y ≡ sets X end (storedBytes (storedBuild (r .part + 4) (r .target) (r .next) (s .top))))
-        (second : Z ≡ sets Y (end + 8) (storedBytes (storedMatch h (s .top) (s .easy))))
+        (second : Z ≡ sets Y (end + goalBytes) (storedBytes (storedMatch h (s .top) (s .easy))))
       where
         first-found : (f b t : Term) → ApplicationSite P W s r f b t → FirstCopy t j (argumentOf t j)
         first-found f b t v =
@@ -332,21 +334,21 @@ module _ (P W : List ℕ) (s : Agenda) (a : List Entry) (x : ApplicationDeferred
         length-Y = length-stored (storedBytes (storedBuild (r .part + 4) (r .target) (r .next) (s .top))) X Y end first ∙ ending .whole
 
         length-Z : length Z ≡ tableBytes
-        length-Z = length-stored (storedBytes (storedMatch h (s .top) (s .easy))) Y Z (end + 8) second ∙ length-Y
+        length-Z = length-stored (storedBytes (storedMatch h (s .top) (s .easy))) Y Z (end + goalBytes) second ∙ length-Y
 
         kept-X : Kept X Y end
         kept-X = kept-sets (storedBytes (storedBuild (r .part + 4) (r .target) (r .next) (s .top))) X Y end end first (omega arith)
             (omega (arith, ending .whole, ending .most, stored-bounds P W s a x r y .room))
 
-        kept-Y : Kept Y Z (end + 8)
-        kept-Y = kept-sets (storedBytes (storedMatch h (s .top) (s .easy))) Y Z (end + 8) (end + 8) second (omega arith)
+        kept-Y : Kept Y Z (end + goalBytes)
+        kept-Y = kept-sets (storedBytes (storedMatch h (s .top) (s .easy))) Y Z (end + goalBytes) (end + goalBytes) second (omega arith)
             (omega (arith, length-Y, ending .most, stored-bounds P W s a x r y .room))
 
         kept-XZ : Kept X Z end
-        kept-XZ = kept-then X Y Z end (end + 8) (omega arith) kept-X kept-Y
+        kept-XZ = kept-then X Y Z end (end + goalBytes) (omega arith) kept-X kept-Y
 
         abbrev last : Agenda
-        last = record { top = end + 2 * 8; easy = end + 8; deferred = end }
+        last = record { top = end + 2 * goalBytes; easy = end + goalBytes; deferred = end }
 
         argument-state :
             (gs hs : List Goal) (l : Line) (f b t : Term) → ApplicationSite P W s r f b t → MatchState P W s a gs l f b t hs
@@ -386,27 +388,31 @@ module _ (P W : List ℕ) (s : Agenda) (a : List Entry) (x : ApplicationDeferred
             let one : StoredAt Y end (storedBuild (r .part + 4) (r .target) (r .next) (s .top)) =
             goal-stored X Y end (storedBuild (r .part + 4) (r .target) (r .next) (s .top)) first (omega (arith, ending .whole, n .room))
             (omega (arith, v .part-even)) (v .target-even) (v .next-even) (bounds .even) in
-            let two : StoredAt Z (end + 8) (storedMatch h (s .top) (s .easy)) =
-            goal-stored Y Z (end + 8) (storedMatch h (s .top) (s .easy)) second (omega (arith, length-Y, n .room))
+            let two : StoredAt Z (end + goalBytes) (storedMatch h (s .top) (s .easy)) =
+            goal-stored Y Z (end + goalBytes) (storedMatch h (s .top) (s .easy)) second (omega (arith, length-Y, n .room))
             (omega (arith, v .part-even, eh .exact f (c .0))) (bounds .even) (bounds .easy-even) (omega arith) in
             let rest : Chain Deferred P W (s .top) (r .next) hs =
             subst (λ (i : ℕ). Chain Deferred P W (s .top) i hs) (sym (y .next)) (z .deferred .1) in
-            let built : Chain Deferred P Y (end + 8) end (build f t e ∷ hs) =
-            chain-build Deferred P Y (end + 8) end (storedBuild (r .part + 4) (r .target) (r .next) (s .top)) one (omega arith)
+            let built : Chain Deferred P Y (end + goalBytes) end (build f t e ∷ hs) =
+            chain-build Deferred P Y (end + goalBytes) end (storedBuild (r .part + 4) (r .target) (r .next) (s .top)) one (omega arith)
             (omega arith)
             (ending .even) (omega (arith, n .next, bounds .deferred-room))
-            f t e hs refl tt (c .0) (target-kept W Y (s .top) kept-WY (end + 8) (omega arith) (suc (size f)) (r .target) t old)
-            (target-kept X Y end kept-X (end + 8) (omega arith) (suc (size f)) (s .top) e (new (suc (size f)) (omega (arith, c .1 .some))))
+            f t e hs refl tt (c .0) (target-kept W Y (s .top) kept-WY (end + goalBytes) (omega arith) (suc (size f)) (r .target) t old)
+            (target-kept X Y end kept-X (end + goalBytes) (omega arith) (suc (size f)) (s .top) e
+            (new (suc (size f)) (omega (arith, c .1 .some))))
             (suits .1)
-            (chain-kept W Y (s .top) kept-WY (end + 8) (omega arith) P Deferred (r .next) hs rest) in
+            (chain-kept W Y (s .top) kept-WY (end + goalBytes) (omega arith) P Deferred (r .next) hs rest) in
             record {
-              easy = chain-match Easy P Z (end + 2 * 8) (end + 8) (storedMatch h (s .top) (s .easy)) two (omega arith) (omega arith)
+              easy = chain-match Easy P Z (end + 2 * goalBytes) (end + goalBytes) (storedMatch h (s .top) (s .easy)) two (omega arith)
+                  (omega arith)
                   (omega (arith, ending .even)) (omega (arith, bounds .easy-room))
                   b e gs refl tt (argument-from P (r .part) h f b eh (v .part))
-                  (target-kept X Z end kept-XZ (end + 2 * 8) (omega arith) (size b) (s .top) e (new (size b) (omega arith))) (suits .0)
-                  (chain-kept W Z (s .top) kept-WZ (end + 2 * 8) (omega arith) P Easy (s .easy) gs (z .easy));
-              deferred = chain-kept Y Z (end + 8) kept-Y (end + 2 * 8) (omega arith) P Deferred end (build f t e ∷ hs) built;
-              entries = holds-kept W Z (s .top) kept-WZ (end + 2 * 8) (omega arith) a l (z .entries);
+                  (target-kept X Z end kept-XZ (end + 2 * goalBytes) (omega arith) (size b) (s .top) e (new (size b) (omega arith)))
+                  (suits .0)
+                  (chain-kept W Z (s .top) kept-WZ (end + 2 * goalBytes) (omega arith) P Easy (s .easy) gs (z .easy));
+              deferred = chain-kept Y Z (end + goalBytes) kept-Y (end + 2 * goalBytes) (omega arith) P Deferred end
+                  (build f t e ∷ hs) built;
+              entries = holds-kept W Z (s .top) kept-WZ (end + 2 * goalBytes) (omega arith) a l (z .entries);
               line = z .line;
               assigns = z .assigns;
               room = omega (arith, z .room);
@@ -414,8 +420,8 @@ module _ (P W : List ℕ) (s : Agenda) (a : List Entry) (x : ApplicationDeferred
 
         argument-move : Move relinking P W s a (Way (suc (suc j))) Z last a
         argument-move = record {
-          go = λ gs hs l z. opened P W s a x gs l (λ us. Moved P Z last a (Way (suc (suc j)) gs us l)) (λ f b t us o.
-              let v = site P W s a r gs us l f b t y o in
+          go = λ gs hs l z. application-opened P W s a x gs l (λ us. Moved P Z last a (Way (suc (suc j)) gs us l)) (λ f b t us o.
+              let v = application-site P W s a r gs us l f b t y o in
               record {
                 gs = match b (argumentOf t j) ∷ gs;
                 hs = build f t (argumentOf t j) ∷ us;
@@ -430,9 +436,9 @@ module _ (P W : List ℕ) (s : Agenda) (a : List Entry) (x : ApplicationDeferred
                       (p .0 .1, m, p .2),
                 );
               }) hs z;
-          kept = from P W s a x (take (s .top) Z ≡ take (s .top) W) (λ gs hs l f b t z.
+          kept = from-application P W s a x (take (s .top) Z ≡ take (s .top) W) (λ gs hs l f b t z.
               kept-then W X Z (s .top) end (omega (arith, ending .more))
-              (standing f b t (site P W s a r gs hs l f b t y z) .kept) kept-XZ .same);
+              (standing f b t (application-site P W s a r gs hs l f b t y z) .kept) kept-XZ .same);
           higher = omega (arith, ending .more);
           falls = omega (arith, x .ready .bounds .top, stored-bounds P W s a x r y .room, ending .more, ending .most);
           bounds = let n = stored-bounds P W s a x r y in let bounds = x .ready .bounds in record {
@@ -460,26 +466,26 @@ module _ (P W : List ℕ) (s : Agenda) (a : List Entry) (x : ApplicationDeferred
               (omega (arith, n .target-low, bounds .top)) (omega (arith, n .next, bounds .deferred-room, bounds .top))
               (omega (arith, bounds .top));
           match-fits = fits-match _ h (s .top) (s .easy) refl
-              (omega (arith, argument-whole P W s a x r y h eh .least, bounds .short)) (omega (arith, bounds .top))
+              (omega (arith, application-argument-whole P W s a x r y h eh .least, bounds .short)) (omega (arith, bounds .top))
               (omega (arith, bounds .easy-room, bounds .top));
         }
 
-    pub found : (h : ℕ) (e : Bool) (Z : List ℕ) (s′ : Agenda) → Ends P (r .part + 4) h
+    pub argument-found : (h : ℕ) (e : Bool) (Z : List ℕ) (s′ : Agenda) → Ends P (r .part + 4) h
         → Earlier (slice X (r .target)) j (slice X (s .top)) e → e ≡ false → ArgumentPushed X s r h end Z s′
         → Branched P W s a (Way (suc (suc j))) Z (Branch.Next s′)
-    found h e Z s′ eh b c d =
+    argument-found h e Z s′ eh b c d =
         subst (λ (q : Agenda). Branched P W s a (Way (suc (suc j))) Z (Branch.Next q)) (sym (d .agenda))
-        (live P W s a (Way (suc (suc j))) Z (record { top = end + 2 * 8; easy = end + 8; deferred = end })
+        (branch-next P W s a (Way (suc (suc j))) Z (record { top = end + 2 * goalBytes; easy = end + goalBytes; deferred = end })
         (argument-move h eh (subst (Earlier (slice X (r .target)) j (slice X (s .top))) c b) _ Z refl (d .stored)))
 
 -- the two goals as they were made
-pub pushed : (W : List ℕ) (s : Agenda) (r : StoredGoal) (h end : ℕ) (i k : StoredGoal) (Y Z : List ℕ)
+pub argument-pushed : (W : List ℕ) (s : Agenda) (r : StoredGoal) (h end : ℕ) (i k : StoredGoal) (Y Z : List ℕ)
     → i ≡ storedBuild (r .part + 4) (r .target) (r .next) (s .top) → Y ≡ sets W end (storedBytes i)
-    → k ≡ storedMatch h (s .top) (s .easy) → Z ≡ sets Y (end + 8) (storedBytes k)
-    → ArgumentPushed W s r h end Z (record { top = end + 2 * 8; easy = end + 8; deferred = end })
-pushed W s r h end i k Y Z p first q second = record {
-  stored = stored-as Y Z (end + 8) k (storedMatch h (s .top) (s .easy)) q second
-      ∙ ap (λ (l : List ℕ). sets l (end + 8) (storedBytes (storedMatch h (s .top) (s .easy))))
+    → k ≡ storedMatch h (s .top) (s .easy) → Z ≡ sets Y (end + goalBytes) (storedBytes k)
+    → ArgumentPushed W s r h end Z (record { top = end + 2 * goalBytes; easy = end + goalBytes; deferred = end })
+argument-pushed W s r h end i k Y Z p first q second = record {
+  stored = stored-as Y Z (end + goalBytes) k (storedMatch h (s .top) (s .easy)) q second
+      ∙ ap (λ (l : List ℕ). sets l (end + goalBytes) (storedBytes (storedMatch h (s .top) (s .easy))))
       (stored-as W Y end i (storedBuild (r .part + 4) (r .target) (r .next) (s .top)) p first);
   agenda = refl;
 }

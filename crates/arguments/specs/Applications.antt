@@ -31,14 +31,14 @@ use Rattle.agenda.specs.declared.Agenda.{Agenda}
 use Rattle.agenda.specs.declared.StoredGoal.{StoredGoal}
 use Rattle.agenda.specs.declared.Ways.{Ways}
 use Rattle.agenda.specs.Stored.{storedBytes, storedMatch, storedBuild, StoredFits}
-use Rattle.agenda.specs.State.{targetBytes, State, Ready, patternAt, relinking}
+use Rattle.agenda.specs.State.{goalBytes, matchKind, targetBytes, State, Ready, patternAt, relinking}
 use Rattle.arguments.specs.Ways.{HasWays, HasDepths, HeadLacks, Fitting}
 use Rattle.deciding.specs.Refuting.{Prefix}
 
 pub record ApplicationDeferred (P W : List ℕ) (s : Agenda) (a : List Entry) : Type 0 where
   pub ready : Ready relinking P W s a
   pub some-deferred : 0 < s .deferred
-  pub kind : getD W (s .deferred + 1) 0 ≡ 0
+  pub kind : getD W (s .deferred + 1) 0 ≡ matchKind
 
 pub record WaysCounted (P W : List ℕ) (s : Agenda) (a : List Entry) (w : Ways) : Type 0 where
   pub ways : (gs hs : List Goal) (l : Line) → State relinking P W s a gs hs l → HasWays (w .count) hs
@@ -67,16 +67,16 @@ pub record Argument (W : List ℕ) (top : ℕ) (t : Term) (j : ℕ) (X : List �
   pub end : r ≡ top + 4 * size (argumentOf t j)
 
 pub record ArgumentRoom (W : List ℕ) (s : Agenda) (r : StoredGoal) (h end : ℕ) : Type 0 where
-  pub room : end + 16 ≤ length W
+  pub room : end + 2 * goalBytes ≤ length W
   pub most : length W ≤ tableBytes
   pub build-fits : StoredFits (storedBuild (r .part + 4) (r .target) (r .next) (s .top))
   pub match-fits : StoredFits (storedMatch h (s .top) (s .easy))
 
 pub record ArgumentPushed (W : List ℕ) (s : Agenda) (r : StoredGoal) (h end : ℕ) (X : List ℕ) (s′ : Agenda) : Type 0 where
   pub stored :
-      X ≡ sets (sets W end (storedBytes (storedBuild (r .part + 4) (r .target) (r .next) (s .top)))) (end + 8)
+      X ≡ sets (sets W end (storedBytes (storedBuild (r .part + 4) (r .target) (r .next) (s .top)))) (end + goalBytes)
       (storedBytes (storedMatch h (s .top) (s .easy)))
-  pub agenda : s′ ≡ record { top = end + 2 * 8; easy = end + 8; deferred = end }
+  pub agenda : s′ ≡ record { top = end + 2 * goalBytes; easy = end + goalBytes; deferred = end }
 
 unfoldable pub Placed : List ℕ → ℕ → ℕ → ℕ → List ℕ → Walk → Type 0
 Placed W top at j X (Upto r) = (t : Term) → Part W at t → Argument W top t j X r

@@ -3,8 +3,8 @@
 // One of the ways in which such an application comes to its target: its argument sweeps to one of the target's parts, moved out of the
 // binders above it, and its head builds the target from that. The crate tries one part of the target. It promises that the agenda it leaves
 // has exactly the assignments of that way, or that there are none. Its definitions say what the ways are, and what is known of an
-// application before they are gone through. It rests on `agenda` for goals, heads and locals, on `abstractions` for what occurs earlier, on
-// `skeletons` for what the argument may be, and on `matching` for why that is all.
+// application before they are gone through. It rests on `agenda` for goals, heads and locals, on `shifting` to move a part out of
+// binders, on `abstractions` for what occurs earlier, on `skeletons` for what the argument may be, and on `matching` for why that is all.
 //
 // Of parts that give the same argument the first one counts. A part whose head differs from a rigid argument's is passed over before
 // anything is written: most parts of most targets.

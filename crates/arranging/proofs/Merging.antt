@@ -7,23 +7,20 @@ use mathlib.Core.Logic.{_⊎_, inl, inr, ⊎-elim, _↔_}
 use Prim.Native.Nat.{ℕ, suc, _+_, _-_, _*_, _≤_, _<_}
 use native.Mathlib.Omega.{arith}
 use lib.ListN.{length, take, drop, length-append, length-drop}
-use lib.Seq.{sets, drop-drop, take-all}
+use lib.Seq.{sets, drop-drop}
 use Rattle.terms.specs.Figures.{variables}
 use Rattle.terms.specs.Listing.{In, Line, Less, Rising}
 use Rattle.terms.specs.Layout.{lineBytes, lineValueRecords, valuesRecords}
 use Rattle.terms.proofs.Members.{in-left, in-right, in-append}
 use Rattle.terms.proofs.Order.{Compared, lt, eq, gt, less-trans, order}
 use Rattle.copying.proofs.Stores.{written-then}
+use Rattle.records.proofs.Parts.{rest-part}
 use Rattle.listing.specs.Outcome.{Laid, Lines}
 use Rattle.arranging.specs.Arranged.{Sorted}
 use Rattle.arranging.specs.Order.{TwoLines, Ordered, Disjoint, Leads, Either, LeadsNext, Merging, NextChosen, MergedLine, SortedRun}
 use Rattle.arranging.specs.Order.{Merged}
 use Rattle.listing.proofs.Writers.{line-bytes-length}
 use Rattle.arranging.proofs.Comparing.{laid-length, laid-first, laid-rest, lines-length, begin}
-
--- the rest of a table, as it is lent
-pub second-part : (L : List ℕ) (h : ℕ) → take (length L - h) (drop h L) ≡ drop h L
-second-part L h = take-all (length L - h) (drop h L) (omega (arith, length-drop h L))
 
 -- one line more
 record Plus (l : Line) (rest all : List Line) : Type 0 where
@@ -183,7 +180,7 @@ module _ (A B X out : List ℕ) (o : ℕ) where
 module _ (A B X : List ℕ) (i j : ℕ) (x : Merging A i B j X) where
   pub merging-begin : ¬ (i ≡ length A) → ¬ (j ≡ length B) → TwoLines (take (length A - i) (drop i A)) (take (length B - j) (drop j B)) X
   merging-begin h g =
-      rw (second-part A i, second-part B j)
+      rw (rest-part A i, rest-part B j)
       (begin (drop i A) (drop j B) X (x .one) (x .two) (x .left) (x .right) (λ z. h (omega (arith, x .left-whole, length-drop i A)))
       (λ z. g (omega (arith, x .right-whole, length-drop j B))))
 
@@ -203,7 +200,7 @@ module _ (A B X : List ℕ) (i j : ℕ) (x : Merging A i B j X) where
       ¬ (i ≡ length A) → ¬ (j ≡ length B) → (r : Bool) → Ordered (take (length A - i) (drop i A)) (take (length B - j) (drop j B)) X r
       → NextChosen A i B j X r
   chosen-earlier h g r c =
-      let k : Ordered (drop i A) (drop j B) X r = rw (second-part A i, second-part B j) at c in
+      let k : Ordered (drop i A) (drop j B) X r = rw (rest-part A i, rest-part B j) at c in
       record {
         next =
             next-earlier (drop i A) (drop j B) X (λ z. h (omega (arith, x .left-whole, length-drop i A)))
@@ -293,8 +290,8 @@ module _ (A B X out : List ℕ) where
     merged = λ final z. g .merged final (s .merged final z);
   }
 
-  pub going-end : (i j : ℕ) (now : List ℕ) → MergingOn A B X out i j now → length A + length B ≤ i + j → Merged A B X out 0 now
-  going-end i j now g h =
+  pub merging-end : (i j : ℕ) (now : List ℕ) → MergingOn A B X out i j now → length A + length B ≤ i + j → Merged A B X out 0 now
+  merging-end i j now g h =
       let x = g .merging in
       g .merged now
       (merged-none (drop i A) (drop j B) X now (i + j) (omega (arith, x .left-whole, x .right-whole, length-drop i A))

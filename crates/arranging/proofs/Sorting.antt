@@ -13,12 +13,13 @@ use Rattle.terms.specs.Layout.{lineBytes}
 use Rattle.terms.specs.Members.{Distinct}
 use Rattle.terms.proofs.Members.{in-left, in-right, in-append}
 use Rattle.copying.proofs.Stores.{stored}
+use Rattle.records.proofs.Parts.{rest-part}
 use Rattle.listing.specs.Outcome.{Lines}
 use Rattle.arranging.specs.Arranged.{Sorted}
 use Rattle.arranging.specs.Order.{Disjoint, Merges, Merged, Halves, Sorts, InOrder}
 use Rattle.listing.proofs.Writers.{line-bytes-length}
 use Rattle.arranging.proofs.Comparing.{lines-length}
-use Rattle.arranging.proofs.Merging.{second-part, records-append, sorted-self}
+use Rattle.arranging.proofs.Merging.{records-append, sorted-self}
 
 -- a table in two parts, and the parts one behind the other
 first-part : (L : List ℕ) (h : ℕ) → take (h - 0) (drop 0 L) ≡ take h L
@@ -39,14 +40,14 @@ whole-written out b after e n =
 -- both halves merged, and copied back
 module _ (L X work : List ℕ) (h : ℕ) where
   pub merges-parts : Merges (take h L) (drop h L) X work → Merges (take (h - 0) (drop 0 L)) (take (length L - h) (drop h L)) X work
-  merges-parts x = rw (first-part L h, second-part L h) x
+  merges-parts x = rw (first-part L h, rest-part L h) x
 
   pub merged-back :
       (p after : List ℕ) → h ≤ length L → length L ≤ length work
       → Merged (take (h - 0) (drop 0 L)) (take (length L - h) (drop h L)) X work 0 p
       → after ≡ sets L 0 (take (length L - 0) (drop 0 p)) → Merged (take h L) (drop h L) X L 0 after
   merged-back p after g w x e =
-      let y : Merged (take h L) (drop h L) X work 0 p = rw (first-part L h, second-part L h) at x in
+      let y : Merged (take h L) (drop h L) X work 0 p = rw (first-part L h, rest-part L h) at x in
       record {
         joined = λ ls ms a c u v d.
             let j = y .joined ls ms a c u v d in
@@ -185,7 +186,7 @@ module _ (L P : List ℕ) (h : ℕ) (e : length P ≡ length (take (h - 0) (drop
   second-lent : take (length L - h) (drop h first-changed) ≡ drop h L
   second-lent =
       let z : h - 0 ≡ h = omega arith in
-      ap (take (length L - h)) (drop-at P (drop (h - 0) (drop 0 L)) h changed-length ∙ ap (λ (k : ℕ). drop k L) z) ∙ second-part L h
+      ap (take (length L - h)) (drop-at P (drop (h - 0) (drop 0 L)) h changed-length ∙ ap (λ (k : ℕ). drop k L) z) ∙ rest-part L h
 
   pub second-length : length (take (length L - h) (drop h first-changed)) ≡ length L - h
   second-length = ap length second-lent ∙ length-drop h L

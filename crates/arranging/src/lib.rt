@@ -5,7 +5,7 @@
 // else changed. It rests on `listing` for how a line and its values stand, and on `copying` for bytes.
 
 use assignments::Entry;
-use assignments::LINE;
+use records::LINE;
 use records::RECORD;
 use records::VARIABLES;
 ghost use mathlib.Core.Path.{_≡_};
@@ -59,13 +59,13 @@ fn compare_open(other: Entry) -> Comparison
     }
 }
 
-// Compares the entries that two lines have for variable i: open comes before assigned, and values go by their bytes.
-fn compare_entries(a: &[u8], b: &[u8], i: usize, values: &[u8]) -> Comparison
-    requires { ⌜ LinesComparable (now a) (now b) i (now values) × (i < variables) ⌝ }
-    ensures { λ r. ⌜ EntriesCompared (now (a .entry)) (now (b .entry)) i (now (values .entry)) r ⌝ }
+// Compares the entries that two lines have for a variable: open comes before assigned, and values go by their bytes.
+fn compare_entries(a: &[u8], b: &[u8], variable: usize, values: &[u8]) -> Comparison
+    requires { ⌜ LinesComparable (now a) (now b) variable (now values) × (variable < variables) ⌝ }
+    ensures { λ r. ⌜ EntriesCompared (now (a .entry)) (now (b .entry)) variable (now (values .entry)) r ⌝ }
 {
-    let x = assignments::entry_at(a, i);
-    let y = assignments::entry_at(b, i);
+    let x = assignments::entry_at(a, variable);
+    let y = assignments::entry_at(b, variable);
     let Entry::Assigned(v) = x else {
         return compare_open(y);
     };
@@ -185,26 +185,26 @@ fn sort(lines: &mut [u8], values: &[u8], work: &mut [u8])
 }
 
 // Writes the line at byte `at` anew, its values from record `first` of the values on; they stand in s. Answers the record behind them.
-fn lay_line(s: &[u8], lines: &mut [u8], at: usize, values: &mut [u8], first: usize) -> usize
-    requires { ⌜ LayLine (now s) (now lines) at (now values) first ⌝ }
-    ensures { λ r. ⌜ LaidLine (now (s .entry)) (now (lines .entry)) at (now (values .entry)) first (now (lines .exit))
+fn lay_line(source: &[u8], lines: &mut [u8], at: usize, values: &mut [u8], first: usize) -> usize
+    requires { ⌜ LayLine (now source) (now lines) at (now values) first ⌝ }
+    ensures { λ r. ⌜ LaidLine (now (source .entry)) (now (lines .entry)) at (now (values .entry)) first (now (lines .exit))
         (now (values .exit)) r ⌝ }
 {
     let end = at + LINE;
     let a = assignments::entries_of(&lines[at..end]);
-    listing::write_line(s, a, lines, at, values, first)
+    listing::write_line(source, a, lines, at, values, first)
 }
 
 // Writes the first `count` lines anew, their values in line order from record 0 on; they stand in s.
-fn lay_lines(s: &[u8], lines: &mut [u8], count: usize, values: &mut [u8])
-    requires { ⌜ LayLines (now s) (now lines) count (now values) ⌝ }
-    ensures { λ _. ⌜ LaidLines (now (s .entry)) (now (lines .entry)) count (now (values .entry)) (now (lines .exit))
+fn lay_lines(source: &[u8], lines: &mut [u8], count: usize, values: &mut [u8])
+    requires { ⌜ LayLines (now source) (now lines) count (now values) ⌝ }
+    ensures { λ _. ⌜ LaidLines (now (source .entry)) (now (lines .entry)) count (now (values .entry)) (now (lines .exit))
         (now (values .exit)) ⌝ }
 {
     let mut first = 0;
     let mut i = 0;
     while i < count {
-        first = lay_line(s, lines, LINE * i, values, first);
+        first = lay_line(source, lines, LINE * i, values, first);
         i += 1;
     }
 }

@@ -1,6 +1,6 @@
 -- Entries read from a line, the values that they give, and the variables that a table mentions. From the bytes of a line and the parts of a
 -- table, by induction on the term. Assumes nothing.
-use mathlib.Core.Path.{_≡_, refl, sym, ap, ap₂, _∙_, subst, subst₂}
+use mathlib.Core.Path.{_≡_, refl, sym, ap, ap₂, _∙_, subst}
 use mathlib.Core.Bool.{Bool, true, false, not}
 use mathlib.Core.List.{List}
 use mathlib.Core.Logic.{_⊎_, inl, inr, ⊎-elim}
@@ -22,7 +22,7 @@ use Rattle.records.specs.Record.{numberAt}
 use Rattle.records.specs.Parts.{Part}
 use Rattle.records.specs.Tests.{Says}
 use Rattle.records.specs.Checks.{ValueTable}
-use Rattle.records.proofs.Parts.{kind-at, number-at, application, abstraction, at-start}
+use Rattle.records.proofs.Parts.{kind-at, number-at, application-parts, abstraction-part, at-start}
 use Rattle.assignments.specs.declared.Span.{Span}
 use Rattle.assignments.specs.declared.Entry.{Entry}
 use Rattle.assignments.specs.declared.Entry.the-variants.{Open, Assigned}
@@ -75,8 +75,8 @@ module _ (s : List ℕ) (a : List Entry) (i : ℕ) where
         → ValueTable (take (4 * x .count) (drop (4 * x .first) s)) → IsGiven
     is-value m w t = (t .tree, record { span = x; is = e; most = m; within = w; bytes = t .bytes; value = t .value })
 
-    pub no-value : ¬ ValueTable (take (4 * x .count) (drop (4 * x .first) s)) → ¬ IsGiven
-    no-value n g =
+    pub no-value-table : ¬ ValueTable (take (4 * x .count) (drop (4 * x .first) s)) → ¬ IsGiven
+    no-value-table n g =
         let b = g .1 .bytes in
         n (subst (λ y. ValueTable (take (4 * y .count) (drop (4 * y .first) s))) (same-span (g .0) (g .1))
         (record {
@@ -91,7 +91,7 @@ module _ (s : List ℕ) (a : List Entry) (i : ℕ) where
         x .count ≤ valueRecords → 4 * (x .first + x .count) ≤ length s → (l : List ℕ) (r : Bool)
         → l ≡ take (4 * x .count) (drop (4 * x .first) s) → Says r (ValueTable l) → Says r IsGiven
     says-given m w l true p t = is-value m w (rw p at t)
-    says-given m w l false p t = no-value (rw p at t)
+    says-given m w l false p t = no-value-table (rw p at t)
 
 -- what an assigned entry says of the line
 entry-span : (l : List ℕ) (i : ℕ) (x : Span) → entryAt l i ≡ Assigned x
@@ -153,40 +153,19 @@ module _ (l s : List ℕ) (a : List Entry) where
   pub given-more : (k : ℕ) → ((i : ℕ) → i < k → Lacking l s a i false) → Lacking l s a k false → (i : ℕ) → i < k + 1 → Lacking l s a i false
   given-more k f g i h = ⊎-elim (λ (q : i ≡ k). rw q g) (λ (q : i < k). f i q) (eq-or-lt-of-le (omega arith))
 
--- the parts of a term that stands in a table
-module _ (l : List ℕ) (at : ℕ) where
-  head-part : (f a : Term) → Part l at (app f a) → Part l (at + 4) f
-  head-part f a x =
-      let v = application l at (app f a) x (kind-at l at (app f a) x) in
-      let q : v .f ≡ f = cc in
-      subst (Part l (at + 4)) q (v .head)
-
-  argument-part : (f a : Term) → Part l at (app f a) → Part l (at + 4 + 4 * size f) a
-  argument-part f a x =
-      let v = application l at (app f a) x (kind-at l at (app f a) x) in
-      let p : v .f ≡ f = cc in
-      let q : v .a ≡ a = cc in
-      subst₂ (λ (g b : Term). Part l (at + 4 + 4 * size g) b) p q (v .argument)
-
-  body-part : (b : Term) → Part l at (lam b) → Part l (at + 4) b
-  body-part b x =
-      let v = abstraction l at (lam b) x (kind-at l at (lam b) x) in
-      let q : v .b ≡ b = cc in
-      subst (Part l (at + 4)) q (v .body)
-
 -- the variables that a table mentions
 module _ (l : List ℕ) (i : ℕ) where
   -- a variable of the part at byte `at` is one of its records
   occurs-at : (t : Term) (at : ℕ) → Part l at t → Occurs i t
       → (k : ℕ) × (k < size t) × ((q : ℕ) → q ≡ at + 4 * k → (getD l q 0 ≡ 4) × (numberAt l q ≡ i))
   occurs-at (app f a) at x (inl o) =
-      let r = occurs-at f (at + 4) (head-part l at f a x) o in
+      let r = occurs-at f (at + 4) (application-parts l at f a x .0) o in
       (suc (r .0), omega (arith, r .1), λ q e. r .2 q (omega arith))
   occurs-at (app f a) at x (inr o) =
-      let r = occurs-at a (at + 4 + 4 * size f) (argument-part l at f a x) o in
+      let r = occurs-at a (at + 4 + 4 * size f) (application-parts l at f a x .1) o in
       (suc (size f + r .0), omega (arith, r .1), λ q e. r .2 q (omega arith))
   occurs-at (lam b) at x o =
-      let r = occurs-at b (at + 4) (body-part l at b x) o in
+      let r = occurs-at b (at + 4) (abstraction-part l at b x) o in
       (suc (r .0), omega (arith, r .1), λ q e. r .2 q (omega arith))
   occurs-at (loc n) at x o = absurd o
   occurs-at (con n) at x o = absurd o
@@ -198,8 +177,9 @@ module _ (l : List ℕ) (i : ℕ) where
 
   at-occurs : (t : Term) (at k q : ℕ) → Part l at t → q ≡ at + 4 * k → k < size t → getD l q 0 ≡ 4 → numberAt l q ≡ i → Occurs i t
   at-occurs (app f a) at zero q x e h p n = absurd (other-kind 0 at q (kind-at l at (app f a) x) (omega arith) (λ z. omega arith) p)
-  at-occurs (app f a) at (suc k) q x e h p n = go (decLt k (size f)) (at-occurs f (at + 4) k q (head-part l at f a x) (omega arith))
-      (at-occurs a (at + 4 + 4 * size f) (k - size f) q (argument-part l at f a x))
+  at-occurs (app f a) at (suc k) q x e h p n =
+      go (decLt k (size f)) (at-occurs f (at + 4) k q (application-parts l at f a x .0) (omega arith))
+      (at-occurs a (at + 4 + 4 * size f) (k - size f) q (application-parts l at f a x .1))
     where
       go : Dec (k < size f) → (k < size f → getD l q 0 ≡ 4 → numberAt l q ≡ i → Occurs i f)
           → (q ≡ at + 4 + 4 * size f + 4 * (k - size f) → k - size f < size a → getD l q 0 ≡ 4 → numberAt l q ≡ i → Occurs i a)
@@ -207,7 +187,7 @@ module _ (l : List ℕ) (i : ℕ) where
       go (yes d) left right = inl (left d p n)
       go (no d) left right = inr (right (omega arith) (omega arith) p n)
   at-occurs (lam b) at zero q x e h p n = absurd (other-kind 1 at q (kind-at l at (lam b) x) (omega arith) (λ z. omega arith) p)
-  at-occurs (lam b) at (suc k) q x e h p n = at-occurs b (at + 4) k q (body-part l at b x) (omega arith) (omega arith) p n
+  at-occurs (lam b) at (suc k) q x e h p n = at-occurs b (at + 4) k q (abstraction-part l at b x) (omega arith) (omega arith) p n
   at-occurs (loc m) at k q x e h p n = absurd (other-kind 2 at q (kind-at l at (loc m) x) (omega arith) (λ z. omega arith) p)
   at-occurs (con m) at k q x e h p n = absurd (other-kind 3 at q (kind-at l at (con m) x) (omega arith) (λ z. omega arith) p)
   at-occurs (var m) at k q x e h p n = let z : q ≡ at = omega arith in sym n ∙ ap (numberAt l) z ∙ number-at l at (var m) x

@@ -19,9 +19,6 @@ ghost use Rattle.terms.specs.Term.{Term};
 ghost use Rattle.records.specs.Tests.{Says};
 ghost use Rattle.assignments.specs.Entries.{entryAt, Read, Given, VariableAt, Mentions, Lacking, AllGiven};
 
-// The bytes of one line, a record for each variable.
-pub const LINE: usize = RECORD * VARIABLES;
-
 // A run of records of a value table.
 pub struct Span {
     pub first: usize,
@@ -35,15 +32,15 @@ pub enum Entry {
 }
 
 // The entry of variable i in a line.
-pub fn entry_at(line: &[u8], i: usize) -> Entry
-    requires { ⌜ 4 * i + 4 ≤ length (now line) ⌝ }
-    ensures { λ r. ⌜ r ≡ entryAt (now (line .entry)) i ⌝ }
+pub fn entry_at(line: &[u8], variable: usize) -> Entry
+    requires { ⌜ 4 * variable + 4 ≤ length (now line) ⌝ }
+    ensures { λ r. ⌜ r ≡ entryAt (now (line .entry)) variable ⌝ }
 {
-    let count = records::word_at(line, RECORD * i + 2);
+    let count = records::word_at(line, RECORD * variable + 2);
     if count == 0 {
         return Entry::Open;
     }
-    let first = records::word_at(line, RECORD * i);
+    let first = records::word_at(line, RECORD * variable);
     Entry::Assigned(Span {
         first: first,
         count: count,
@@ -76,11 +73,11 @@ pub fn value_of(values: &[u8], span: Span) -> &[u8]
 }
 
 // Whether variable i is assigned a value.
-fn is_given(values: &[u8], entries: [Entry; VARIABLES], i: usize) -> bool
-    requires { ⌜ i < variables ⌝ }
-    ensures { λ r. ⌜ Says r ((v : Term) × Given (now (values .entry)) entries i v) ⌝ }
+fn is_given(values: &[u8], entries: [Entry; VARIABLES], variable: usize) -> bool
+    requires { ⌜ variable < variables ⌝ }
+    ensures { λ r. ⌜ Says r ((v : Term) × Given (now (values .entry)) entries variable v) ⌝ }
 {
-    let e = entries[i];
+    let e = entries[variable];
     let Entry::Assigned(span) = e else {
         return false;
     };
@@ -97,25 +94,25 @@ fn is_given(values: &[u8], entries: [Entry; VARIABLES], i: usize) -> bool
     records::check_value(value_of(values, span))
 }
 
-// Whether the record of s at byte `at` is the variable i.
-fn is_variable(s: &[u8], at: usize, i: usize) -> bool
+// Whether the record of s at byte `at` is the variable.
+fn is_variable(s: &[u8], at: usize, variable: usize) -> bool
     requires { ⌜ at + 4 ≤ length (now s) ⌝ }
-    ensures { λ r. ⌜ Says r (VariableAt (now (s .entry)) at i) ⌝ }
+    ensures { λ r. ⌜ Says r (VariableAt (now (s .entry)) at variable) ⌝ }
 {
     if s[at] == Kind::VARIABLE.code {
-        return records::number_at(s, at) == i;
+        return records::number_at(s, at) == variable;
     }
     false
 }
 
-// Whether some record of s is the variable i.
-fn mentions(s: &[u8], i: usize) -> bool
-    ensures { λ r. ⌜ Says r (Mentions (now (s .entry)) i) ⌝ }
+// Whether some record of s is the variable.
+fn mentions(s: &[u8], variable: usize) -> bool
+    ensures { λ r. ⌜ Says r (Mentions (now (s .entry)) variable) ⌝ }
 {
     let n = s.len() / RECORD;
     let mut k = 0;
     while k < n {
-        if is_variable(s, RECORD * k, i) {
+        if is_variable(s, RECORD * k, variable) {
             return true;
         }
         k += 1;
@@ -123,13 +120,13 @@ fn mentions(s: &[u8], i: usize) -> bool
     false
 }
 
-// Whether the variable i of s has no value.
-fn lacks(s: &[u8], values: &[u8], entries: [Entry; VARIABLES], i: usize) -> bool
-    requires { ⌜ i < variables ⌝ }
-    ensures { λ r. ⌜ Lacking (now (s .entry)) (now (values .entry)) entries i r ⌝ }
+// Whether the variable occurs in s and has no value.
+fn lacks(s: &[u8], values: &[u8], entries: [Entry; VARIABLES], variable: usize) -> bool
+    requires { ⌜ variable < variables ⌝ }
+    ensures { λ r. ⌜ Lacking (now (s .entry)) (now (values .entry)) entries variable r ⌝ }
 {
-    if mentions(s, i) {
-        return !is_given(values, entries, i);
+    if mentions(s, variable) {
+        return !is_given(values, entries, variable);
     }
     false
 }

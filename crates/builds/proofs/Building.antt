@@ -3,7 +3,6 @@
 --   BuildSite P W s r f t e   the stored goal r, first of those deferred, is the goal to build f's body from t and e
 --   Bodied P W s r m b        b is the table of the body that the choices m give
 --   UsesTold P W s r m u      u says whether that body uses its local
---   BuildBounds .. f t e          how long that table is
 --   Facts .. gs hs f t e      what writing the abstraction over it needs to know
 use mathlib.Core.Path.{_≡_, refl, sym, ap, _∙_, subst}
 use mathlib.Core.Bool.{Bool, true, false}
@@ -17,7 +16,7 @@ use lib.Seq.{sets}
 use borrow.Author.Tests.{lt-ltb, ltb-true}
 use Rattle.terms.specs.Figures.{variables, patternRecords, valueRecords, tableBytes}
 use Rattle.terms.specs.Term.{Term, lam, size, uses, isEta, shift}
-use Rattle.terms.specs.Table.{bytes, encode}
+use Rattle.terms.specs.Table.{recordBytes, encode}
 use Rattle.terms.specs.Listing.{Line}
 use Rattle.terms.specs.Refusal.{OccursIn}
 use Rattle.terms.proofs.Table.{encode-length}
@@ -39,11 +38,12 @@ use Rattle.abstractions.proofs.Bodies.{choosing-at, body-exact-at, body-bytes-a
 use Rattle.agenda.specs.declared.Agenda.{Agenda}
 use Rattle.agenda.specs.declared.Branch.{Branch}
 use Rattle.agenda.specs.declared.StoredGoal.{StoredGoal}
-use Rattle.agenda.specs.Stored.{storedBytes, StoredAt, StoredFits}
-use Rattle.agenda.specs.State.{targetBytes, Target, State, Bounds, Ready, Easy, Deferred, Chain, weights, relinking}
+use Rattle.agenda.specs.Stored.{storedBytes, StoredAt, StoredFits, storedMatch}
+use Rattle.agenda.specs.State.{goalBytes, recordWeight, targetBytes, Target, State, Bounds, Ready}
+use Rattle.agenda.specs.State.{Easy, Deferred, Chain, weights, relinking}
 use Rattle.agenda.specs.Moves.{Move, Moved, Failed, Branched, progress}
 use Rattle.builds.specs.Choices.{ChosenBody}
-use Rattle.builds.specs.Builds.{Builds, AnyChosen, Pushes, StoredPushed, storedTarget, afterStored}
+use Rattle.builds.specs.Builds.{Builds, AnyChosen, Pushes, StoredPushed, afterStored}
 use Rattle.agenda.proofs.Frame.{Kept, part-kept, chain-kept, holds-kept, kept-sets, kept-then, length-stored, part-stored, goal-stored}
 use Rattle.agenda.proofs.Frame.{chain-match}
 
@@ -80,9 +80,9 @@ module _ (P W : List ℕ) (s : Agenda) (a : List Entry) where
   abbrev pub BuildState : List Goal → Line → Term → Term → Term → List Goal → Type 0
   BuildState gs l f t e hs = State relinking P W s a gs (build f t e ∷ hs) l
 
-  pub site : (r : StoredGoal) (gs hs : List Goal) (l : Line) (f t e : Term) → StoredAt W (s .deferred) r → BuildState gs l f t e hs
+  pub build-site : (r : StoredGoal) (gs hs : List Goal) (l : Line) (f t e : Term) → StoredAt W (s .deferred) r → BuildState gs l f t e hs
       → BuildSite P W s r f t e
-  site r gs hs l f t e y x =
+  build-site r gs hs l f t e y x =
       let n = x .deferred .0 in
       record {
         part = subst (λ (i : ℕ). Part P i f) (sym (y .part)) (n .goal .part);
@@ -96,23 +96,24 @@ module _ (P W : List ℕ) (s : Agenda) (a : List Entry) where
 
   module _ (ready : Ready relinking P W s a) (x : Builds W s) where
     -- the first deferred goal is one to build, in each state that stands there
-    pub opened :
+    pub build-opened :
         (gs : List Goal) (l : Line) (Q : List Goal → Type 0)
         → ((f t e : Term) (hs : List Goal) → BuildState gs l f t e hs → Q (build f t e ∷ hs))
         → (hs : List Goal) → State relinking P W s a gs hs l → Q hs
-    opened gs l Q h [] y = absurd (omega (arith, x .some-deferred, y .deferred))
-    opened gs l Q h (match p t ∷ hs) y = absurd (x .kind (y .deferred .0 .goal .kind))
-    opened gs l Q h (build f t e ∷ hs) y = h f t e hs y
+    build-opened gs l Q h [] y = absurd (omega (arith, x .some-deferred, y .deferred))
+    build-opened gs l Q h (match p t ∷ hs) y = absurd (x .kind (y .deferred .0 .goal .kind))
+    build-opened gs l Q h (build f t e ∷ hs) y = h f t e hs y
 
     -- the state that a step starts from
-    pub from : (A : Type 0) → ((gs hs : List Goal) (l : Line) (f t e : Term) → BuildState gs l f t e hs → A) → A
-    from A h = opened (ready .gs) (ready .line) (λ _. A) (λ f t e hs y. h (ready .gs) hs (ready .line) f t e y) (ready .hs) (ready .state)
+    pub from-build : (A : Type 0) → ((gs hs : List Goal) (l : Line) (f t e : Term) → BuildState gs l f t e hs → A) → A
+    from-build A h =
+        build-opened (ready .gs) (ready .line) (λ _. A) (λ f t e hs y. h (ready .gs) hs (ready .line) f t e y) (ready .hs) (ready .state)
 
     module _ (r : StoredGoal) (y : StoredAt W (s .deferred) r) where
       pub choosing : (last room : ℕ) → valueRecords ≤ last → targetBytes ≤ room
           → BodySource (slice W (r .target)) 0 (slice W (r .argument)) last 0 room 0
-      choosing last room h k = from (BodySource (slice W (r .target)) 0 (slice W (r .argument)) last 0 room 0) (λ gs hs l f t e z.
-          let v = site r gs hs l f t e y z in
+      choosing last room h k = from-build (BodySource (slice W (r .target)) 0 (slice W (r .argument)) last 0 room 0) (λ gs hs l f t e z.
+          let v = build-site r gs hs l f t e y z in
           let u = v .target in
           choosing-at W W (r .target) (r .argument) 0 last 0 room 0 t (u .part) (whole W (r .argument) e (v .argument .part))
           (omega (arith, ready .bounds .whole))
@@ -122,14 +123,16 @@ module _ (P W : List ℕ) (s : Agenda) (a : List Entry) where
           (omega (arith, u .short)) (omega (arith, u .short)) (omega (arith, u .short)))
 
       -- the places of the part, the target and the argument lie in their tables
-      pub part-within : r .part ≤ length P
-      part-within = from (r .part ≤ length P) (λ gs hs l f t e z. omega (arith, site r gs hs l f t e y z .part .within))
+      pub build-part-within : r .part ≤ length P
+      build-part-within = from-build (r .part ≤ length P) (λ gs hs l f t e z. omega (arith, build-site r gs hs l f t e y z .part .within))
 
-      pub target-within : r .target ≤ length W
-      target-within = from (r .target ≤ length W) (λ gs hs l f t e z. omega (arith, site r gs hs l f t e y z .target .part .within))
+      pub build-target-within : r .target ≤ length W
+      build-target-within =
+          from-build (r .target ≤ length W) (λ gs hs l f t e z. omega (arith, build-site r gs hs l f t e y z .target .part .within))
 
-      pub argument-within : r .argument ≤ length W
-      argument-within = from (r .argument ≤ length W) (λ gs hs l f t e z. omega (arith, site r gs hs l f t e y z .argument .part .within))
+      pub build-argument-within : r .argument ≤ length W
+      build-argument-within =
+          from-build (r .argument ≤ length W) (λ gs hs l f t e z. omega (arith, build-site r gs hs l f t e y z .argument .part .within))
 
       module _ (m b c : List ℕ) (next n k : ℕ) (h : length b ≡ targetBytes)
           (w : Body (slice W (r .target)) 0 (slice W (r .argument)) m 0 b 0 c next n k) where
@@ -140,8 +143,8 @@ module _ (P W : List ℕ) (s : Agenda) (a : List Entry) where
             (omega arith, omega (arith, body-size e 0 t (chosenIn m) 0, v .target .short))
 
         pub end-within : n ≤ length c
-        end-within = from (n ≤ length c) (λ gs hs l f t e z.
-            let v = site r gs hs l f t e y z in
+        end-within = from-build (n ≤ length c) (λ gs hs l f t e z.
+            let v = build-site r gs hs l f t e y z in
             omega (
               arith,
               size-end f t e v .1,
@@ -159,21 +162,21 @@ module _ (P W : List ℕ) (s : Agenda) (a : List Entry) where
               (omega (arith, p .1));
         }
 
-        number : (f t e : Term) → BuildSite P W s r f t e → k ≡ copies e 0 t
-        number f t e v =
+        copies-counted : (f t e : Term) → BuildSite P W s r f t e → k ≡ copies e 0 t
+        copies-counted f t e v =
             omega (arith, body-number-at W W (r .target) (r .argument) 0 m 0 b 0 c next n k w t e (v .target .part) (v .argument .part))
 
         pub choices-within : k ≤ valueRecords
-        choices-within = from (k ≤ valueRecords) (λ gs hs l f t e z.
-            let v = site r gs hs l f t e y z in
-            omega (arith, number f t e v, copies-size e 0 t, v .target .short))
+        choices-within = from-build (k ≤ valueRecords) (λ gs hs l f t e z.
+            let v = build-site r gs hs l f t e y z in
+            omega (arith, copies-counted f t e v, copies-size e 0 t, v .target .short))
 
         -- the local is used where a choice is made
         pub used-chosen : (u : Bool) → AnyChosen m k u → UsesTold P W s r m u
         used-chosen u h = record {
           is = λ f t e v.
               answers-same (Some (chosenIn m) 0 (copies e 0 t)) u (uses 0 (body e 0 t (chosenIn m) 0))
-              (subst (λ (j : ℕ). Says u (Some (chosenIn m) 0 j)) (number f t e v) (h .is))
+              (subst (λ (j : ℕ). Says u (Some (chosenIn m) 0 j)) (copies-counted f t e v) (h .is))
               (body-uses e 0 t (chosenIn m) 0);
         }
 
@@ -185,7 +188,8 @@ module _ (P W : List ℕ) (s : Agenda) (a : List Entry) where
             → Failed relinking P W s a (ChosenBody m) W′
         none W′ q h = record {
           none = λ gs hs l z φ v.
-              opened gs l (λ us. ¬ ChosenBody m gs us l φ) (λ f t e us o p. h f t e φ (site r gs us l f t e y o) v (p .1 .0)) hs z;
+              build-opened gs l (λ us. ¬ ChosenBody m gs us l φ)
+              (λ f t e us o p. h f t e φ (build-site r gs us l f t e y o) v (p .1 .0)) hs z;
           kept = ap (take (s .top)) q;
         }
 
@@ -195,30 +199,24 @@ module _ (P W : List ℕ) (s : Agenda) (a : List Entry) where
         unused W′ q u h n = none W′ q (λ f t e φ v o p. subst T (sym (p .1) ∙ sym (h .is f t e v) ∙ n) tt)
 
       module _ (m b : List ℕ) (w : Bodied P W s r m b) where
-        pub record BuildBounds (f t e : Term) : Type 0 where
-          pub length-is : length b ≡ 4 * size (body e 0 t (chosenIn m) 0)
-          pub short : length b ≤ 624
-
-        build-bounds : (f t e : Term) → BuildSite P W s r f t e → BuildBounds f t e
-        build-bounds f t e v =
+        -- a head has at least one record, so that the target has four fewer than it may have
+        body-short : (f t e : Term) → BuildSite P W s r f t e → length b + 4 * 4 ≤ targetBytes
+        body-short f t e v =
             let p : length b ≡ 4 * size (body e 0 t (chosenIn m) 0) =
             ap length (w .is f t e v) ∙ encode-length (body e 0 t (chosenIn m) 0) in
-            record {
-              length-is = p;
-              short = omega (arith, body-size e 0 t (chosenIn m) 0, v .target .short, v .part .some);
-            }
+            omega (arith, body-size e 0 t (chosenIn m) 0, v .target .short, v .part .some)
 
         pub body-tree : Tree b × (length b ≤ tableBytes)
-        body-tree = from (Tree b × (length b ≤ tableBytes)) (λ gs hs l f t e z.
-            let v = site r gs hs l f t e y z in
-            (tree b (body e 0 t (chosenIn m) 0) (w .is f t e v), omega (arith, build-bounds f t e v .short)))
+        body-tree = from-build (Tree b × (length b ≤ tableBytes)) (λ gs hs l f t e z.
+            let v = build-site r gs hs l f t e y z in
+            (tree b (body e 0 t (chosenIn m) 0) (w .is f t e v), omega (arith, body-short f t e v)))
 
         pub pushes : StoredFits r → Pushes W s r b
-        pushes o = from (Pushes W s r b) (λ gs hs l f t e z.
-            let v = build-bounds f t e (site r gs hs l f t e y z) in
+        pushes o = from-build (Pushes W s r b) (λ gs hs l f t e z.
+            let v = body-short f t e (build-site r gs hs l f t e y z) in
             record {
               whole = ready .bounds .whole;
-              room = omega (arith, z .room, v .short);
+              room = omega (arith, z .room, v);
               easy = omega (arith, ready .bounds .easy-room, ready .bounds .top);
               part = o .part;
             })
@@ -230,8 +228,8 @@ module _ (P W : List ℕ) (s : Agenda) (a : List Entry) where
 
 -- the abstraction over the body is the target of the head
 module _ (P W : List ℕ) (s : Agenda) (r : StoredGoal) (f t e : Term) (m b X : List ℕ) (bounds : Bounds P W s) (v : BuildSite P W s r f t e)
-    (q : X ≡ sets (sets W (s .top) (bytes 1 0 b)) (s .top + 4 + length b) (storedBytes (storedTarget r (s .top) (s .easy))))
-    (w : b ≡ encode (body e 0 t (chosenIn m) 0)) (room : s .top + 12 + length b ≤ tableBytes)
+    (q : X ≡ sets (sets W (s .top) (recordBytes 1 0 b)) (s .top + 4 + length b) (storedBytes (storedMatch (r .part) (s .top) (s .easy))))
+    (w : b ≡ encode (body e 0 t (chosenIn m) 0)) (room : s .top + 4 + goalBytes + length b ≤ tableBytes)
     (no-eta : isEta (body e 0 t (chosenIn m) 0) ≡ false)
   where
     abbrev B : Term
@@ -241,33 +239,34 @@ module _ (P W : List ℕ) (s : Agenda) (r : StoredGoal) (f t e : Term) (m b X : 
     at = s .top + 4 + length b
 
     abbrev X₁ : List ℕ
-    X₁ = sets W (s .top) (bytes 1 0 b)
+    X₁ = sets W (s .top) (recordBytes 1 0 b)
 
     size-body : length b ≡ 4 * size B
     size-body = ap length w ∙ encode-length B
 
     length-X₁ : length X₁ ≡ tableBytes
-    length-X₁ = length-stored (bytes 1 0 b) W X₁ (s .top) refl ∙ bounds .whole
+    length-X₁ = length-stored (recordBytes 1 0 b) W X₁ (s .top) refl ∙ bounds .whole
 
     kept-first : Kept W X₁ (s .top)
-    kept-first = kept-sets (bytes 1 0 b) W X₁ (s .top) (s .top) refl (omega arith) (omega (arith, bounds .whole, room))
+    kept-first = kept-sets (recordBytes 1 0 b) W X₁ (s .top) (s .top) refl (omega arith) (omega (arith, bounds .whole, room))
 
     kept-second : Kept X₁ X at
-    kept-second = kept-sets (storedBytes (storedTarget r (s .top) (s .easy))) X₁ X at at q (omega arith) (omega (arith, length-X₁, room))
+    kept-second = kept-sets (storedBytes (storedMatch (r .part) (s .top) (s .easy))) X₁ X at at q (omega arith)
+        (omega (arith, length-X₁, room))
 
     pub kept-all : Kept W X (s .top)
     kept-all = kept-then W X₁ X (s .top) at (omega arith) kept-first kept-second
 
     pub length-X : length X ≡ tableBytes
-    length-X = length-stored (storedBytes (storedTarget r (s .top) (s .easy))) X₁ X at q ∙ length-X₁
+    length-X = length-stored (storedBytes (storedMatch (r .part) (s .top) (s .easy))) X₁ X at q ∙ length-X₁
 
     written : Part X (s .top) (lam B)
     written =
         part-kept X₁ X at kept-second (s .top) (lam B) (omega (arith, size-body))
-        (subst (λ (y : List ℕ). Part (sets W (s .top) y) (s .top) (lam B)) (ap (bytes 1 0) (sym w))
+        (subst (λ (y : List ℕ). Part (sets W (s .top) y) (s .top) (lam B)) (ap (recordBytes 1 0) (sym w))
         (part-stored (lam B) W (s .top) (omega (arith, size-body, bounds .whole, room))))
 
-    target : Target X (at + 8) (size f) (s .top) (lam B)
+    target : Target X (at + goalBytes) (size f) (s .top) (lam B)
     target =
         let u = v .target in
         record {
@@ -281,17 +280,19 @@ module _ (P W : List ℕ) (s : Agenda) (r : StoredGoal) (f t e : Term) (m b X : 
           short = omega (arith, u .short, body-size e 0 t (chosenIn m) 0);
         }
 
-    stored-goal : StoredAt X at (storedTarget r (s .top) (s .easy))
-    stored-goal = goal-stored X₁ X at (storedTarget r (s .top) (s .easy)) q (omega (arith, length-X₁, room)) (v .part-even) (bounds .even)
+    stored-goal : StoredAt X at (storedMatch (r .part) (s .top) (s .easy))
+    stored-goal = goal-stored X₁ X at (storedMatch (r .part) (s .top) (s .easy)) q (omega (arith, length-X₁, room)) (v .part-even)
+        (bounds .even)
         (bounds .easy-even) refl
 
-    pub chain-pushed : (gs : List Goal) → Chain Easy P W (s .top) (s .easy) gs → Chain Easy P X (at + 8) at (match f (lam B) ∷ gs)
+    pub chain-pushed : (gs : List Goal) → Chain Easy P W (s .top) (s .easy) gs → Chain Easy P X (at + goalBytes) at (match f (lam B) ∷ gs)
     chain-pushed gs c =
-        chain-match Easy P X (at + 8) at (storedTarget r (s .top) (s .easy)) stored-goal (omega (arith, bounds .start)) (omega arith)
+        chain-match Easy P X (at + goalBytes) at (storedMatch (r .part) (s .top) (s .easy)) stored-goal (omega (arith, bounds .start))
+        (omega arith)
         (omega (arith, bounds .even, size-body))
         (omega (arith, bounds .easy-room)) f (lam B) gs refl tt (v .part) target
         (listable-chosen variables (OccursIn P) f t e (chosenIn m) (v .suits) no-eta)
-        (chain-kept W X (s .top) kept-all (at + 8) (omega arith) P Easy (s .easy) gs c)
+        (chain-kept W X (s .top) kept-all (at + goalBytes) (omega arith) P Easy (s .easy) gs c)
 
     pub bounds-pushed : Bounds P X (afterStored s r at)
     bounds-pushed = record {
@@ -309,7 +310,7 @@ module _ (P W : List ℕ) (s : Agenda) (r : StoredGoal) (f t e : Term) (m b X : 
 module _ (P W : List ℕ) (s : Agenda) (a : List Entry) (ready : Ready relinking P W s a) (x : Builds W s) (r : StoredGoal)
     (y : StoredAt W (s .deferred) r) (m b : List ℕ) (w : Bodied P W s r m b) (X : List ℕ)
     (i j : Bool) (used : UsesTold P W s r m i) (no-eta : Equals b isEta j) (is-used : i ≡ true) (is-none : j ≡ false)
-    (q : X ≡ sets (sets W (s .top) (bytes 1 0 b)) (s .top + 4 + length b) (storedBytes (storedTarget r (s .top) (s .easy))))
+    (q : X ≡ sets (sets W (s .top) (recordBytes 1 0 b)) (s .top + 4 + length b) (storedBytes (storedMatch (r .part) (s .top) (s .easy))))
   where
     abbrev last : Agenda
     last = afterStored s r (s .top + 4 + length b)
@@ -320,26 +321,26 @@ module _ (P W : List ℕ) (s : Agenda) (a : List Entry) (ready : Ready relinking
       pub is : b ≡ encode (body e 0 t (chosenIn m) 0)
       pub uses-local : uses 0 (body e 0 t (chosenIn m) 0) ≡ true
       pub normal : isEta (body e 0 t (chosenIn m) 0) ≡ false
-      pub room : s .top + 4 + length b + 8 + (8 + 2000 * size f + weights 8 gs) + weights 0 hs ≤ tableBytes
-      pub within : s .top + 12 + length b ≤ tableBytes
+      pub room : s .top + 4 + length b + goalBytes + (goalBytes + recordWeight * size f + weights goalBytes gs) + weights 0 hs ≤ tableBytes
+      pub within : s .top + 4 + goalBytes + length b ≤ tableBytes
 
     facts : (gs hs : List Goal) (l : Line) (f t e : Term) → BuildState P W s a gs l f t e hs → Facts gs hs f t e
     facts gs hs l f t e z =
-        let v = site P W s a r gs hs l f t e y z in
+        let v = build-site P W s a r gs hs l f t e y z in
         let p = w .is f t e v in
-        let n = build-bounds P W s a ready x r y m b w f t e v in
+        let n = body-short P W s a ready x r y m b w f t e v in
         record {
           site = v;
           is = p;
           uses-local = sym (used .is f t e v) ∙ is-used;
           normal = sym (no-eta (body e 0 t (chosenIn m) 0) p) ∙ is-none;
-          room = omega (arith, z .room, n .short);
-          within = omega (arith, z .room, n .short);
+          room = omega (arith, z .room, n);
+          within = omega (arith, z .room, n);
         }
 
     move : Move relinking P W s a (ChosenBody m) X last a
     move = record {
-      go = λ gs hs l. opened P W s a ready x gs l (λ us. Moved P X last a (ChosenBody m gs us l)) (λ f t e us z.
+      go = λ gs hs l. build-opened P W s a ready x gs l (λ us. Moved P X last a (ChosenBody m gs us l)) (λ f t e us z.
           let n = facts gs us l f t e z in
           let k = kept-all P W s r f t e m b X (ready .bounds) (n .site) q (n .is) (n .within) (n .normal) in
           record {
@@ -357,13 +358,14 @@ module _ (P W : List ℕ) (s : Agenda) (a : List Entry) (ready : Ready relinking
             };
             same = λ φ v. (λ o. ((o .1 .0 .0, o .0), o .1 .1, o .2), λ o. (o .0 .1, ((o .0 .0, n .uses-local), o .1), o .2));
           }) hs;
-      kept = from P W s a ready x (take (s .top) X ≡ take (s .top) W) (λ gs hs l f t e z.
+      kept = from-build P W s a ready x (take (s .top) X ≡ take (s .top) W) (λ gs hs l f t e z.
           let n = facts gs hs l f t e z in
           kept-all P W s r f t e m b X (ready .bounds) (n .site) q (n .is) (n .within) (n .normal) .same);
       higher = omega arith;
       falls =
-          from P W s a ready x (progress last < progress s) (λ gs hs l f t e z. let n = facts gs hs l f t e z in omega (arith, n .within));
-      bounds = from P W s a ready x (Bounds P X last) (λ gs hs l f t e z.
+          from-build P W s a ready x (progress last < progress s)
+          (λ gs hs l f t e z. let n = facts gs hs l f t e z in omega (arith, n .within));
+      bounds = from-build P W s a ready x (Bounds P X last) (λ gs hs l f t e z.
           let n = facts gs hs l f t e z in
           bounds-pushed P W s r f t e m b X (ready .bounds) (n .site) q (n .is) (n .within) (n .normal));
     }
@@ -380,12 +382,13 @@ stored-pushed P W s a r m b X s′ i j ready x y w used no-eta is-used is-none p
 
 -- a record, its body and a goal, stored one behind another
 pub stored-abstraction :
-    (W : List ℕ) (s : Agenda) (r : StoredGoal) (b W₁ W₂ X : List ℕ) → W₁ ≡ sets W (s .top) (bytes 1 0 []) → W₂ ≡ sets W₁ (s .top + 4) b
-    → X ≡ sets W₂ (s .top + 4 + length b) (storedBytes (storedTarget r (s .top) (s .easy)))
+    (W : List ℕ) (s : Agenda) (r : StoredGoal) (b W₁ W₂ X : List ℕ) → W₁ ≡ sets W (s .top) (recordBytes 1 0 []) → W₂ ≡ sets W₁
+    (s .top + 4) b
+    → X ≡ sets W₂ (s .top + 4 + length b) (storedBytes (storedMatch (r .part) (s .top) (s .easy)))
     → StoredPushed W s r b X (afterStored s r (s .top + 4 + length b))
 stored-abstraction W s r b W₁ W₂ X e f g = record {
   stored = g
-      ∙ ap (λ (l : List ℕ). sets l (s .top + 4 + length b) (storedBytes (storedTarget r (s .top) (s .easy))))
-      (Stores.written-then (bytes 1 0 []) b W W₁ W₂ (s .top) (s .top + 4) e f refl);
+      ∙ ap (λ (l : List ℕ). sets l (s .top + 4 + length b) (storedBytes (storedMatch (r .part) (s .top) (s .easy))))
+      (Stores.written-then (recordBytes 1 0 []) b W W₁ W₂ (s .top) (s .top + 4) e f refl);
   agenda = refl;
 }

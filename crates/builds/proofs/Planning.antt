@@ -14,7 +14,7 @@ use Rattle.terms.specs.Listing.{Line}
 use Rattle.matching.specs.Lists.{Values}
 use Rattle.matching.specs.Goals.{Sweeps, Build, Goal}
 use Rattle.matching.specs.Bodies.{body}
-use Rattle.matching.proofs.Prune.{replaceAll, one-body}
+use Rattle.matching.proofs.Cuts.{replaceAll, one-body}
 use Rattle.matching.proofs.Bodies.{body-all, body-same, body-substitute, copies-size}
 use Rattle.records.specs.Parts.{slice}
 use Rattle.records.proofs.Parts.{whole}
@@ -32,14 +32,14 @@ use Rattle.builds.specs.Choices.{ChosenBody, CopiesAre, Planned}
 use Rattle.builds.specs.Builds.{Builds}
 use Rattle.agenda.specs.Locals.{Locals, Lacks}
 use Rattle.agenda.proofs.Lacking.{all-marks-at, locals-at, lacks-at}
-use Rattle.builds.proofs.Building.{BuildSite, site, opened, from}
+use Rattle.builds.proofs.Building.{BuildSite, build-site, build-opened, from-build}
 
 module _ (P W : List ℕ) (s : Agenda) (a : List Entry) (ready : Ready relinking P W s a) (x : Builds W s) (r : StoredGoal)
     (y : StoredAt W (s .deferred) r) where
   -- the head leaves one body
-  pub comparing : Locals (slice P (r .part)) (slice W (r .argument))
-  comparing = from P W s a ready x (Locals (slice P (r .part)) (slice W (r .argument))) (λ gs hs l f t e z.
-      let v = site P W s a r gs hs l f t e y z in
+  pub build-locals : Locals (slice P (r .part)) (slice W (r .argument))
+  build-locals = from-build P W s a ready x (Locals (slice P (r .part)) (slice W (r .argument))) (λ gs hs l f t e z.
+      let v = build-site P W s a r gs hs l f t e y z in
       let u = v .argument in
       locals-at P (r .part) W (r .argument) (whole P (r .part) f (v .part)) (ready .bounds .short)
       (all-marks-at W (r .argument) (patternRecords - suc (size f)) e (u .part) (omega arith) (u .closed) (omega (arith, u .short))))
@@ -70,21 +70,21 @@ module _ (P W : List ℕ) (s : Agenda) (a : List Entry) (ready : Ready relinking
 
     question : (gs hs : List Goal) (l : Line) → State relinking P W s a gs hs l → (φ : ℕ → Term) → Values φ
         → Sat gs hs l φ ↔ ChosenBody m gs hs l φ
-    question gs hs l = opened P W s a ready x gs l (λ us. (φ : ℕ → Term) → Values φ
+    question gs hs l = build-opened P W s a ready x gs l (λ us. (φ : ℕ → Term) → Values φ
         → Sat gs us l φ ↔ ChosenBody m gs us l φ) (λ f t e us z φ v.
-        let q = forced-body φ v f t e (site P W s a r gs us l f t e y z) in
+        let q = forced-body φ v f t e (build-site P W s a r gs us l f t e y z) in
         (λ p. (p .0, (q .0 (p .1 .0), p .1 .1), p .2), λ p. (p .0, (q .1 (p .1 .0), p .1 .1), p .2))) hs
 
     module _ (X : List ℕ) (c : Branch) (g : Branched P W s a (ChosenBody m) X c) where
-      pub forced-dead : c ≡ Branch.Failed → Planned P W s a X Plan.Failed
+      pub forced-body-failed : c ≡ Branch.Failed → Planned P W s a X Plan.Failed
       unfolding Planned Branched
-      forced-dead n =
+      forced-body-failed n =
           let d : Failed relinking P W s a (ChosenBody m) X = subst (Branched P W s a (ChosenBody m) X) n g in
           record { none = λ gs hs l z φ v p. d .none gs hs l z φ v (question gs hs l z φ v .0 p); kept = d .kept }
 
-      pub forced-live : (s′ : Agenda) → c ≡ Branch.Next s′ → Planned P W s a X (Plan.Next s′)
+      pub forced-body-next : (s′ : Agenda) → c ≡ Branch.Next s′ → Planned P W s a X (Plan.Next s′)
       unfolding Planned Branched
-      forced-live s′ n =
+      forced-body-next s′ n =
           let d : Move relinking P W s a (ChosenBody m) X s′ a = subst (Branched P W s a (ChosenBody m) X) n g in
           record {
             go = λ gs hs l z.
@@ -104,18 +104,18 @@ module _ (P W : List ℕ) (s : Agenda) (a : List Entry) (ready : Ready relinking
 
   -- the bodies are to be gone through
   pub counting : Counting (slice W (r .target)) 0 (slice W (r .argument))
-  counting = from P W s a ready x (Counting (slice W (r .target)) 0 (slice W (r .argument))) (λ gs hs l f t e z.
-      let v = site P W s a r gs hs l f t e y z in
+  counting = from-build P W s a ready x (Counting (slice W (r .target)) 0 (slice W (r .argument))) (λ gs hs l f t e z.
+      let v = build-site P W s a r gs hs l f t e y z in
       counting-at W W (r .target) (r .argument) 0 (whole W (r .target) t (v .target .part)) (whole W (r .argument) e (v .argument .part))
       (omega (arith, ready .bounds .whole)))
 
-  pub bodies : (W′ : List ℕ) (end n : ℕ) → W′ ≡ W → CopiesCounted (slice W (r .target)) 0 (slice W (r .argument)) end n
+  pub bodies-planned : (W′ : List ℕ) (end n : ℕ) → W′ ≡ W → CopiesCounted (slice W (r .target)) 0 (slice W (r .argument)) end n
       → Planned P W s a W′ (Plan.Bodies n)
   unfolding Planned
-  bodies W′ end n same c = (
+  bodies-planned W′ end n same c = (
     same,
-    from P W s a ready x (n ≤ valueRecords) (λ gs hs l f t e z.
-        let v = site P W s a r gs hs l f t e y z in
+    from-build P W s a ready x (n ≤ valueRecords) (λ gs hs l f t e z.
+        let v = build-site P W s a r gs hs l f t e y z in
         omega (
           arith,
           counted-at W W (r .target) (r .argument) 0 end n c t e (v .target .part) (v .argument .part),
@@ -123,7 +123,7 @@ module _ (P W : List ℕ) (s : Agenda) (a : List Entry) (ready : Ready relinking
           v .target .short,
         )),
     λ gs hs l z.
-        opened P W s a ready x gs l (λ us. CopiesAre n us) (λ f t e us u.
-        let v = site P W s a r gs us l f t e y u in
+        build-opened P W s a ready x gs l (λ us. CopiesAre n us) (λ f t e us u.
+        let v = build-site P W s a r gs us l f t e y u in
         counted-at W W (r .target) (r .argument) 0 end n c t e (v .target .part) (v .argument .part)) hs z,
   )

@@ -1,7 +1,6 @@
 -- What the steps of a goal to build need, and what they leave.
 --   Builds W s                  the first deferred goal is one to build, and no easy goal is left
 --   AnyChosen m n r             r says whether one of the first n choices of m is made
---   storedTarget r at n         the goal that the part of r sweeps to the target at byte `at`, the next goal being at byte n
 --   afterStored s r at          the agenda when an easy goal was written at byte `at`, and the goal r was dropped from those deferred
 --   Pushes W s r b              there is room for the abstraction over the body with the table b, and for a goal
 --   StoredPushed W s r b X s′   that abstraction was written at the top, and then the goal that the part of r sweeps to it
@@ -16,38 +15,37 @@ use lib.ListN.{length, getD}
 use lib.Seq.{sets}
 use Rattle.terms.specs.Figures.{tableBytes}
 use Rattle.terms.specs.Term.{Term, lam, substitute, uses}
-use Rattle.terms.specs.Table.{bytes, abstractionKind}
+use Rattle.terms.specs.Table.{recordBytes, abstractionKind}
 use Rattle.matching.specs.Bodies.{Some}
 use Rattle.records.specs.Parts.{Part, Whole}
 use Rattle.records.specs.Tests.{Says}
 use Rattle.abstractions.specs.Bodies.{chosenIn}
 use Rattle.agenda.specs.declared.Agenda.{Agenda}
 use Rattle.agenda.specs.declared.StoredGoal.{StoredGoal}
-use Rattle.agenda.specs.Stored.{storedBytes}
+use Rattle.agenda.specs.State.{goalBytes, matchKind}
+use Rattle.agenda.specs.Stored.{partLimit, storedBytes, storedMatch}
 
 pub record Builds (W : List ℕ) (s : Agenda) : Type 0 where
   pub none-easy : s .easy ≡ 0
   pub some-deferred : 0 < s .deferred
-  pub kind : ¬ (getD W (s .deferred + 1) 0 ≡ 0)
+  pub kind : ¬ (getD W (s .deferred + 1) 0 ≡ matchKind)
 
 pub record AnyChosen (m : List ℕ) (n : ℕ) (r : Bool) : Type 0 where
   pub is : Says r (Some (chosenIn m) 0 n)
 
-abbrev pub storedTarget : StoredGoal → ℕ → ℕ → StoredGoal
-storedTarget r at n = record { part = r .part; kind = 0; target = at; next = n; argument = 0 }
-
 abbrev pub afterStored : Agenda → StoredGoal → ℕ → Agenda
-afterStored s r at = record { top = at + 8; easy = at; deferred = r .next }
+afterStored s r at = record { top = at + goalBytes; easy = at; deferred = r .next }
 
 pub record Pushes (W : List ℕ) (s : Agenda) (r : StoredGoal) (b : List ℕ) : Type 0 where
   pub whole : length W ≡ tableBytes
-  pub room : s .top + 12 + length b ≤ tableBytes
+  pub room : s .top + 4 + goalBytes + length b ≤ tableBytes
   pub easy : s .easy < tableBytes
-  pub part : r .part < 1024
+  pub part : r .part < partLimit
 
 pub record StoredPushed (W : List ℕ) (s : Agenda) (r : StoredGoal) (b : List ℕ) (X : List ℕ) (s′ : Agenda) : Type 0 where
   pub stored :
-      X ≡ sets (sets W (s .top) (bytes abstractionKind 0 b)) (s .top + 4 + length b) (storedBytes (storedTarget r (s .top) (s .easy)))
+      X ≡ sets (sets W (s .top) (recordBytes abstractionKind 0 b)) (s .top + 4 + length b)
+      (storedBytes (storedMatch (r .part) (s .top) (s .easy)))
   pub agenda : s′ ≡ afterStored s r (s .top + 4 + length b)
 
 abbrev pub Solves : Term → Term → Term → Type 0

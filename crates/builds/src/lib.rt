@@ -3,7 +3,7 @@
 // Such a goal asks for a head, an abstraction, that comes to the target with an argument put in: its bodies are the target with some copies
 // of the argument replaced. The crate plans and writes bodies, and tells whether a given head solves the goal. It promises that the agenda
 // it leaves has exactly the assignments of the one before, or of the body that it is for; or that there are none. It rests on `agenda` for
-// goals, on `abstractions` for bodies, and on `matching` for the mathematics.
+// goals, on `abstractions` for bodies, on `shifting` for the test of a given head, and on `matching` for the mathematics.
 //
 // Where the argument uses a local that the head lacks, the one body left is written with every choice made.
 
@@ -27,14 +27,14 @@ ghost use Rattle.builds.specs.Choices.{ChosenBody, Planned};
 ghost use Rattle.agenda.specs.Moves.{Branched};
 ghost use Rattle.builds.specs.Builds.{Builds, AnyChosen, Pushes, StoredPushed, Solving, Solved};
 
-// Writes the abstraction over the body b at the top, and the goal that the part of `goal` sweeps to it; `goal` itself is dropped.
-pub fn push_abstraction(work: &mut [u8], agenda: Agenda, goal: StoredGoal, b: &[u8]) -> Agenda
-    requires { ⌜ Pushes (now work) agenda goal (now b) ⌝ }
-    ensures { λ r. ⌜ StoredPushed (now (work .entry)) agenda goal (now (b .entry)) (now (work .exit)) r ⌝ }
+// Writes the abstraction over the body at the top, and the goal that the part of `goal` sweeps to it; `goal` itself is dropped.
+pub fn push_abstraction(work: &mut [u8], agenda: Agenda, goal: StoredGoal, body: &[u8]) -> Agenda
+    requires { ⌜ Pushes (now work) agenda goal (now body) ⌝ }
+    ensures { λ r. ⌜ StoredPushed (now (work .entry)) agenda goal (now (body .entry)) (now (work .exit)) r ⌝ }
 {
     records::put_record(work, agenda.top, Kind::ABSTRACTION, 0);
-    copying::copy_into(b, work, agenda.top + RECORD);
-    let easy = agenda.top + RECORD + b.len();
+    copying::copy_into(body, work, agenda.top + RECORD);
+    let easy = agenda.top + RECORD + body.len();
     let target = StoredGoal {
         part: goal.part,
         kind: StoredGoal::MATCH,

@@ -1,6 +1,6 @@
 // Bytes copied and compared.
 //
-// The two loops over bytes that every layer needs: a table copied into another one, and two tables compared. The crate promises that
+// The two loops over bytes that many layers need: a table copied into another one, and two tables compared. The crate promises that
 // nothing but the copied bytes changes, and that the answer says whether the tables are equal. It rests on nothing.
 
 ghost use mathlib.Core.Path.{_≡_};

@@ -41,7 +41,7 @@ use Rattle.agenda.specs.declared.Agenda.{Agenda}
 use Rattle.agenda.specs.declared.Decision.{Decision}
 use Rattle.agenda.specs.declared.StoredGoal.{StoredGoal}
 use Rattle.agenda.specs.Stored.{StoredAt}
-use Rattle.agenda.specs.State.{GoalAt, State, Sat, Bounds, Ready, Target, Easy, Deferred, Chain, weights, relinking}
+use Rattle.agenda.specs.State.{goalBytes, GoalAt, State, Sat, Bounds, Ready, Target, Easy, Deferred, Chain, weights, relinking}
 use Rattle.agenda.specs.Moves.{Move, Moved, Failed, Decided}
 use Rattle.builds.specs.Builds.{Solving, Solved}
 use Rattle.deciding.specs.Deciding.{HasEntries, OpenAt, AllAssigned, Comparing, FormCompared}
@@ -93,8 +93,8 @@ module _ (W : List ℕ) (r : StoredGoal) (b : List ℕ) (x : Comparing W r b) wh
       go false c x t e f = λ z. c (e ∙ ap encode z ∙ sym f)
 
   module _ (n : ¬ (r .kind ≡ 0)) where
-    pub argument-within : r .argument ≤ length W
-    argument-within = omega (arith, x .argument n .least)
+    pub deferred-argument-within : r .argument ≤ length W
+    deferred-argument-within = omega (arith, x .argument n .least)
 
     pub solving-swept : Solving b (slice W (r .argument)) (slice W (r .target))
     solving-swept = record {
@@ -143,23 +143,25 @@ module _ (P W : List ℕ) (s : Agenda) (a : List Entry) (ready : Ready relinking
   abbrev pub GoalOpened : List Goal → Line → Goal → List Goal → Type 0
   GoalOpened gs l g hs = State relinking P W s a gs (g ∷ hs) l
 
-  pub opened : (gs : List Goal) (l : Line) (Q : List Goal → Type 0) → ((g : Goal) (hs : List Goal) → GoalOpened gs l g hs → Q (g ∷ hs))
+  pub deferred-opened : (gs : List Goal) (l : Line) (Q : List Goal → Type 0)
+      → ((g : Goal) (hs : List Goal) → GoalOpened gs l g hs → Q (g ∷ hs))
       → (hs : List Goal) → State relinking P W s a gs hs l → Q hs
-  opened gs l Q h [] x = absurd (omega (arith, deferred, x .deferred))
-  opened gs l Q h (g ∷ hs) x = h g hs x
+  deferred-opened gs l Q h [] x = absurd (omega (arith, deferred, x .deferred))
+  deferred-opened gs l Q h (g ∷ hs) x = h g hs x
 
-  pub from : (A : Type 0) → ((gs hs : List Goal) (l : Line) (g : Goal) → GoalOpened gs l g hs → A) → A
-  from A h = opened (ready .gs) (ready .line) (λ _. A) (λ g hs x. h (ready .gs) hs (ready .line) g x) (ready .hs) (ready .state)
+  pub from-deferred : (A : Type 0) → ((gs hs : List Goal) (l : Line) (g : Goal) → GoalOpened gs l g hs → A) → A
+  from-deferred A h =
+      deferred-opened (ready .gs) (ready .line) (λ _. A) (λ g hs x. h (ready .gs) hs (ready .line) g x) (ready .hs) (ready .state)
 
   pub put : (g : Goal) → GoalAt P W (s .top) (s .deferred) g → GoalPart P r g
   put (match p t) x = record { part = subst (λ (i : ℕ). Part P i p) (sym (y .part)) (x .part); below = x .suits .0 .0 }
   put (build f t e) x = record { part = subst (λ (i : ℕ). Part P i f) (sym (y .part)) (x .part); below = x .suits .0 .0 }
 
   part-whole : Whole P (r .part)
-  part-whole = from (Whole P (r .part)) (λ gs hs l g x. whole P (r .part) (partOf g) (put g (x .deferred .0 .goal) .part))
+  part-whole = from-deferred (Whole P (r .part)) (λ gs hs l g x. whole P (r .part) (partOf g) (put g (x .deferred .0 .goal) .part))
 
-  pub part-place : r .part ≤ length P
-  part-place = omega (arith, part-whole .least)
+  pub deferred-part-within : r .part ≤ length P
+  deferred-part-within = omega (arith, part-whole .least)
 
   pub walkable : Whole (slice P (r .part)) 0 × (patternRecords + length (slice P (r .part)) ≤ tableBytes)
   walkable = (whole-slice P (r .part) part-whole, omega (arith, ready .bounds .short, slice-length P (r .part)))
@@ -198,8 +200,8 @@ module _ (P W : List ℕ) (s : Agenda) (a : List Entry) (ready : Ready relinking
           argument = λ d. whole W (r .argument) w (stands (suc (size u)) (r .argument) _ w (y .argument) (k .argument));
         }
 
-    pub comparing : Comparing W r b
-    comparing = from (Comparing W r b) comparable
+    pub deferred-comparing : Comparing W r b
+    deferred-comparing = from-deferred (Comparing W r b) comparable
 
     module _ (u : Bool) (m : FormCompared W r b u) where
       says-same : (A B : Type 0) (i : Bool) → B ↔ A → Says i A → Says i B
@@ -219,10 +221,10 @@ module _ (P W : List ℕ) (s : Agenda) (a : List Entry) (ready : Ready relinking
           (stands (suc (size p)) (r .argument) _ e (y .argument) (c .argument))
           (stands (suc (size p)) (r .target) _ t (y .target) (c .target)))
 
-      pub decided-dead : u ≡ false → Decided relinking P W s a W Decision.Failed
+      pub known-failed : u ≡ false → Decided relinking P W s a W Decision.Failed
       unfolding Decided
-      decided-dead false-is = record {
-        none = λ gs hs l z φ v. opened gs l (λ us. ¬ Sat gs us l φ) (λ g us x k.
+      known-failed false-is = record {
+        none = λ gs hs l z φ v. deferred-opened gs l (λ us. ¬ Sat gs us l φ) (λ g us x k.
             subst (λ (i : Bool). Says i (Meets g φ)) false-is (verdict gs us l g x φ v (k .2)) (k .1 .0)) hs z;
         kept = refl;
       }
@@ -237,14 +239,14 @@ module _ (P W : List ℕ) (s : Agenda) (a : List Entry) (ready : Ready relinking
         to = omega (arith, ready .bounds .whole, ready .bounds .top);
       }
 
-      spare : (gs hs : List Goal) (g : Goal) → s .top + weights 8 gs + weights 0 (g ∷ hs) ≤ tableBytes + relinking
-          → s .top + 4 + weights 8 gs + weights 0 hs ≤ tableBytes
+      spare : (gs hs : List Goal) (g : Goal) → s .top + weights goalBytes gs + weights 0 (g ∷ hs) ≤ tableBytes + relinking
+          → s .top + 4 + weights goalBytes gs + weights 0 hs ≤ tableBytes
       spare gs hs (match p t) x = omega (arith, x, size-pos p)
       spare gs hs (build f t e) x = omega (arith, x, size-pos f)
 
       move : u ≡ true → Move relinking P W s a Sat W next a
       move true-is = record {
-        go = λ gs hs l. opened gs l (λ us. Moved P W next a (Sat gs us l)) (λ g us x.
+        go = λ gs hs l. deferred-opened gs l (λ us. Moved P W next a (Sat gs us l)) (λ g us x.
             record {
               gs = gs;
               hs = us;
@@ -280,18 +282,18 @@ module _ (P W : List ℕ) (s : Agenda) (a : List Entry) (ready : Ready relinking
       }
         where
           top-low : s .top + 4 ≤ tableBytes
-          top-low = from (s .top + 4 ≤ tableBytes) (λ gs hs l g x. omega (arith, spare gs hs g (x .room)))
+          top-low = from-deferred (s .top + 4 ≤ tableBytes) (λ gs hs l g x. omega (arith, spare gs hs g (x .room)))
 
           next-low : (r .next < s .deferred) × (r .next % 4 ≡ 0)
-          next-low = from ((r .next < s .deferred) × (r .next % 4 ≡ 0))
+          next-low = from-deferred ((r .next < s .deferred) × (r .next % 4 ≡ 0))
               (λ gs hs l g x. (omega (arith, y .next, x .deferred .0 .falls), omega (arith, y .next)))
 
-      pub decided-live : u ≡ true
+      pub known-next : u ≡ true
           → Decided relinking P W s a W (Decision.Next (record { top = s .top + 4; easy = s .easy; deferred = r .next }))
       unfolding Decided
-      decided-live true-is = move true-is
+      known-next true-is = move true-is
 
 -- the test doesn't apply
-pub decided-open : (P W : List ℕ) (s : Agenda) (a : List Entry) → Decided relinking P W s a W Decision.Open
+pub undecided : (P W : List ℕ) (s : Agenda) (a : List Entry) → Decided relinking P W s a W Decision.Open
 unfolding Decided
-decided-open P W s a = refl
+undecided P W s a = refl

@@ -22,10 +22,10 @@ use Rattle.matching.proofs.Lines.{extends-entry}
 use Rattle.matching.proofs.Partial.{totalOf}
 use Rattle.matching.proofs.Targets.{closed-more}
 use Rattle.matching.proofs.Skeletons.{fits-exact}
-use Rattle.matching.proofs.Prune.{fits-abstraction}
+use Rattle.matching.proofs.Cuts.{fits-abstraction}
 use Rattle.records.specs.Parts.{slice, Part, Whole, Ends, Tree}
 use Rattle.records.specs.Tests.{Says, Tells, Asks, Walked}
-use Rattle.records.specs.declared.Ask.the-variants.{Below as BelowAsk}
+use Rattle.records.specs.declared.Ask.the-variants.{Bound}
 use Rattle.records.specs.declared.Walk.{Walk}
 use Rattle.records.specs.declared.Walk.the-variants.{Upto}
 use Rattle.records.proofs.Parts.{part-bytes, whole, at-start, kind-at}
@@ -38,7 +38,7 @@ use Rattle.assignments.specs.Held.{Holds}
 use Rattle.skeletons.specs.Skeleton.{GivenValues, SkeletonInput, IsSkeleton, WritesSkeleton, SkeletonComparable, MayBe, SkeletonApplicable}
 use Rattle.skeletons.specs.Skeleton.{MayBuild}
 use Rattle.skeletons.specs.Contracted.{Exact}
-use Rattle.skeletons.proofs.Comparison.{comparable-at, may-be-at}
+use Rattle.skeletons.proofs.Comparison.{skeleton-comparable-at, may-be-at}
 use Rattle.skeletons.proofs.Applying.{may-build-at}
 use Rattle.agenda.specs.declared.Agenda.{Agenda}
 use Rattle.agenda.specs.declared.Decision.{Decision}
@@ -47,7 +47,7 @@ use Rattle.agenda.specs.Stored.{StoredAt}
 use Rattle.agenda.specs.State.{GoalAt, Sat, Bounds, Ready, relinking}
 use Rattle.agenda.specs.Moves.{Decided}
 use Rattle.deciding.specs.Refuting.{SkeletonSource, Prefix, PartSkeleton, Judges, SkeletonRefuses, Possible}
-use Rattle.deciding.proofs.Decisions.{held-given, partOf, GoalOpened, opened, from, put, SweptForm}
+use Rattle.deciding.proofs.Decisions.{held-given, partOf, GoalOpened, deferred-opened, from-deferred, put, SweptForm}
 
 -- the values of the variables that are assigned
 module _ (P W : List ℕ) (s : Agenda) (a : List Entry) (l : Line) (bounds : Bounds P W s) (h : Holds W (s .top) a l) (t : Term) where
@@ -74,10 +74,10 @@ module _ (l W : List ℕ) (a : List Entry) (x : SkeletonSource l W a) where
     is-skeleton = λ t p φ v g. tt;
   }
 
-  module _ (w : Walk) (k : Walked l 0 (Asks BelowAsk patternRecords) w) (end : ℕ) (e : w ≡ Upto end) where
-    walked-upto : Ends l 0 end × ((t : Term) → Part l 0 t → Asks BelowAsk patternRecords t)
+  module _ (w : Walk) (k : Walked l 0 (Asks Bound patternRecords) w) (end : ℕ) (e : w ≡ Upto end) where
+    walked-upto : Ends l 0 end × ((t : Term) → Part l 0 t → Asks Bound patternRecords t)
     unfolding Walked
-    walked-upto = subst (Walked l 0 (Asks BelowAsk patternRecords)) e k
+    walked-upto = subst (Walked l 0 (Asks Bound patternRecords)) e k
 
     pub part-ends : Ends l 0 end
     part-ends = walked-upto .0
@@ -154,7 +154,7 @@ module _ (c : List ℕ) (n : ℕ) (k : Prefix c n) where
   pub skeleton-comparable : (X : List ℕ) (at : ℕ) → Whole X at → length X ≤ tableBytes
       → SkeletonComparable (take (n - 0) (drop 0 c)) (slice X at)
   skeleton-comparable X at w m =
-      comparable-at (take (n - 0) (drop 0 c)) X at (whole (take (n - 0) (drop 0 c)) 0 (k .tree) skeleton-part) w
+      skeleton-comparable-at (take (n - 0) (drop 0 c)) X at (whole (take (n - 0) (drop 0 c)) 0 (k .tree) skeleton-part) w
       (omega (arith, skeleton-length)) (omega (arith, m))
 
 -- whether a goal is possible
@@ -167,8 +167,8 @@ module _ (c W : List ℕ) (r : StoredGoal) where
   unfolding Possible
   refused x = x
 
-  pub target-place : Judges c W r → r .target ≤ length W
-  target-place x = omega (arith, x .target .term .least, slice-length W (r .target))
+  pub judged-target-within : Judges c W r → r .target ≤ length W
+  judged-target-within x = omega (arith, x .target .term .least, slice-length W (r .target))
 
   pub possible-match : r .kind ≡ 0 → (b : Bool) → MayBe c (slice W (r .target)) b → Possible c W r b
   possible-match z true m = possible
@@ -181,8 +181,8 @@ module _ (c W : List ℕ) (r : StoredGoal) where
       builds = λ _ x e t b p _ _ f. absurd (let k = kind-at c 0 x p in o (k ∙ fits-abstraction x b f (λ q. h (k ∙ q))));
     })
 
-    pub argument-place : Judges c W r → r .argument ≤ length W
-    argument-place x = let p = x .both d .part in omega (arith, p .some, p .within, slice-length W (r .argument))
+    pub judged-argument-within : Judges c W r → r .argument ≤ length W
+    judged-argument-within x = let p = x .both d .part in omega (arith, p .some, p .within, slice-length W (r .argument))
 
     pub possible-build : (b : Bool) → MayBuild c (slice W (r .argument)) (slice W (r .target)) b → Possible c W r b
     possible-build true m = possible
@@ -195,13 +195,13 @@ module _ (c W : List ℕ) (r : StoredGoal) where
 module _ (P W : List ℕ) (s : Agenda) (a : List Entry) (ready : Ready relinking P W s a) (deferred : 0 < s .deferred) (r : StoredGoal)
     (y : StoredAt W (s .deferred) r) where
   pub part-source : SkeletonSource (slice P (r .part)) W a
-  part-source = from P W s a ready deferred r y (SkeletonSource (slice P (r .part)) W a) (λ gs hs l g x.
+  part-source = from-deferred P W s a ready deferred r y (SkeletonSource (slice P (r .part)) W a) (λ gs hs l g x.
       let v = put P W s a ready deferred r y g (x .deferred .0 .goal) in
       source-at P (r .part) W a (partOf g) (v .part) (ready .bounds .short) (v .below) (totalOf l)
       (line-values P W s a l (ready .bounds) (x .entries) (partOf g)))
 
   pub goal-target : Whole W (r .target)
-  goal-target = from P W s a ready deferred r y (Whole W (r .target)) (λ gs hs l g x. go g (x .deferred .0 .goal))
+  goal-target = from-deferred P W s a ready deferred r y (Whole W (r .target)) (λ gs hs l g x. go g (x .deferred .0 .goal))
     where
       go : (g : Goal) → GoalAt P W (s .top) (s .deferred) g → Whole W (r .target)
       go (match p t) x = whole W (r .target) t (subst (λ (i : ℕ). Part W i t) (sym (y .target)) (x .target .part))
@@ -211,7 +211,7 @@ module _ (P W : List ℕ) (s : Agenda) (a : List Entry) (ready : Ready relinking
     pub judges : Judges (take (n - 0) (drop 0 c)) W r
     judges = record {
       target = skeleton-comparable c n (k .table) W (r .target) goal-target (omega (arith, ready .bounds .whole));
-      both = λ d. from P W s a ready deferred r y Applicable (λ gs hs l g x. go d g (x .deferred .0 .goal));
+      both = λ d. from-deferred P W s a ready deferred r y Applicable (λ gs hs l g x. go d g (x .deferred .0 .goal));
     }
       where
         Applicable : Type 0
@@ -261,7 +261,7 @@ module _ (P W : List ℕ) (s : Agenda) (a : List Entry) (ready : Ready relinking
     decided-refused b p e =
         let q : Possible (take (n - 0) (drop 0 c)) W r false = subst (Possible (take (n - 0) (drop 0 c)) W r) e p in
         record {
-          none = λ gs hs l z φ v. opened P W s a ready deferred r y gs l (λ us. ¬ Sat gs us l φ)
+          none = λ gs hs l z φ v. deferred-opened P W s a ready deferred r y gs l (λ us. ¬ Sat gs us l φ)
               (λ g us x o. unmet q gs us l g x φ (fits-part gs us l g x φ v (o .2)) (o .1 .0)) hs z;
           kept = refl;
         }

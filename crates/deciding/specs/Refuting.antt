@@ -19,6 +19,7 @@ use Rattle.assignments.specs.declared.Entry.{Entry}
 use Rattle.sweeping.specs.Swept.{sweptBytes}
 use Rattle.skeletons.specs.Skeleton.{GivenValues, IsSkeleton, SkeletonComparable, SkeletonApplicable}
 use Rattle.agenda.specs.declared.StoredGoal.{StoredGoal}
+use Rattle.agenda.specs.State.{matchKind}
 
 pub record SkeletonSource (l W : List ℕ) (a : List Entry) : Type 0 where
   pub tree : Term
@@ -42,12 +43,12 @@ pub record PartSkeleton (l W : List ℕ) (a : List Entry) (c : List ℕ) (n : �
 
 pub record Judges (c W : List ℕ) (r : StoredGoal) : Type 0 where
   pub target : SkeletonComparable c (slice W (r .target))
-  pub both : ¬ (r .kind ≡ 0) → SkeletonApplicable c (slice W (r .argument)) (slice W (r .target))
+  pub both : ¬ (r .kind ≡ matchKind) → SkeletonApplicable c (slice W (r .argument)) (slice W (r .target))
 
 pub record SkeletonRefuses (c W : List ℕ) (r : StoredGoal) : Type 0 where
-  pub matches : r .kind ≡ 0 → (x t : Term) → Part c 0 x → Part W (r .target) t → ¬ Fits x t
+  pub matches : r .kind ≡ matchKind → (x t : Term) → Part c 0 x → Part W (r .target) t → ¬ Fits x t
   pub builds :
-      ¬ (r .kind ≡ 0) → (x e t b : Term) → Part c 0 x → Part W (r .argument) e → Part W (r .target) t → Fits x (lam b)
+      ¬ (r .kind ≡ matchKind) → (x e t b : Term) → Part c 0 x → Part W (r .argument) e → Part W (r .target) t → Fits x (lam b)
       → ¬ (substitute 0 e b ≡ t)
 
 unfoldable pub Possible : List ℕ → List ℕ → StoredGoal → Bool → Type 0

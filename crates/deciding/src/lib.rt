@@ -3,8 +3,8 @@
 // While variables are open, the skeleton of a goal's part shows what its swept form has for certain. A skeleton without a hole is the swept
 // form, and decides the goal; one with a hole may still refuse it. The crate finds the skeleton of a goal's part, and decides the first
 // deferred goal or leaves it to the search. It promises that the agenda it leaves has exactly the assignments of the one before, or that
-// there are none. It rests on `agenda` for goals, on `skeletons` for what is known of a part, and on `builds` to tell whether a head solves
-// a goal to build.
+// there are none. It rests on `agenda` for goals, on `skeletons` for what is known of a part, on `builds` to tell whether a head solves a
+// goal to build, and on `matching` for what a known part decides.
 //
 // A goal whose part's skeleton has no hole is decided at once: no way is tried and no body is gone through. That is so where no variable is
 // open, and where the value of an assigned variable drops the open ones. Sweeping needs locals of small numbers; a state doesn't say that
@@ -24,7 +24,7 @@ use records::Walk;
 use sweeping::SWEPT_BYTES;
 ghost use Rattle.terms.specs.Figures.{patternRecords};
 ghost use Rattle.records.specs.Tests.{Asks, Walked};
-ghost use Rattle.records.specs.declared.Ask.the-variants.{Below};
+ghost use Rattle.records.specs.declared.Ask.the-variants.{Bound};
 ghost use Rattle.deciding.specs.Refuting.{SkeletonSource, PartSkeleton, Judges, Possible};
 ghost use Prim.Native.Nat.{_+_, _*_, _<_, _≤_};
 ghost use lib.ListN.{length};
@@ -36,7 +36,7 @@ ghost use Rattle.deciding.specs.Deciding.{HasEntries, OpenAt, AllAssigne
 // The skeleton of the part that `part` begins with. The locals of a part are few, so that those of its skeleton have numbers that a record
 // holds; `walk` says so with the part's length, and if it weren't so, the skeleton would be a hole.
 pub fn skeleton_of(part: &[u8], walk: Walk, work: &[u8], entries: [Entry; VARIABLES]) -> Skeleton
-    requires { ⌜ SkeletonSource (now part) (now work) entries × Walked (now part) 0 (Asks Below patternRecords) walk ⌝ }
+    requires { ⌜ SkeletonSource (now part) (now work) entries × Walked (now part) 0 (Asks Bound patternRecords) walk ⌝ }
     ensures { λ r. ⌜ PartSkeleton (now (part .entry)) (now (work .entry)) entries (r .bytes) (r .length) ⌝ }
 {
     let mut bytes = [0u8; SWEPT_BYTES];
@@ -132,7 +132,7 @@ pub fn decide(pattern: &[u8], work: &[u8], agenda: Agenda, entries: [Entry; VARI
     let goal = agenda::goal_at(work, agenda.deferred);
     let i = goal.part;
     let part = &pattern[i..];
-    let walk = records::ask_part(part, Ask::Below, PATTERN_RECORDS);
+    let walk = records::ask_part(part, Ask::Bound, PATTERN_RECORDS);
     let skeleton = skeleton_of(part, walk, work, entries);
     let c = skeleton.bytes;
     let n = skeleton.length;

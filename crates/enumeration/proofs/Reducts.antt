@@ -18,8 +18,8 @@ use Rattle.enumeration.specs.Written.{ListingOf, Enumerated}
 use Rattle.enumeration.specs.Steps.{ListTables}
 
 module _ (p q : List ℕ) (a : Pattern p) (e : q ≡ encode (reduct (a .tree))) where
-  pattern : length q ≤ 4 * patternRecords → Pattern q
-  pattern h = record {
+  reduct-pattern : length q ≤ 4 * patternRecords → Pattern q
+  reduct-pattern h = record {
     tree = reduct (a .tree);
     table = (e, reduct-closed 0 (a .tree) (a .table .1));
     below = reduct-below variables (a .tree) (a .below);
@@ -28,7 +28,7 @@ module _ (p q : List ℕ) (a : Pattern p) (e : q ≡ encode (reduct (a .tree))) 
 
   pub listable : length q ≤ 4 * patternRecords → (t l s w : List ℕ) → ListTables p t l s w → ListTables q t l s w
   listable h t l s w x = record {
-    pattern-checked = pattern h;
+    pattern-checked = reduct-pattern h;
     recipe-checked = x .recipe-checked;
     lines-most = x .lines-most;
     values-most = x .values-most;

@@ -1,8 +1,8 @@
 -- A search decides whether the full listing has room, and what it has written becomes that listing once it is in order. Lines that list the
 -- matches are those of the one full listing in some order, so that their number and their records are its own. Assumes nothing.
 use mathlib.Core.Path.{_≡_, refl, sym, ap, ap₂, _∙_, subst, subst₂}
-use mathlib.Core.List.{List, [], _∷_, _++_}
-use mathlib.Core.Logic.{_⊎_, inl, inr, ⊎-elim}
+use mathlib.Core.List.{List, _++_}
+use mathlib.Core.Logic.{inl, inr}
 use Prim.Native.Nat.{ℕ, _+_, _-_, _*_, _≤_, _<_}
 use native.Mathlib.Omega.{arith}
 use lib.ListN.{length, take, drop}
@@ -11,10 +11,10 @@ use Rattle.terms.specs.Figures.{variables}
 use Rattle.terms.specs.Term.{Term, Occurs}
 use Rattle.terms.specs.Listing.{In, Line, Full}
 use Rattle.terms.specs.Layout.{lineValueRecords, lineTable, valuesRecords, valueTable}
-use Rattle.terms.specs.Refusal.{Passed, OccursIn, listing}
+use Rattle.terms.specs.Refusal.{Passed, OccursIn, listingRows}
 use Rattle.terms.specs.Members.{Distinct}
 use Rattle.terms.proofs.Table.{encode-one}
-use Rattle.terms.proofs.Order.{sort, rising-same}
+use Rattle.terms.proofs.Order.{sort, rising-same, found-total}
 use Rattle.matching.specs.Lists.{Predicate, Lists}
 use Rattle.matching.specs.Goals.{Sweeps}
 use Rattle.matching.proofs.Lists.{lists-more}
@@ -23,10 +23,10 @@ use Rattle.matching.proofs.Partial.{lists-full}
 use Rattle.matching.proofs.Listing.{full-sort}
 use Rattle.records.specs.Checks.{Pattern, Recipe}
 use Rattle.listing.specs.declared.Tally.{Tally}
-use Rattle.listing.specs.Outcome.{Outcome, outcome, Tables}
+use Rattle.listing.specs.Outcome.{Outcome, noneFound, outcome, Tables}
 use Rattle.arranging.specs.Arranged.{InLineOrder, Arranges, Arranged}
 use Rattle.listing.proofs.Stores.{stores-count, stores-records, stores-lengths, stores-begin, line-table-length, value-table-length}
-use Rattle.search.specs.Collected.{Tallied, nothing, Collected}
+use Rattle.search.specs.Collected.{Tallied, Collected}
 use Rattle.refusals.specs.declared.Refusal.{Refusal}
 use Rattle.refusals.specs.Judged.{number}
 use Rattle.enumeration.specs.declared.ListAnswer.{ListAnswer}
@@ -37,29 +37,11 @@ use Rattle.enumeration.specs.Steps.{ListTables, Copyable, Copied, Copied
 pub record Room (p t l s : List ℕ) : Type 0 where
   pub lines : List Line
   pub listing-of : ListingOf p t lines
-  pub fits : Passed (listing (lentLines l) (lentRecords s) lines)
+  pub fits : Passed (listingRows (lentLines l) (lentRecords s) lines)
 
 -- lines that are found, none twice, have no more records than all
-without :
-    (l : Line) (ms : List Line) → In l ms
-    → (rs : List Line) × (valuesRecords ms ≡ lineValueRecords l + valuesRecords rs) × ((x : Line) → In x ms → (x ≡ l) ⊎ In x rs)
-without l (m ∷ ms) (inl p) = (
-  ms,
-  ap (λ (k : Line). lineValueRecords k + valuesRecords ms) (sym p),
-  λ x q. ⊎-elim (λ e. inl (e
-      ∙ sym p)) inr q,
-)
-without l (m ∷ ms) (inr p) =
-    let r = without l ms p in
-    (m ∷ r .0, omega (arith, r .1), λ x q. ⊎-elim (λ e. inr (inl e)) (λ e. ⊎-elim inl (λ z. inr (inr z)) (r .2 x e)) q)
-
 found-records : (ls ms : List Line) → Distinct ls → ((x : Line) → In x ls → In x ms) → valuesRecords ls ≤ valuesRecords ms
-found-records [] ms h f = omega arith
-found-records (l ∷ ls) ms h f =
-    let r = without l ms (f l (inl refl)) in
-    let g : (x : Line) → In x ls → In x (r .0) =
-    λ x p. ⊎-elim (λ e. absurd (h .0 (subst (λ y. In y ls) e p))) (λ z. z) (r .2 x (f x (inr p))) in
-    omega (arith, r .1, found-records ls (r .0) (h .1) g)
+found-records = found-total lineValueRecords valuesRecords refl (λ l ls. refl)
 
 lists-records : (n : ℕ) (S : ℕ → Type 0) (Q : Predicate) (ls ms : List Line) → Lists n S Q ls → Lists n S Q ms
     → valuesRecords ls ≡ valuesRecords ms
@@ -99,7 +81,7 @@ module _ (p t : List ℕ) (a : Pattern p) (b : Recipe t) where
 
   -- a search with any tables, whose limit is at most the lines that are lent
   module _ (m₀ q₀ : List ℕ) (limit : ℕ) (m q : List ℕ) (n : Tally) (c : Collected p t limit m₀ q₀ m q n) where
-    tallied : Tallied p (Sweeps x y) limit (outcome m₀ q₀ nothing) (outcome m q n)
+    tallied : Tallied p (Sweeps x y) limit (outcome m₀ q₀ noneFound) (outcome m q n)
     tallied = c .answer x y (a .table .0) (b .table .0)
 
     abbrev found : List Line
@@ -127,10 +109,10 @@ module _ (p t : List ℕ) (a : Pattern p) (b : Recipe t) where
 
     module _ (h : n .lines ≤ limit) where
       lines-are : n .lines ≡ length found
-      lines-are = omega (arith, ap (λ (o : Outcome). o .count) (tallied .exact h), stores-count (outcome m₀ q₀ nothing) found)
+      lines-are = omega (arith, ap (λ (o : Outcome). o .count) (tallied .exact h), stores-count (outcome m₀ q₀ noneFound) found)
 
       records-are : n .records ≡ valuesRecords found
-      records-are = omega (arith, ap (λ (o : Outcome). o .records) (tallied .exact h), stores-records (outcome m₀ q₀ nothing) found)
+      records-are = omega (arith, ap (λ (o : Outcome). o .records) (tallied .exact h), stores-records (outcome m₀ q₀ noneFound) found)
 
       module _ (l s : List ℕ) (e : limit ≤ lentLines l) where
         suffice : ¬ (lentLines l < length order)
@@ -144,8 +126,8 @@ module _ (p t : List ℕ) (a : Pattern p) (b : Recipe t) where
           refl,
         )
 
-        room : n .records ≤ lentRecords s → Room p t l s
-        room k = record { lines = order; listing-of = ordered; fits = (suffice, (λ j. omega (arith, records-are, order-records), tt)) }
+        fits-room : n .records ≤ lentRecords s → Room p t l s
+        fits-room k = record { lines = order; listing-of = ordered; fits = (suffice, (λ j. omega (arith, records-are, order-records), tt)) }
 
       -- what it has written, where all lines fit
       module _ (i : 4 * variables * n .lines ≤ length m₀) (j : 4 * n .records ≤ length q₀) where
@@ -156,7 +138,7 @@ module _ (p t : List ℕ) (a : Pattern p) (b : Recipe t) where
 
         lengths : (length m ≡ length m₀) × (length q ≡ length q₀)
         lengths =
-            let n = stores-lengths (outcome m₀ q₀ nothing) found in (
+            let n = stores-lengths (outcome m₀ q₀ noneFound) found in (
               ap (λ (o : Outcome). length (o .lines)) (tallied .exact h) ∙ n .0,
               ap (λ (o : Outcome). length (o .values)) (tallied .exact h) ∙ n .1,
             )
@@ -217,7 +199,7 @@ module _ (p t : List ℕ) (a : Pattern p) (b : Recipe t) where
           → (n .records ≤ lentRecords s → 4 * n .records ≤ length q₀)
           → (a : ListAnswer) (m′ q′ : List ℕ) → CopiedIf n m q l s a m′ q′ → Enumerated p t l s a m′ q′
       unfolding CopiedIf Enumerated
-      answered l s e i j (ListAnswer.Lines k) m′ q′ z = written-copied l s (room l s e (z .1)) i (j (z .1)) k (z .0) m′ q′ (z .2)
+      answered l s e i j (ListAnswer.Lines k) m′ q′ z = written-copied l s (fits-room l s e (z .1)) i (j (z .1)) k (z .0) m′ q′ (z .2)
       answered l s e i j (ListAnswer.Refused c) m′ q′ z =
           (subst (λ (d : Refusal). NoRoom p t l s (number d)) (sym (z .0)) (no-records l s e (z .1) .0), z .2, z .3)
 

@@ -12,7 +12,7 @@ use Rattle.terms.specs.Term.{Term}
 use Rattle.terms.specs.Table.{IsTable}
 use Rattle.terms.specs.Listing.{Line, Full}
 use Rattle.terms.specs.Layout.{lineTable, valueTable}
-use Rattle.terms.specs.Refusal.{Refused, Passed, listing}
+use Rattle.terms.specs.Refusal.{Refused, Passed, listingRows}
 use Rattle.refusals.specs.Judged.{number}
 use Rattle.refusals.specs.Lent.{overwritten}
 use Rattle.enumeration.specs.declared.ListAnswer.{ListAnswer}
@@ -37,7 +37,7 @@ pub record ListingOf (p r : List ℕ) (ls : List Line) : Type 0 where
 pub record WrittenLines (p r l s : List ℕ) (n : ℕ) (lines-after values-after : List ℕ) : Type 0 where
   pub lines : List Line
   pub listing-of : ListingOf p r lines
-  pub room : Passed (listing (lentLines l) (lentRecords s) lines)
+  pub room : Passed (listingRows (lentLines l) (lentRecords s) lines)
   pub count : n ≡ length lines
   pub line-bytes : lines-after ≡ overwritten (lineTable 0 lines) l
   pub value-bytes : values-after ≡ overwritten (valueTable lines) s
@@ -46,7 +46,7 @@ pub record WrittenLines (p r l s : List ℕ) (n : ℕ) (lines-after values-after
 pub record NoRoom (p r l s : List ℕ) (k : ℕ) : Type 0 where
   pub lines : List Line
   pub listing-of : ListingOf p r lines
-  pub cause : Refused (listing (lentLines l) (lentRecords s) lines) k
+  pub cause : Refused (listingRows (lentLines l) (lentRecords s) lines) k
 
 unfoldable pub Enumerated : List ℕ → List ℕ → List ℕ → List ℕ → ListAnswer → List ℕ → List ℕ → Type 0
 Enumerated p r l s (ListAnswer.Lines n) lines-after values-after = WrittenLines p r l s n lines-after values-after

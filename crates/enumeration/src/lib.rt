@@ -3,16 +3,16 @@
 // A search writes what it finds to tables of its own, so that a listing without room is refused before anything is written; from there the
 // lines and their values are copied, and brought into document 01's order. The first search has room for a short listing and stops where
 // there are more lines; for a longer one a second search has as much room as can be lent. It promises, of tables that passed the checks,
-// that a full listing is written or that none has room. It rests on `reducts` and `search` for the lines, and on `arranging` for their
-// order.
+// that a full listing is written or that none has room. It rests on `reducts` and `search` for the lines, on `arranging` for their order,
+// and on `matching` for why that is the full listing.
 //
 // A refusal 9 or 10 leaves all tables as they were, so that lines have to be counted before one is written to those that are lent. Counting
 // first and then searching again into the lent tables took twice the time on most cases of the benchmark; room for all at once would cost
 // every call the clearing of 128 KB. So the first search has room for 128 lines and 8,192 records, and only a longer listing takes the
 // second, with 128 KB on the stack. A station with a smaller stack would change that.
 
-use assignments::LINE;
 use listing::Tally;
+use records::LINE;
 use records::RECORD;
 use records::TABLE_BYTES;
 use reducts::PATTERN_BYTES;

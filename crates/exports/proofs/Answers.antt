@@ -1,7 +1,7 @@
 -- The number of an answer fits 64 bits, so that it is handed on as it is: a count of lines or records is bounded by the largest table, and
 -- a refusal's number is one of fourteen. Assumes nothing.
 use mathlib.Core.Path.{_≡_, ap, _∙_, subst}
-use mathlib.Core.List.{List, [], _∷_, _++_}
+use mathlib.Core.List.{List, _++_}
 use mathlib.Core.Logic.{inl}
 use Prim.Native.Nat.{ℕ, zero, suc, max, _≤_, _<_}
 use native.Mathlib.Nat.{le-max-left}
@@ -16,7 +16,8 @@ use mir.ValLaws.{toZ-pos, toZ-ofZ}
 use Rattle.terms.specs.Figures.{sweptRecords, tableBytes}
 use Rattle.terms.specs.Term.{Term, app, lam, loc, con, var, size}
 use Rattle.terms.specs.Sweep.{sweep, largest}
-use Rattle.terms.specs.Refusal.{Row, Passed, swept, output, unmatched}
+use Rattle.terms.specs.Refusal.{Passed, sweptFormRows, outputRows, unmatchedRows}
+use Rattle.terms.proofs.Refusal.{passed-first, passed-later}
 use Rattle.refusals.specs.declared.Refusal.{Refusal}
 use Rattle.refusals.specs.Judged.{number}
 use Rattle.refusals.proofs.Numbers.{number-most}
@@ -49,15 +50,7 @@ sweep-largest (loc n) = omega arith
 sweep-largest (con n) = omega arith
 sweep-largest (var n) = omega arith
 
-passed-first : (rows more : List Row) → Passed (rows ++ more) → Passed rows
-passed-first [] more h = tt
-passed-first (r ∷ rows) more h = (h .0, passed-first rows more (h .1))
-
-passed-later : (rows more : List Row) → Passed (rows ++ more) → Passed more
-passed-later [] more h = h
-passed-later (r ∷ rows) more h = passed-later rows more (h .1)
-
-written-few : (p l s o : List ℕ) (n : ℕ) (after : List ℕ) → Passed (swept p l s) → Written p l s o n after → n ≤ tableBytes
+written-few : (p l s o : List ℕ) (n : ℕ) (after : List ℕ) → Passed (sweptFormRows p l s) → Written p l s o n after → n ≤ tableBytes
 written-few p l s o n after h w = go (decLt sweptRecords (largest (w .term)))
   where
     go : Dec (sweptRecords < largest (w .term)) → n ≤ tableBytes
@@ -70,17 +63,19 @@ unfolding Swept
 swept-few p l s o w a after x n e =
     let y = subst (λ (b : SweepAnswer). Swept p l s o w b after) e x in
     written-few p l s o n after
-    (passed-first (swept p l s) (output p l s o) (passed-later (lentForSweep p l s o w) (swept p l s ++ output p l s o) (y .0))) (y .1)
+    (passed-first (sweptFormRows p l s) (outputRows p l s o)
+    (passed-later (lentForSweep p l s o w) (sweptFormRows p l s ++ outputRows p l s o) (y .0))) (y .1)
 
 pub rewritten-few : (p q r l s o w : List ℕ) (a : RewriteAnswer) (after : List ℕ) → Rewritten p q r l s o w a after → (n : ℕ)
     → a ≡ RewriteAnswer.Records n → n ≤ tableBytes
 unfolding Rewritten
 rewritten-few p q r l s o w a after x n e =
     let y = subst (λ (b : RewriteAnswer). Rewritten p q r l s o w b after) e x in
-    let z = passed-later (lentForRewrite p q r l s o w) (swept p l s ++ (unmatched p l s r ++ (swept q l s ++ output q l s o))) (y .0) in
-    let u = passed-later (unmatched p l s r) (swept q l s ++ output q l s o)
-    (passed-later (swept p l s) (unmatched p l s r ++ (swept q l s ++ output q l s o)) z) in
-    written-few q l s o n after (passed-first (swept q l s) (output q l s o) u) (y .1)
+    let z = passed-later (lentForRewrite p q r l s o w) (sweptFormRows p l s ++
+    (unmatchedRows p l s r ++ (sweptFormRows q l s ++ outputRows q l s o))) (y .0) in
+    let u = passed-later (unmatchedRows p l s r) (sweptFormRows q l s ++ outputRows q l s o)
+    (passed-later (sweptFormRows p l s) (unmatchedRows p l s r ++ (sweptFormRows q l s ++ outputRows q l s o)) z) in
+    written-few q l s o n after (passed-first (sweptFormRows q l s) (outputRows q l s o) u) (y .1)
 
 -- the numbers of answers fit
 pub fits-records : (n : ℕ) → n ≤ tableBytes → SFits w64 (pos n)

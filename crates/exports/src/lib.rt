@@ -21,10 +21,10 @@ ghost use Rattle.refusals.specs.Lent.{cleared};
 ghost use Rattle.exports.specs.Answers.{refusalCode, ListedAs, NineAs, CheckedAs, SweptAs, RewrittenAs};
 
 // Minus document 01's number of a refusal.
-fn refusal_code(c: Refusal) -> i64
-    ensures { λ r. ⌜ r ≡ refusalCode c ⌝ }
+fn refusal_code(refusal: Refusal) -> i64
+    ensures { λ r. ⌜ r ≡ refusalCode refusal ⌝ }
 {
-    let number = refusals::number_of(c) as i64;
+    let number = refusals::number_of(refusal) as i64;
     -number
 }
 

@@ -11,10 +11,10 @@ use lib.Dec.{eqb}
 use lib.ListN.{length, getD, take, drop}
 use lib.Seq.{sets, length-sets}
 use borrow.Author.Tests.{eq-eqb, ne-eqb}
-use Rattle.terms.specs.Figures.{numbers, sweptRecords}
+use Rattle.terms.specs.Figures.{numbers, patternRecords, sweptRecords}
 use Rattle.terms.specs.Term.{Term, app, lam, loc, con, size, shift, Closed}
 use Rattle.terms.specs.Sweep.{contract}
-use Rattle.terms.specs.Table.{bytes, encode}
+use Rattle.terms.specs.Table.{recordBytes, encode}
 use Rattle.terms.proofs.Shift.{size-shift}
 use Rattle.terms.proofs.Table.{encode-length}
 use Rattle.terms.proofs.Substitute.{size-pos}
@@ -211,7 +211,7 @@ module _ {P : List ℕ} {q : Pairs} {F S : List ℕ} {d : ℕ} where
     unfolding JoinAnswered
     joined-kinds n = record { answers = λ a b y z. join-kinds d (pairsOf P q) a b (λ e. n (kind-at F 0 a y ∙ e ∙ sym (kind-at S 0 b z))) }
 
-    module _ {p m : List ℕ} {r : Walk} (k : getD F 0 0 ≡ getD S 0 0) (z : getD F 0 0 ≡ 0) (e : p ≡ sets out o (bytes 0 0 [])) where
+    module _ {p m : List ℕ} {r : Walk} (k : getD F 0 0 ≡ getD S 0 0) (z : getD F 0 0 ≡ 0) (e : p ≡ sets out o (recordBytes 0 0 [])) where
       pub joined-application :
           {h : ℕ} {after : List ℕ} {s a : Walk} → r ≡ Upto h → Joined P q (slice F 4) (slice S 4) d p (o + 4) m r
           → Joined P q (slice F (4 + h)) (slice S (4 + h)) d m (o + (4 + h)) after s → a ≡ further (4 + h) s
@@ -230,14 +230,14 @@ module _ {P : List ℕ} {q : Pairs} {F S : List ℕ} {d : ℕ} where
                   let c = joint-heads P q F S d h (o + 4) p m r f x a b v w in
                   let g = y .answers .1 (v .a) (w .a) (first-argument P q F S d h (o + 4) p m r f x a b v)
                   (second-argument P q F S d h (o + 4) p m r f x a b v w) in
-                  let n : o + (4 + h) ≡ o + length (bytes 0 0 (encode (c .body))) =
+                  let n : o + (4 + h) ≡ o + length (recordBytes 0 0 (encode (c .body))) =
                   omega (arith, encode-length (c .body), heads-size P q F S d h (o + 4) p m r f x a b v w) in
                   record {
                     body = app (c .body) (g .body);
                     is = ap₂ (join d (pairsOf P q)) (v .is) (w .is) ∙ ap₂ both (c .is) (g .is);
                     bytes =
-                        written-then (bytes 0 0 (encode (c .body))) (encode (g .body)) out m after o (o + (4 + h))
-                        (written-then (bytes 0 0 []) (encode (c .body)) out p m o (o + 4) e (c .bytes) refl) (g .bytes) n;
+                        written-then (recordBytes 0 0 (encode (c .body))) (encode (g .body)) out m after o (o + (4 + h))
+                        (written-then (recordBytes 0 0 []) (encode (c .body)) out p m o (o + 4) e (c .bytes) refl) (g .bytes) n;
                   },
             );
           }
@@ -263,7 +263,7 @@ module _ {P : List ℕ} {q : Pairs} {F S : List ℕ} {d : ℕ} where
       }
 
     pub joined-abstraction :
-        {p m : List ℕ} {r a : Walk} → getD F 0 0 ≡ getD S 0 0 → getD F 0 0 ≡ 1 → p ≡ sets out o (bytes 1 0 [])
+        {p m : List ℕ} {r a : Walk} → getD F 0 0 ≡ getD S 0 0 → getD F 0 0 ≡ 1 → p ≡ sets out o (recordBytes 1 0 [])
         → Joined P q (slice F 4) (slice S 4) (d + 1) p (o + 4) m r → a ≡ further 4 r
         → Joined P q F S d out o m a
     unfolding JoinAnswered
@@ -283,7 +283,7 @@ module _ {P : List ℕ} {q : Pairs} {F S : List ℕ} {d : ℕ} where
                 record {
                   body = lam (c .body);
                   is = ap₂ (join d (pairsOf P q)) (v .is) (w .is) ∙ under (v .b) (w .b) ∙ ap below (c .is);
-                  bytes = written-then (bytes 1 0 []) (encode (c .body)) out p m o (o + 4) e (c .bytes) refl;
+                  bytes = written-then (recordBytes 1 0 []) (encode (c .body)) out p m o (o + 4) e (c .bytes) refl;
                 },
           );
         }
@@ -323,7 +323,7 @@ module _ {P : List ℕ} {q : Pairs} {F S : List ℕ} {d : ℕ} where
     pub joined-pair :
         {m n room k : ℕ} {r : Found} {after : List ℕ} → m ≡ numberAt F 0 → n ≡ numberAt S 0 → getD F 0 0 ≡ 3 → getD S 0 0 ≡ 3
         → Joins P q F S d room o
-        → Locates (pairsOf P q) m n d r → r ≡ Local k → after ≡ sets out o (bytes 2 k []) → Joined P q F S d out o after (Upto 4)
+        → Locates (pairsOf P q) m n d r → r ≡ Local k → after ≡ sets out o (recordBytes 2 k []) → Joined P q F S d out o after (Upto 4)
     unfolding JoinAnswered Locates
     joined-pair {m} {n} {room} {k} e f z y x w i v =
         let s : Locates (pairsOf P q) m n d (Local k) = subst (Locates (pairsOf P q) m n d) i w in
@@ -354,7 +354,8 @@ module _ {P : List ℕ} {q : Pairs} {F S : List ℕ} {d : ℕ} where
         ∙ ap₂ (λ (m n : ℕ). cond (eqb m n) (some (shift (q .count) d a)) none) (sym (number-at F 0 a j)) (sym (number-at S 0 b l));
   }
 
-pub local-fits : (ps : List (ℕ × ℕ)) (m n d k : ℕ) (r : Found) → Locates ps m n d r → r ≡ Local k → d + 33 ≤ numbers → k < numbers
+pub local-fits : (ps : List (ℕ × ℕ)) (m n d k : ℕ) (r : Found) → Locates ps m n d r → r ≡ Local k → d + patternRecords + 1 ≤ numbers
+    → k < numbers
 unfolding Locates
 local-fits ps m n d k r x e h = let y : Locates ps m n d (Local k) = subst (Locates ps m n d) e x in omega (arith, y .1)
 

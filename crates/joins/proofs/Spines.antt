@@ -50,8 +50,8 @@ pub record PairPassed (P : List ℕ) (q : Pairs) (m n d k : ℕ) : Type 0 where
   pub among : In (m, n) (pairsOf P q) → In (m, n) (pairsAt P (q .first) (q .second) k)
 
 module _ (P : List ℕ) (q : Pairs) (m n d : ℕ) where
-  pub passed-first : PairPassed P q m n d (q .count)
-  passed-first = record {
+  pub pairs-passed-first : PairPassed P q m n d (q .count)
+  pairs-passed-first = record {
     most = omega arith;
     same = ap (λ (e : ℕ). atConstants e (pairsOf P q) m n) (omega arith);
     among = λ i. i;
@@ -92,10 +92,10 @@ module _ (P : List ℕ) (q : Pairs) (m n d : ℕ) where
           absurd (subst T f tt)
       go (inr i) = i
 
-  pub passed-all : (k : ℕ) → PairPassed P q m n d k → k ≤ 0 → Locates (pairsOf P q) m n d Nothing
+  pub pairs-passed : (k : ℕ) → PairPassed P q m n d k → k ≤ 0 → Locates (pairsOf P q) m n d Nothing
   unfolding Locates
-  passed-all zero x h = x .among
-  passed-all (suc k) x h = absurd (omega arith)
+  pairs-passed zero x h = x .among
+  pairs-passed (suc k) x h = absurd (omega arith)
 
 pub located-nothing : (ps : List (ℕ × ℕ)) (m n d : ℕ) (r : Found) → Locates ps m n d r → r ≡ Nothing → ¬ In (m, n) ps
 unfolding Locates

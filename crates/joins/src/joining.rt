@@ -128,17 +128,17 @@ pub fn join_into(
     same_leaf_into(pattern, q, first, second, d, out, o)
 }
 
-// Writes what n abstractions over the body b come to from byte o on, and gives where that ends.
-pub fn enclose_into(b: &[u8], n: usize, work: &mut [u8], o: usize) -> usize
-    requires { ⌜ Encloses (now b) n (length (now work)) o ⌝ }
-    ensures { λ r. ⌜ Enclosed (now (b .entry)) n (now (work .entry)) o (now (work .exit)) r ⌝ }
+// Writes what n abstractions over the body come to from byte o on, and gives where that ends.
+pub fn enclose_into(body: &[u8], n: usize, work: &mut [u8], o: usize) -> usize
+    requires { ⌜ Encloses (now body) n (length (now work)) o ⌝ }
+    ensures { λ r. ⌜ Enclosed (now (body .entry)) n (now (work .entry)) o (now (work .exit)) r ⌝ }
 {
     if n == 0 {
-        copying::copy_into(b, work, o);
-        return o + b.len();
+        copying::copy_into(body, work, o);
+        return o + body.len();
     }
     let mut out = [0u8; SWEPT_BYTES];
-    let length = sweeping::contract_abstraction(b, &mut out);
+    let length = sweeping::contract_abstraction(body, &mut out);
     // never so: there are too few records
     let Length::Records(m) = length else {
         return o;

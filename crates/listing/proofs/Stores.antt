@@ -15,7 +15,7 @@ use Rattle.assignments.specs.declared.Entry.{Entry}
 use Rattle.copying.proofs.Stores.{sets-then}
 use Rattle.listing.specs.declared.Tally.{Tally}
 use Rattle.listing.specs.Outcome.{lineRecords, Outcome, outcome, fits, lineWritten, counted, store, stores, Storable, LineStored}
-use Rattle.listing.specs.Outcome.{Tables}
+use Rattle.listing.specs.Outcome.{noneFound, Tables}
 use Rattle.listing.proofs.Writers.{line-bytes-length, line-values-length}
 use Rattle.listing.proofs.Storing.{holds-few, store-fits}
 
@@ -116,17 +116,14 @@ stores-written (l ∷ ls) o e h k =
     }
 
 -- the tables after a search that wrote every line
-abbrev pub none-yet : Tally
-none-yet = record { lines = 0; records = 0 }
-
 pub record Begun (lines values : List ℕ) (ls : List Line) : Type 0 where
-  pub lines-begin : stores (outcome lines values none-yet) ls .lines ≡ lineTable 0 ls ++ drop (4 * variables * length ls) lines
-  pub values-begin : stores (outcome lines values none-yet) ls .values ≡ valueTable ls ++ drop (4 * valuesRecords ls) values
+  pub lines-begin : stores (outcome lines values noneFound) ls .lines ≡ lineTable 0 ls ++ drop (4 * variables * length ls) lines
+  pub values-begin : stores (outcome lines values noneFound) ls .values ≡ valueTable ls ++ drop (4 * valuesRecords ls) values
 
 pub stores-tables : (lines values : List ℕ) (ls : List Line) → Entire ls → 4 * variables * length ls ≤ length lines
     → 4 * valuesRecords ls ≤ length values → Begun lines values ls
 stores-tables lines values ls e h k =
-    let w = stores-written ls (outcome lines values none-yet) e (omega arith) (omega arith) in
+    let w = stores-written ls (outcome lines values noneFound) e (omega arith) (omega arith) in
     let n : 0 + length (lineTable 0 ls) ≡ 4 * variables * length ls = omega (arith, line-table-length 0 ls e) in
     let m : 0 + length (valueTable ls) ≡ 4 * valuesRecords ls = omega (arith, value-table-length ls) in
     record {
@@ -136,7 +133,7 @@ stores-tables lines values ls e h k =
 
 pub stores-begin :
     (lines values : List ℕ) (ls : List Line) → Entire ls → 4 * variables * length ls ≤ length lines → 4 * valuesRecords ls ≤ length values
-    → Tables (stores (outcome lines values none-yet) ls .lines) (stores (outcome lines values none-yet) ls .values) ls
+    → Tables (stores (outcome lines values noneFound) ls .lines) (stores (outcome lines values noneFound) ls .values) ls
 stores-begin lines values ls e h k =
     let w = stores-tables lines values ls e h k in
     record {

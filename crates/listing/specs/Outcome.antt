@@ -2,6 +2,7 @@
 --   lineRecords                  the most records that the values of one line have
 --   Outcome                      the two tables, how many lines were found, and how many records their values have
 --   outcome lines values t       the tables as bytes, with the tally t
+--   noneFound                    the tally before a line is found
 --   fits o l                     whether the line l still fits both tables
 --   store o l                    a line more: written where it fits both tables, counted in any case
 --   stores o ls                  lines one after another
@@ -35,6 +36,9 @@ pub record Outcome : Type 0 where
 
 abbrev pub outcome : List ℕ → List ℕ → Tally → Outcome
 outcome lines values t = record { lines = lines; values = values; count = t .lines; records = t .records }
+
+abbrev pub noneFound : Tally
+noneFound = record { lines = 0; records = 0 }
 
 -- a line has 4 bytes for each variable, a record 4 bytes
 abbrev pub fits : Outcome → Line → Bool

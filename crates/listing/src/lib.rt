@@ -9,7 +9,7 @@
 // found in the layout of a listing, so that one definition of the layout serves these tables and those in order (`arranging`).
 
 use assignments::Entry;
-use assignments::LINE;
+use records::LINE;
 use records::RECORD;
 use records::VARIABLES;
 ghost use mathlib.Core.Path.{_≡_};
@@ -39,56 +39,56 @@ fn put_word(out: &mut [u8], at: usize, number: usize)
 
 // Writes one entry of a line at byte `at` of the lines, and its value from record `first` of the values on. Answers the record behind it.
 fn write_entry(
-    s: &[u8],
-    e: Entry,
+    source: &[u8],
+    entry: Entry,
     lines: &mut [u8],
     at: usize,
     values: &mut [u8],
     first: usize,
 ) -> usize
-    requires { ⌜ WriteEntry (now s) e (now lines) at (now values) first ⌝ }
-    ensures { λ r. ⌜ EntryWritten (now (s .entry)) e (now (lines .entry)) at (now (values .entry)) first (now (lines .exit))
+    requires { ⌜ WriteEntry (now source) entry (now lines) at (now values) first ⌝ }
+    ensures { λ r. ⌜ EntryWritten (now (source .entry)) entry (now (lines .entry)) at (now (values .entry)) first (now (lines .exit))
         (now (values .exit)) r ⌝ }
 {
-    let Entry::Assigned(span) = e else {
+    let Entry::Assigned(span) = entry else {
         put_word(lines, at, 0);
         put_word(lines, at + 2, 0);
         return first;
     };
     put_word(lines, at, first);
     put_word(lines, at + 2, span.count);
-    copying::copy_into(assignments::value_of(s, span), values, RECORD * first);
+    copying::copy_into(assignments::value_of(source, span), values, RECORD * first);
     first + span.count
 }
 
 // Writes the line at byte `at`, and its values from record `first` of the values on. Answers the record behind them.
 pub fn write_line(
-    s: &[u8],
+    source: &[u8],
     entries: [Entry; VARIABLES],
     lines: &mut [u8],
     at: usize,
     values: &mut [u8],
     first: usize,
 ) -> usize
-    requires { ⌜ WriteLine (now s) entries 0 (now lines) at (now values) first ⌝ }
-    ensures { λ r. ⌜ WroteLine (now (s .entry)) entries (now (lines .entry)) at (now (values .entry)) first (now (lines .exit))
+    requires { ⌜ WriteLine (now source) entries 0 (now lines) at (now values) first ⌝ }
+    ensures { λ r. ⌜ WroteLine (now (source .entry)) entries (now (lines .entry)) at (now (values .entry)) first (now (lines .exit))
         (now (values .exit)) r ⌝ }
 {
     let mut next = first;
     let mut i = 0;
     while i < VARIABLES {
         let entry = entries[i];
-        next = write_entry(s, entry, lines, at + RECORD * i, values, next);
+        next = write_entry(source, entry, lines, at + RECORD * i, values, next);
         i += 1;
     }
     next
 }
 
 // The records that an entry's value has.
-fn count_of(e: Entry) -> usize
-    ensures { λ r. ⌜ r ≡ countOf e ⌝ }
+fn count_of(entry: Entry) -> usize
+    ensures { λ r. ⌜ r ≡ countOf entry ⌝ }
 {
-    let Entry::Assigned(span) = e else {
+    let Entry::Assigned(span) = entry else {
         return 0;
     };
     span.count

@@ -13,8 +13,8 @@ use Rattle.terms.specs.Figures.{variables}
 use Rattle.terms.specs.Term.{Term, app, lam, con, var}
 use Rattle.terms.specs.Table.{encode, IsTable}
 use Rattle.terms.specs.Listing.{Line, Full}
-use Rattle.terms.specs.Refusal.{Passed, listTables}
-use Rattle.terms.specs.Refusal.{pattern as patternRows, recipe as recipeRows}
+use Rattle.terms.specs.Refusal.{Passed, listTableRows}
+use Rattle.terms.specs.Refusal.{patternRows, recipeRows}
 use Rattle.terms.proofs.Refusal.{passed-both}
 use Rattle.matching.specs.Cases.{Case.lists, from, identity}
 use Rattle.matching.proofs.Cases.{cases-hold}
@@ -65,11 +65,11 @@ sides-passed =
     passed-both (patternRows p) (recipeRows r) (pattern-passed casePattern pattern-table (lit≤ tt) refl)
     (recipe-passed caseRecipe recipe-table (lit≤ tt) refl tt)
 
-module _ (l s w : List ℕ) (h : Passed (listTables l s w)) (two : 2 ≤ lentLines l) (five : 5 ≤ lentRecords s) where
+module _ (l s w : List ℕ) (h : Passed (listTableRows l s w)) (two : 2 ≤ lentLines l) (five : 5 ≤ lentRecords s) where
   case-listed : Listed p r l s w (ListAnswer.Lines 2) (overwritten caseLines l) (overwritten valueBytes s)
   unfolding Listed
   case-listed = (
-    passed-both (listTables l s w) (patternRows p ++ recipeRows r) h sides-passed,
+    passed-both (listTableRows l s w) (patternRows p ++ recipeRows r) h sides-passed,
     record {
       lines = caseListing;
       listing-of = record {

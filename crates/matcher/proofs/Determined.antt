@@ -11,7 +11,7 @@ use Rattle.terms.specs.Term.{Term, Occurs}
 use Rattle.terms.specs.Table.{IsTable}
 use Rattle.terms.specs.Listing.{Line, Full}
 use Rattle.terms.specs.Layout.{lineTable, valueTable}
-use Rattle.terms.specs.Refusal.{Row, Refused, Passed, listing}
+use Rattle.terms.specs.Refusal.{Row, Refused, Passed, listingRows}
 use Rattle.terms.proofs.Table.{encode-one}
 use Rattle.terms.proofs.Refusal.{refused-passed}
 use Rattle.matching.proofs.Lines.{openLine}
@@ -30,7 +30,7 @@ module _ (p r l s w : List ℕ) where
   lent = lentForList p r l s w
 
   abbrev rows : List Line → List Row
-  rows ls = listing (lentLines l) (lentRecords s) ls
+  rows ls = listingRows (lentLines l) (lentRecords s) ls
 
   -- what has no room is every full listing
   no-room : Passed lent → (ls : List Line) → ListingOf p r ls → (k : ℕ) → NoRoom p r l s k → Refused (rows ls) k

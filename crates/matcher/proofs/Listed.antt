@@ -12,7 +12,7 @@ use Rattle.terms.specs.Figures.{variables, tableBytes}
 use Rattle.terms.specs.Term.{Term, Below}
 use Rattle.terms.specs.Table.{encode, goodRecords, IsTable}
 use Rattle.terms.specs.Listing.{Line, Full}
-use Rattle.terms.specs.Refusal.{Row, Refused, Passed, listTables, pattern, recipe, listing}
+use Rattle.terms.specs.Refusal.{Row, Refused, Passed, listTableRows, patternRows, recipeRows, listingRows}
 use Rattle.terms.proofs.Table.{encode-one, good-below}
 use Rattle.terms.proofs.Refusal.{refused-passed}
 use Rattle.matching.proofs.Listing.{unique}
@@ -30,12 +30,13 @@ use Rattle.enumeration.specs.Steps.{ListTables}
 -- the tables that list is lent, judged
 pub judged-list :
     (p t l s w : List ℕ) (a b r : Verdict)
-    → Judged (listTables l s w) ((length l ≤ tableBytes) × ((length s ≤ tableBytes) × (length w ≡ tableBytes))) a
-    → Judged (pattern p ++ recipe t) (Pattern p × Recipe t) b → r ≡ firstOf a b → Judged (lentForList p t l s w) (ListTables p t l s w) r
+    → Judged (listTableRows l s w) ((length l ≤ tableBytes) × ((length s ≤ tableBytes) × (length w ≡ tableBytes))) a
+    → Judged (patternRows p ++ recipeRows t) (Pattern p × Recipe t) b → r ≡ firstOf a b → Judged (lentForList p t l s w)
+    (ListTables p t l s w) r
 judged-list p t l s w a b r x y e =
     judged-more _ _ _ r
     (λ z. record { pattern-checked = z .1 .0; recipe-checked = z .1 .1; lines-most = z .0 .0; values-most = z .0 .1 .0; area = z .0 .1 .1 })
-    (judged-first (listTables l s w) (pattern p ++ recipe t) _ _ a b r x y e)
+    (judged-first (listTableRows l s w) (patternRows p ++ recipeRows t) _ _ a b r x y e)
 
 -- the numbers of the rows before 9
 abbrev Low : List Row → Type 0
@@ -76,7 +77,7 @@ module _ (p r l s w : List ℕ) where
   unfolding Listed
   nine-many m q x = go (x .0)
     where
-      more : (h : Passed lent) (n : NoRoom p r l s 9) → Refused (listing (lentLines l) (lentRecords s) (n .lines)) 9 → TooMany p r l s w
+      more : (h : Passed lent) (n : NoRoom p r l s 9) → Refused (listingRows (lentLines l) (lentRecords s) (n .lines)) 9 → TooMany p r l s w
       more h n (inl c) = (h, λ ls f. omega (arith, c .0, ap length (listing-one h (n .lines) ls (n .listing-of) f)))
       more h n (inr (d, inl c)) = absurd (omega (arith, c .1))
       more h n (inr (d, inr c)) = absurd (c .1)
@@ -90,7 +91,7 @@ module _ (p r l s w : List ℕ) where
   many-nine (ListAnswer.Lines n) m q x z = absurd (x .1 .room .0 (z .1 (x .1 .lines) (x .1 .listing-of)))
   many-nine (ListAnswer.Refused c) m q x z = go (x .0)
     where
-      more : (n : NoRoom p r l s (number c)) → Refused (listing (lentLines l) (lentRecords s) (n .lines)) (number c)
+      more : (n : NoRoom p r l s (number c)) → Refused (listingRows (lentLines l) (lentRecords s) (n .lines)) (number c)
           → ListAnswer.Refused c ≡ ListAnswer.Refused Refusal.LineRoom
       more n (inl d) = ap ListAnswer.Refused (number-inj c Refusal.LineRoom (d .1))
       more n (inr d) = absurd (d .0 (z .1 (n .lines) (n .listing-of)))

@@ -9,7 +9,7 @@ use mathlib.Core.Logic.{_⊎_, _↔_}
 use Prim.Native.Nat.{ℕ, _<_}
 use lib.ListN.{length}
 use Rattle.terms.specs.Listing.{Line}
-use Rattle.terms.specs.Refusal.{Row, Refused, Passed, listTables, pattern, recipe}
+use Rattle.terms.specs.Refusal.{Row, Refused, Passed, listTableRows, patternRows, recipeRows}
 use Rattle.refusals.specs.declared.Refusal.{Refusal}
 use Rattle.refusals.specs.Judged.{number}
 use Rattle.enumeration.specs.declared.ListAnswer.{ListAnswer}
@@ -18,7 +18,7 @@ use Rattle.enumeration.specs.Written.{lentLines, ListingOf, WrittenLines, NoRoo
 -- "Order: 8; pattern 1, 2, 3; recipe 4 to 7; right side 1, 2, 3; then 9, 10 (list), or 11, 12 on left, 14, 12 on right, 13. For right, 11
 -- covers its variables too." List, but for 9 and 10: pattern p, recipe r, line table l, value table s, work area w
 abbrev pub lentForList : List ℕ → List ℕ → List ℕ → List ℕ → List ℕ → List Row
-lentForList p r l s w = listTables l s w ++ (pattern p ++ recipe r)
+lentForList p r l s w = listTableRows l s w ++ (patternRows p ++ recipeRows r)
 
 -- "fills lines and values; gives the count"
 unfoldable pub Listed : List ℕ → List ℕ → List ℕ → List ℕ → List ℕ → ListAnswer → List ℕ → List ℕ → Type 0

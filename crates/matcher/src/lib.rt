@@ -9,8 +9,8 @@
 // What a planner has to believe is the contract of `list`, which rests on `specs/Operations`, `enumeration/specs/Written`, `refusals/specs`
 // and `terms/specs` alone. The contracts of the search below cite the theory of `matching`; no promise of `list` does.
 
-use assignments::LINE;
 use enumeration::ListAnswer;
+use records::LINE;
 use refusals::Verdict;
 ghost use mathlib.Core.Path.{_≡_};
 ghost use Rattle.refusals.specs.Judged.{Judged};

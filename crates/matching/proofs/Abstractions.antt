@@ -12,7 +12,7 @@ use Rattle.terms.specs.Term.{Term, app, lam, loc, con, var, shift, substitute}
 use Rattle.terms.specs.Listing.{In}
 use Rattle.terms.specs.Members.{Distinct}
 use Rattle.terms.proofs.Tests.{by-ltb}
-use Rattle.terms.proofs.Members.{one}
+use Rattle.terms.proofs.Members.{in-one}
 use Rattle.terms.proofs.Substitute.{by-substitute, substitute-here}
 use Rattle.terms.proofs.Table.{kind}
 use Rattle.matching.specs.Abstractions.{same, orLocal, abstractions}
@@ -81,11 +81,11 @@ abstractions-in e d (lam t) b p =
     (λ q. let r = map-in lam b (abstractions e (suc d) t) q in rw (r .2) (ap lam (abstractions-in e (suc d) t (r .0) (r .1))))
     (orLocal-in d (same (lam t) (shift d 0 e)) b _ p)
 abstractions-in e d (loc n) b p =
-    ⊎-elim (from-local e d (loc n) b) (λ q. from-loc e d n b (one q)) (orLocal-in d (same (loc n) (shift d 0 e)) b _ p)
+    ⊎-elim (from-local e d (loc n) b) (λ q. from-loc e d n b (in-one q)) (orLocal-in d (same (loc n) (shift d 0 e)) b _ p)
 abstractions-in e d (con n) b p =
-    ⊎-elim (from-local e d (con n) b) (λ q. ap (substitute d e) (one q)) (orLocal-in d (same (con n) (shift d 0 e)) b _ p)
+    ⊎-elim (from-local e d (con n) b) (λ q. ap (substitute d e) (in-one q)) (orLocal-in d (same (con n) (shift d 0 e)) b _ p)
 abstractions-in e d (var n) b p =
-    ⊎-elim (from-local e d (var n) b) (λ q. ap (substitute d e) (one q)) (orLocal-in d (same (var n) (shift d 0 e)) b _ p)
+    ⊎-elim (from-local e d (var n) b) (λ q. ap (substitute d e) (in-one q)) (orLocal-in d (same (var n) (shift d 0 e)) b _ p)
 
 pub abstractions-iff : (e : Term) (d : ℕ) (t b : Term) → In b (abstractions e d t) ↔ (substitute d e b ≡ t)
 abstractions-iff e d t b = (abstractions-in e d t b, λ p. subst (λ s. In b (abstractions e d s)) p (in-abstractions e d b))
@@ -106,6 +106,6 @@ abstractions-distinct e d (lam t) =
     distinct-orLocal d (same (lam t) (shift d 0 e)) _
     (distinct-map lam (λ x y p. cc) (abstractions e (suc d) t) (abstractions-distinct e (suc d) t))
     (λ q. let r = map-in lam (loc d) (abstractions e (suc d) t) q in omega (arith, ap kind (r .2)))
-abstractions-distinct e d (loc n) = distinct-orLocal d (same (loc n) (shift d 0 e)) _ (λ q. q, tt) (λ q. other d n (one q))
-abstractions-distinct e d (con n) = distinct-orLocal d (same (con n) (shift d 0 e)) _ (λ q. q, tt) (λ q. omega (arith, ap kind (one q)))
-abstractions-distinct e d (var n) = distinct-orLocal d (same (var n) (shift d 0 e)) _ (λ q. q, tt) (λ q. omega (arith, ap kind (one q)))
+abstractions-distinct e d (loc n) = distinct-orLocal d (same (loc n) (shift d 0 e)) _ (λ q. q, tt) (λ q. other d n (in-one q))
+abstractions-distinct e d (con n) = distinct-orLocal d (same (con n) (shift d 0 e)) _ (λ q. q, tt) (λ q. omega (arith, ap kind (in-one q)))
+abstractions-distinct e d (var n) = distinct-orLocal d (same (var n) (shift d 0 e)) _ (λ q. q, tt) (λ q. omega (arith, ap kind (in-one q)))

@@ -1,5 +1,5 @@
 -- How a flexible application comes to its target, numbered so that a search can try one number after the other: the target's own parts, an
--- argument thrown away, or the argument found first at one of the target's parts. By the rows of one step of matching, which exclude each
+-- argument ignored, or the argument found first at one of the target's parts. By the rows of one step of matching, which exclude each
 -- other because the target is normal. Assumes nothing.
 use mathlib.Core.Path.{_≡_, refl, sym, ap, _∙_, subst}
 use mathlib.Core.Bool.{not}
@@ -18,7 +18,7 @@ use Rattle.matching.specs.Occurrences.{FirstCopy}
 use Rattle.matching.proofs.Decide.{by-dec}
 use Rattle.matching.proofs.Step.{constant-normal}
 use Rattle.matching.proofs.Lists.{Under}
-use Rattle.matching.proofs.Prune.{Choice, argument-first}
+use Rattle.matching.proofs.Cuts.{Choice, argument-first}
 use Rattle.matching.proofs.Goals.{Listing, listing-goal, listing-same}
 use Rattle.matching.proofs.Goals.{listing-none, listing-both}
 use Rattle.matching.proofs.Targets.{part-normal}

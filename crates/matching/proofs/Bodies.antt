@@ -23,7 +23,7 @@ use Rattle.matching.specs.Abstractions.{same}
 use Rattle.matching.specs.Goals.{Sweeps, Build}
 use Rattle.matching.proofs.Decide.{by-dec, either-no}
 use Rattle.matching.proofs.Step.{lam-normal-of}
-use Rattle.matching.proofs.Prune.{replaceAll, replaceAll-here}
+use Rattle.matching.proofs.Cuts.{replaceAll, replaceAll-here}
 use Rattle.matching.proofs.Targets.{closed-shift, ground-shift}
 
 -- the terms with no part but themselves
@@ -196,26 +196,27 @@ at-copy e d b t p q =
     (whole-or-unused e d b (omega (arith, ap size p, ap size q, size-shift d 0 e)))
 
 -- the choices of a head and then those of an argument
-abbrev both : ℕ → (ℕ → Bool) → (ℕ → Bool) → ℕ → Bool
-both k c c′ i = cond (ltb i k) (c i) (c′ i)
+abbrev choicesThen : ℕ → (ℕ → Bool) → (ℕ → Bool) → ℕ → Bool
+choicesThen k c c′ i = cond (ltb i k) (c i) (c′ i)
 
-abbrev Given : Term → ℕ → Term → ℕ → Term → Type 0
-Given e d t k b = (c : ℕ → Bool) × (b ≡ body e d t c k)
+abbrev BodyChosen : Term → ℕ → Term → ℕ → Term → Type 0
+BodyChosen e d t k b = (c : ℕ → Bool) × (b ≡ body e d t c k)
 
-given-app : (e : Term) (d : ℕ) (f a : Term) (k : ℕ) (g b : Term) → ¬ (app f a ≡ shift d 0 e) → Given e d f k g
-    → Given e d a (k + copies e d f) b → Given e d (app f a) k (app g b)
+given-app : (e : Term) (d : ℕ) (f a : Term) (k : ℕ) (g b : Term) → ¬ (app f a ≡ shift d 0 e) → BodyChosen e d f k g
+    → BodyChosen e d a (k + copies e d f) b → BodyChosen e d (app f a) k (app g b)
 given-app e d f a k g b n x y = (
-  both (k + copies e d f) (x .0) (y .0),
-  ap₂ app (x .1 ∙ body-same e d f (x .0) (both (k + copies e d f) (x .0) (y .0)) k (λ i l u. rw (lt-ltb i (k + copies e d f) u)))
+  choicesThen (k + copies e d f) (x .0) (y .0),
+  ap₂ app (x .1 ∙ body-same e d f (x .0) (choicesThen (k + copies e d f) (x .0) (y .0)) k (λ i l u. rw (lt-ltb i (k + copies e d f) u)))
       (y .1
-      ∙ body-same e d a (y .0) (both (k + copies e d f) (x .0) (y .0)) (k + copies e d f) (λ i l u. rw (le-ltb i (k + copies e d f) l)))
-      ∙ sym (body-app e d f a (both (k + copies e d f) (x .0) (y .0)) k n),
+      ∙ body-same e d a (y .0) (choicesThen (k + copies e d f) (x .0) (y .0)) (k + copies e d f)
+      (λ i l u. rw (le-ltb i (k + copies e d f) l)))
+      ∙ sym (body-app e d f a (choicesThen (k + copies e d f) (x .0) (y .0)) k n),
 )
 
-given-here : (e : Term) (d : ℕ) (b t : Term) (k : ℕ) → substitute d e b ≡ t → t ≡ shift d 0 e → Given e d t k b
+given-here : (e : Term) (d : ℕ) (b t : Term) (k : ℕ) → substitute d e b ≡ t → t ≡ shift d 0 e → BodyChosen e d t k b
 given-here e d b t k p q = let r = at-copy e d b t p q in (λ _. r .0, r .1 ∙ sym (body-here e d t (λ _. r .0) k q))
 
-given-leaf : (e : Term) (d : ℕ) (b t : Term) (k : ℕ) → Leaf t → substitute d e b ≡ t → ¬ (t ≡ shift d 0 e) → Given e d t k b
+given-leaf : (e : Term) (d : ℕ) (b t : Term) (k : ℕ) → Leaf t → substitute d e b ≡ t → ¬ (t ≡ shift d 0 e) → BodyChosen e d t k b
 given-leaf e d b t k l p n =
     ⊎-elim (λ r. absurd (n (sym p ∙ ap (substitute d e) r ∙ substitute-here d e d refl)))
     (λ u. (
@@ -227,24 +228,24 @@ given-leaf e d b t k l p n =
 leaf-of : (e : Term) (d n : ℕ) → ¬ (substitute d e (loc n) ≡ shift d 0 e) → Leaf (substitute d e (loc n))
 leaf-of e d n = by-substitute (λ s. ¬ (s ≡ shift d 0 e) → Leaf s) d e n (λ l q. tt) (λ l q. absurd (q refl)) (λ l q. tt)
 
-given : (e : Term) (d : ℕ) (b : Term) (k : ℕ) → Given e d (substitute d e b) k b
+given : (e : Term) (d : ℕ) (b : Term) (k : ℕ) → BodyChosen e d (substitute d e b) k b
 given e d (app f a) k =
-    by-dec (λ _. Given e d (substitute d e (app f a)) k (app f a)) (same (substitute d e (app f a)) (shift d 0 e))
+    by-dec (λ _. BodyChosen e d (substitute d e (app f a)) k (app f a)) (same (substitute d e (app f a)) (shift d 0 e))
     (given-here e d (app f a) (substitute d e (app f a)) k refl)
     (λ n. given-app e d (substitute d e f) (substitute d e a) k f a n (given e d f k) (given e d a (k + copies e d (substitute d e f))))
 given e d (lam b) k =
-    by-dec (λ _. Given e d (substitute d e (lam b)) k (lam b)) (same (substitute d e (lam b)) (shift d 0 e))
+    by-dec (λ _. BodyChosen e d (substitute d e (lam b)) k (lam b)) (same (substitute d e (lam b)) (shift d 0 e))
     (given-here e d (lam b) (substitute d e (lam b)) k refl)
     (λ n. let r = given e (suc d) b k in (r .0, ap lam (r .1) ∙ sym (body-lam e d (substitute (suc d) e b) (r .0) k n)))
 given e d (loc n) k =
-    by-dec (λ _. Given e d (substitute d e (loc n)) k (loc n)) (same (substitute d e (loc n)) (shift d 0 e))
+    by-dec (λ _. BodyChosen e d (substitute d e (loc n)) k (loc n)) (same (substitute d e (loc n)) (shift d 0 e))
     (given-here e d (loc n) (substitute d e (loc n)) k refl)
     (λ q. given-leaf e d (loc n) (substitute d e (loc n)) k (leaf-of e d n q) refl q)
 given e d (con n) k =
-    by-dec (λ _. Given e d (con n) k (con n)) (same (con n) (shift d 0 e)) (given-here e d (con n) (con n) k refl)
+    by-dec (λ _. BodyChosen e d (con n) k (con n)) (same (con n) (shift d 0 e)) (given-here e d (con n) (con n) k refl)
     (given-leaf e d (con n) (con n) k tt refl)
 given e d (var n) k =
-    by-dec (λ _. Given e d (var n) k (var n)) (same (var n) (shift d 0 e)) (given-here e d (var n) (var n) k refl)
+    by-dec (λ _. BodyChosen e d (var n) k (var n)) (same (var n) (shift d 0 e)) (given-here e d (var n) (var n) k refl)
     (given-leaf e d (var n) (var n) k tt refl)
 
 pub body-of : (e : Term) (d : ℕ) (b t : Term) (k : ℕ) → substitute d e b ≡ t → (c : ℕ → Bool) × (b ≡ body e d t c k)
@@ -319,14 +320,14 @@ chosen-none φ f t e c = (
 
 -- one more is made, either way
 module _ (φ : ℕ → Term) (f t e : Term) (c c₀ c₁ : ℕ → Bool) (k : ℕ) where
-  abbrev Agree : (ℕ → Bool) → Type 0
-  Agree x = (i : ℕ) → i < k → x i ≡ c i
+  abbrev ChoicesAgree : (ℕ → Bool) → Type 0
+  ChoicesAgree x = (i : ℕ) → i < k → x i ≡ c i
 
-  agree-next : (x y : ℕ → Bool) → Agree x → Agree y → x k ≡ y k → (i : ℕ) → i < suc k → x i ≡ y i
+  agree-next : (x y : ℕ → Bool) → ChoicesAgree x → ChoicesAgree y → x k ≡ y k → (i : ℕ) → i < suc k → x i ≡ y i
   agree-next x y g h p i l =
       by-dec (λ _. x i ≡ y i) (decLt i k) (λ m. g i m ∙ sym (h i m)) (λ m. let q : k ≡ i = omega arith in subst (λ j. x j ≡ y j) q p)
 
-  module _ (a₀ : Agree c₀) (a₁ : Agree c₁) (h₀ : c₀ k ≡ false) (h₁ : c₁ k ≡ true) where
+  module _ (a₀ : ChoicesAgree c₀) (a₁ : ChoicesAgree c₁) (h₀ : c₀ k ≡ false) (h₁ : c₁ k ≡ true) where
     pub chosen-next : ChosenSoFar f t e c k φ ↔ (ChosenSoFar f t e c₀ (suc k) φ ⊎ ChosenSoFar f t e c₁ (suc k) φ)
     chosen-next = (λ s. to s (s .3 k) refl, ⊎-elim (back c₀ a₀) (back c₁ a₁))
       where
@@ -334,7 +335,7 @@ module _ (φ : ℕ → Term) (f t e : Term) (c c₀ c₁ : ℕ → Bool) (k : �
         to s true p = inr (s .0, s .1, s .2, s .3, agree-next (s .3) c₁ (s .4) a₁ (p ∙ sym h₁), s .5)
         to s false p = inl (s .0, s .1, s .2, s .3, agree-next (s .3) c₀ (s .4) a₀ (p ∙ sym h₀), s .5)
 
-        back : (y : ℕ → Bool) → Agree y → ChosenSoFar f t e y (suc k) φ → ChosenSoFar f t e c k φ
+        back : (y : ℕ → Bool) → ChoicesAgree y → ChosenSoFar f t e y (suc k) φ → ChosenSoFar f t e c k φ
         back y a s = (s .0, s .1, s .2, s .3, λ i l. s .4 i (omega arith) ∙ a i l, s .5)
 
     -- and at a copy not both ways

@@ -12,7 +12,7 @@ use lib.ListN.{length}
 use Rattle.terms.specs.Figures.{variables}
 use Rattle.terms.specs.Term.{Term, app, lam, loc, con, var, Normal, Below}
 use Rattle.terms.specs.Sweep.{sweep, fill}
-use Rattle.terms.specs.Assignment.{Assignment, entry, values, Assigned, Assigns, Entries, Complete}
+use Rattle.terms.specs.Assignment.{Assignment, entry, valuation, AssignsAt, Assigns, Entries, Complete}
 use Rattle.terms.specs.Listing.{In, Full}
 use Rattle.matching.specs.Abstractions.{same}
 use Rattle.matching.specs.Cases.{Case, Case.lists, Case.rejects, Case.sweeps, Case.reducible, CaseHolds, cases}
@@ -47,7 +47,7 @@ below? n (loc k) = yes tt
 below? n (con k) = yes tt
 below? n (var i) = decLt i n
 
-abbrev assigned? : (o : Option Term) → Dec (Assigned (Unit {0}) o)
+abbrev assigned? : (o : Option Term) → Dec (AssignsAt (Unit {0}) o)
 assigned? none = yes tt
 assigned? (some v) = dec-map (λ h. (tt, h)) (λ h. h .1) (value? v)
 
@@ -56,11 +56,11 @@ assigns? [] = yes tt
 assigns? (o ∷ a) = dec-× (assigned? o) (assigns? a)
 
 -- the entry is assigned, and every variable's is
-abbrev HasValue : Option Term → Type 0
-HasValue none = ⊥
-HasValue (some v) = Unit {0}
+abbrev IsAssigned : Option Term → Type 0
+IsAssigned none = ⊥
+IsAssigned (some v) = Unit {0}
 
-abbrev has-value? : (o : Option Term) → Dec (HasValue o)
+abbrev has-value? : (o : Option Term) → Dec (IsAssigned o)
 has-value? none = no (λ x. x)
 has-value? (some v) = yes tt
 
@@ -69,7 +69,7 @@ FilledIn a (app f e) = FilledIn a f × FilledIn a e
 FilledIn a (lam b) = FilledIn a b
 FilledIn a (loc k) = Unit {0}
 FilledIn a (con k) = Unit {0}
-FilledIn a (var i) = HasValue (entry a i)
+FilledIn a (var i) = IsAssigned (entry a i)
 
 abbrev filledIn? : (a : Assignment) (p : Term) → Dec (FilledIn a p)
 filledIn? a (app f e) = dec-× (filledIn? a f) (filledIn? a e)
@@ -78,28 +78,28 @@ filledIn? a (loc k) = yes tt
 filledIn? a (con k) = yes tt
 filledIn? a (var i) = has-value? (entry a i)
 
-filled-is : (o : Option Term) → HasValue o → (v : Term) × (o ≡ some v)
-filled-is none h = absurd h
-filled-is (some v) h = (v, refl)
+assigned-some : (o : Option Term) → IsAssigned o → (v : Term) × (o ≡ some v)
+assigned-some none h = absurd h
+assigned-some (some v) h = (v, refl)
 
 complete-of : (a : Assignment) (p : Term) → FilledIn a p → Complete p a
 complete-of a (app f e) h i o = ⊎-elim (complete-of a f (h .0) i) (complete-of a e (h .1) i) o
 complete-of a (lam b) h i o = complete-of a b h i o
 complete-of a (loc k) h i o = absurd o
 complete-of a (con k) h i o = absurd o
-complete-of a (var k) h i o = rw o (filled-is (entry a k) h)
+complete-of a (var k) h i o = rw o (assigned-some (entry a k) h)
 
 -- a row's test over n variables: what computes, and the claim that it gives
 abbrev Test : ℕ → Case → Type 0
 Test n (lists p t ls) = (Below n p × Normal t) × (fullListing n p t ≡ ls)
-Test n (rejects p t a) = Entries n a × (FilledIn a p × ¬ (sweep (fill (values a) p) ≡ t))
+Test n (rejects p t a) = Entries n a × (FilledIn a p × ¬ (sweep (fill (valuation a) p) ≡ t))
 Test n (sweeps t s) = sweep t ≡ s
 Test n (reducible t) = ¬ Normal t
 
 abbrev test? : (n : ℕ) (c : Case) → Dec (Test n c)
 test? n (lists p t ls) = dec-× (dec-× (below? n p) (normal? t)) (same-list (same-list same-option) (fullListing n p t) ls)
 test? n (rejects p t a) =
-    dec-× (dec-× (ℕ-discrete (length a) n) (assigns? a)) (dec-× (filledIn? a p) (dec-¬ (same (sweep (fill (values a) p)) t)))
+    dec-× (dec-× (ℕ-discrete (length a) n) (assigns? a)) (dec-× (filledIn? a p) (dec-¬ (same (sweep (fill (valuation a) p)) t)))
 test? n (sweeps t s) = same (sweep t) s
 test? n (reducible t) = dec-¬ (normal? t)
 

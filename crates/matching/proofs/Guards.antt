@@ -11,6 +11,7 @@ use borrow.Author.Tests.{eqb-true, eqb-false, le-ltb}
 use Rattle.terms.specs.Term.{Term, app, lam, loc, con, var, Closed, shift, unshift, substitute, uses, isAbstraction}
 use Rattle.terms.specs.Sweep.{contract, sweep, fill}
 use Rattle.terms.proofs.Tests.{by-ltb, or-false, and-split}
+use Rattle.terms.proofs.Shift.{shift-high}
 use Rattle.terms.proofs.Substitute.{by-substitute, substitute-high}
 use Rattle.terms.proofs.Sweep.{contract-app}
 use Rattle.terms.proofs.Contracted.{Abstracted, Abstracted.out, Abstracted.kept, abstracted}
@@ -84,9 +85,6 @@ guarded-closed d k (con n) l c = tt
 guarded-closed d k (var n) l c = tt
 
 -- shifting, and moving out
-pub shift-high : (d c n : ℕ) → c ≤ n → shift d c (loc n) ≡ loc (n + d)
-shift-high d c n l = rw (le-ltb n c l)
-
 guarded-shift : (d c k j : ℕ) (t : Term) → c ≤ k → j ≡ k + d → Guarded k t → Guarded j (shift d c t)
 guarded-shift d c k j (app f a) l e g = (
   guarded-shift d c k j f l e (g .0),

@@ -10,7 +10,7 @@ pub mod Partial
 pub mod Unique
 pub mod Listing
 pub mod Sizes
-pub mod Prune
+pub mod Cuts
 pub mod Goals
 pub mod Targets
 pub mod Occurrences

@@ -13,7 +13,7 @@ use Rattle.terms.specs.Term.{Term, con, Value}
 use Rattle.terms.specs.Assignment.{Assigns}
 use Rattle.terms.specs.Listing.{In, Line}
 use Rattle.terms.specs.Members.{Distinct}
-use Rattle.terms.proofs.Members.{in-left, in-right, in-append, distinct-append, one}
+use Rattle.terms.proofs.Members.{in-left, in-right, in-append, distinct-append, in-one}
 use Rattle.matching.specs.Lists.{Predicate, Lists, Values, Extends}
 use Rattle.matching.proofs.Members.{flatMap, flatMap-in, distinct-flatMap}
 use Rattle.matching.proofs.Lines.{joins, merge, extends-joins, joins-extends, joins-once, joins-distinct}
@@ -92,11 +92,11 @@ module _ (n : ℕ) (S : ℕ → Type 0) where
   pub lists-one : (Q : Predicate) (k : Line) → length k ≡ n → Assigns S k → ((φ : ℕ → Term) → Values φ → Q φ ↔ Extends φ k)
       → Lists n S Q (k ∷ [])
   lists-one Q k e a f = record {
-    entries = λ l i. ap length (one i) ∙ e;
-    assigns = λ l i. subst (Assigns S) (sym (one i)) a;
-    sound = λ φ v l i g. f φ v .1 (subst (Extends φ) (one i) g);
+    entries = λ l i. ap length (in-one i) ∙ e;
+    assigns = λ l i. subst (Assigns S) (sym (in-one i)) a;
+    sound = λ φ v l i g. f φ v .1 (subst (Extends φ) (in-one i) g);
     covers = λ φ v s. (k, inl refl, f φ v .0 s);
-    once = λ φ v l m i j g h. one i ∙ sym (one j);
+    once = λ φ v l m i j g h. in-one i ∙ sym (in-one j);
     distinct = (λ i. i, tt);
   }
 

@@ -12,7 +12,7 @@ use lib.Dec.{lit<}
 use lib.ListN.{length}
 use Rattle.terms.specs.Term.{Term, con, Value, Occurs, Below}
 use Rattle.terms.specs.Sweep.{sweep, fill}
-use Rattle.terms.specs.Assignment.{Assignment, entry, values, valueOr, Assigns, Entries, Complete, Match}
+use Rattle.terms.specs.Assignment.{Assignment, entry, valuation, valueOr, Assigns, Entries, Complete, Match}
 use Rattle.terms.specs.Listing.{In, Line, Rising, AgreesAt, Agrees, Full}
 use Rattle.terms.proofs.Sweep.{fill-same}
 use Rattle.terms.proofs.Occurs.{occurs-below}
@@ -32,8 +32,8 @@ values-total n a e i = go (entry a i) refl
     go none p = (tt, tt, lit< tt)
     go (some v) p = assigns-entry (λ j. Unit {0}) a i v (e .1) p .1
 
-pub fill-total : (p : Term) (a : Assignment) → Complete p a → fill (values a) p ≡ fill (totalOf a) p
-fill-total p a c = fill-same (values a) (totalOf a) p (λ i o. let v = c i o in rw (v .1))
+pub fill-total : (p : Term) (a : Assignment) → Complete p a → fill (valuation a) p ≡ fill (totalOf a) p
+fill-total p a c = fill-same (valuation a) (totalOf a) p (λ i o. let v = c i o in rw (v .1))
 
 agrees-extends : (a l : Line) → Agrees a l → Extends (totalOf a) l
 agrees-extends [] [] g = tt
@@ -73,8 +73,8 @@ module _ (n : ℕ) (p : Term) (b : Below n p) where
   pub complete-restrict : (φ : ℕ → Term) → Complete p (restrict n φ)
   complete-restrict φ i o = (φ i, entry-restrict n φ i (occurs-below n i p b o))
 
-  pub fill-restrict : (φ : ℕ → Term) → fill (values (restrict n φ)) p ≡ fill φ p
-  fill-restrict φ = fill-same (values (restrict n φ)) φ p (λ i o. rw (entry-restrict n φ i (occurs-below n i p b o)))
+  pub fill-restrict : (φ : ℕ → Term) → fill (valuation (restrict n φ)) p ≡ fill φ p
+  fill-restrict φ = fill-same (valuation (restrict n φ)) φ p (λ i o. rw (entry-restrict n φ i (occurs-below n i p b o)))
 
 pub agrees-restrict : (n : ℕ) (φ : ℕ → Term) (l : Line) → length l ≡ n → Extends φ l ↔ Agrees (restrict n φ) l
 agrees-restrict zero φ [] e = (λ g. tt, λ g. tt)

@@ -10,13 +10,13 @@ use mathlib.Core.List.{List}
 use Prim.Native.Nat.{ℕ, suc, _+_, _-_, _≤_, _<_}
 use native.Mathlib.Omega.{arith}
 use lib.Dec.{eqb}
-use borrow.Author.Tests.{lt-ltb, le-ltb}
+use borrow.Author.Tests.{le-ltb}
 use Rattle.terms.specs.Term.{Term, app, lam, loc, con, var, Closed, Occurs, Below, shift, unshift, uses, substitute, isAbstraction, isEta}
 use Rattle.terms.specs.Sweep.{sweep, contract, fill}
 use Rattle.terms.specs.Listing.{Line, Full}
 use Rattle.terms.specs.Heads.{rigid}
 use Rattle.terms.proofs.Tests.{by-ltb, by-eqb, or-true}
-use Rattle.terms.proofs.Shift.{isEta-shift, isAbstraction-shift, shift-unshift}
+use Rattle.terms.proofs.Shift.{shift-low, shift-high, isEta-shift, isAbstraction-shift, shift-unshift}
 use Rattle.terms.proofs.Substitute.{by-substitute, substitute-here, substitute-low, substitute-high, substitute-shift, substitute-unused}
 use Rattle.terms.proofs.Substitute.{unused-substitute, isEta-substitute}
 use Rattle.terms.proofs.Sweep.{contract-app}
@@ -29,7 +29,7 @@ use Rattle.matching.specs.Goals.{Sweeps}
 use Rattle.matching.proofs.Lists.{lists-same, lists-more}
 use Rattle.matching.proofs.Partial.{full-lists, lists-full}
 use Rattle.matching.proofs.Step.{isAbstraction-unshift, contract-to-other}
-use Rattle.matching.proofs.Guards.{Guarded, guarded-is, guarded-unshift, guarded-fill, guarded-sweep, guarded-head, shift-high}
+use Rattle.matching.proofs.Guards.{Guarded, guarded-is, guarded-unshift, guarded-fill, guarded-sweep, guarded-head}
 
 pub record Passes (h : ℕ → Term → Term) : Type 0 where
   pub application : (k : ℕ) (f a : Term) → h k (app f a) ≡ app (h k f) (h k a)
@@ -38,9 +38,6 @@ pub record Passes (h : ℕ → Term → Term) : Type 0 where
   pub variable : (k n : ℕ) → h k (var n) ≡ var n
   pub low : (k n : ℕ) → n < k → h k (loc n) ≡ loc n
   pub high : (d b k n : ℕ) → b ≤ k → k ≤ n → h (k + d) (loc (n + d)) ≡ shift d b (h k (loc n))
-
-shift-low : (d b n : ℕ) → n < b → shift d b (loc n) ≡ loc n
-shift-low d b n l = rw (lt-ltb n b l)
 
 raised : (n k : ℕ) → k < n → loc n ≡ shift 1 k (loc (n - 1))
 raised n k l = rw (le-ltb (n - 1) k (omega arith)) (ap loc (omega arith))

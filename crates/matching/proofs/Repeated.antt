@@ -1,9 +1,9 @@
 -- One variable applied to constants in two places: at most one value comes to both targets, and it is read off them place by place.
 -- By induction on the body below the abstractions of the value, the constants standing where its locals stood. Assumes nothing.
---   bodies n v             what stands below n abstractions of v, each made where v has none
+--   bodyBelow n v          what stands below n abstractions of v, each made where v has none
 --   replace d cs t         t with the constants cs for its locals from d on, the first for local d; the locals above move down
 --   Comes d ps t u b       b comes to both so
---   Both ps i t u φ        variable i, applied to the first constants and to the second, sweeps to t and to u
+--   BothSweep ps i t u φ   variable i, applied to the first constants and to the second, sweeps to t and to u
 --   repeated ps i t u gs   these two goals before the goals gs
 use mathlib.Core.Path.{_≡_, refl, sym, ap, ap₂, _∙_, subst}
 use mathlib.Core.Bool.{Bool, true, false, cond, _&&_}
@@ -40,18 +40,18 @@ suits-spine n S f [] x = x
 suits-spine n S f (c ∷ cs) x = suits-spine n S f cs (x .0 .0, λ i o. x .1 i (inl o))
 
 -- a value and the body below its abstractions
-abbrev pub bodies : ℕ → Term → Term
-bodies zero v = v
-bodies (suc n) v = bodyTarget (bodies n v)
+abbrev pub bodyBelow : ℕ → Term → Term
+bodyBelow zero v = v
+bodyBelow (suc n) v = bodyTarget (bodyBelow n v)
 
-bodies-normal : (n : ℕ) (v : Term) → Normal v → Normal (bodies n v)
+bodies-normal : (n : ℕ) (v : Term) → Normal v → Normal (bodyBelow n v)
 bodies-normal zero v h = h
-bodies-normal (suc n) v h = bodyTarget-normal (bodies n v) (bodies-normal n v h)
+bodies-normal (suc n) v h = bodyTarget-normal (bodyBelow n v) (bodies-normal n v h)
 
-pub enclose-bodies : (n : ℕ) (v : Term) → Normal v → enclose n (bodies n v) ≡ v
+pub enclose-bodies : (n : ℕ) (v : Term) → Normal v → enclose n (bodyBelow n v) ≡ v
 enclose-bodies zero v h = refl
 enclose-bodies (suc n) v h =
-    ap (enclose n) (contract-to (bodies (suc n) v) (bodies n v) (bodies-normal n v h) .1 refl) ∙ enclose-bodies n v h
+    ap (enclose n) (contract-to (bodyBelow (suc n) v) (bodyBelow n v) (bodies-normal n v h) .1 refl) ∙ enclose-bodies n v h
 
 -- what one abstraction over a body of a value comes to
 normal-contract : (b : Term) → Normal b → Normal (contract (lam b))
@@ -105,7 +105,7 @@ ground-enclose : (n : ℕ) (b : Term) → Ground b → Ground (enclose n b)
 ground-enclose zero b h = h
 ground-enclose (suc n) b h = ground-enclose n (contract (lam b)) (ground-contract b h)
 
-pub bodies-enclose : (n : ℕ) (b : Term) → Normal b → bodies n (enclose n b) ≡ b
+pub bodies-enclose : (n : ℕ) (b : Term) → Normal b → bodyBelow n (enclose n b) ≡ b
 bodies-enclose zero b h = refl
 bodies-enclose (suc n) b h =
     let c = contract (lam b) in
@@ -247,14 +247,14 @@ contract-constant (var n) c = refl
 
 pub sweep-spine :
     (φ : ℕ → Term) (i n : ℕ) (cs : List ℕ) → length cs ≡ n → Normal (φ i)
-    → sweep (fill φ (spine (var i) cs)) ≡ replace 0 cs (bodies n (φ i))
+    → sweep (fill φ (spine (var i) cs)) ≡ replace 0 cs (bodyBelow n (φ i))
 sweep-spine φ i zero [] e h = sweep-normal (φ i) h ∙ sym (replace-none 0 (φ i))
 sweep-spine φ i zero (c ∷ cs) e h = absurd (omega arith)
 sweep-spine φ i (suc n) [] e h = absurd (omega arith)
 sweep-spine φ i (suc n) (c ∷ cs) e h =
     contract-constant (sweep (fill φ (spine (var i) cs))) c
     ∙ ap (λ x. substitute 0 (con c) (bodyTarget x)) (sweep-spine φ i n cs (omega arith) h)
-    ∙ ap (substitute 0 (con c)) (bodyTarget-replace 0 cs (bodies n (φ i))) ∙ substitute-replace 0 c cs (bodies (suc n) (φ i))
+    ∙ ap (substitute 0 (con c)) (bodyTarget-replace 0 cs (bodyBelow n (φ i))) ∙ substitute-replace 0 c cs (bodyBelow (suc n) (φ i))
 
 -- by the kinds of the first records
 pub join-kinds : (d : ℕ) (ps : List (ℕ × ℕ)) (t u : Term) → ¬ (kind t ≡ kind u) → join d ps t u ≡ none
@@ -327,14 +327,14 @@ constants-other d (p ∷ ps) m n h =
     rw (unlike m n p (λ x y. h (inl (ap₂ (λ i j. (i, j)) x y)))) (constants-other (suc d) ps m n (λ i. h (inr i)))
 
 -- a local that a constant replaced
-record Replaced (d k : ℕ) (ps : List (ℕ × ℕ)) : Type 0 where
+record LocalPair (d k : ℕ) (ps : List (ℕ × ℕ)) : Type 0 where
   pair : ℕ × ℕ
   member : In pair ps
   first : pick d (firsts ps) k ≡ con (pair .0)
   second : pick d (seconds ps) k ≡ con (pair .1)
   found : (e : ℕ) → atConstants e ps (pair .0) (pair .1) ≡ some (loc (e + k))
 
-replaced : (d k : ℕ) (ps : List (ℕ × ℕ)) → PairsApart ps → k < length ps → Replaced d k ps
+replaced : (d k : ℕ) (ps : List (ℕ × ℕ)) → PairsApart ps → k < length ps → LocalPair d k ps
 replaced d k [] h l = absurd (omega arith)
 replaced d zero (p ∷ ps) h l = record {
   pair = p;
@@ -475,20 +475,21 @@ module _ (ps : List (ℕ × ℕ)) where
       (sym (size-replace d (firsts ps) b) ∙ ap size (s .0), sym (size-replace d (seconds ps) b) ∙ ap size (s .1))
 
 -- the two goals of a variable, and the body below the abstractions of its value
-abbrev pub Both : List (ℕ × ℕ) → ℕ → Term → Term → Predicate
-Both ps i t u φ = Sweeps (spine (var i) (firsts ps)) t φ × Sweeps (spine (var i) (seconds ps)) u φ
+abbrev pub BothSweep : List (ℕ × ℕ) → ℕ → Term → Term → Predicate
+BothSweep ps i t u φ = Sweeps (spine (var i) (firsts ps)) t φ × Sweeps (spine (var i) (seconds ps)) u φ
 
 abbrev pub repeated : List (ℕ × ℕ) → ℕ → Term → Term → List Goal → List Goal
 repeated ps i t u gs = match (spine (var i) (firsts ps)) t ∷ match (spine (var i) (seconds ps)) u ∷ gs
 
 pub both-comes :
-    (ps : List (ℕ × ℕ)) (i : ℕ) (t u : Term) (φ : ℕ → Term) → Normal (φ i) → Both ps i t u φ ↔ Comes 0 ps t u (bodies (length ps) (φ i))
+    (ps : List (ℕ × ℕ)) (i : ℕ) (t u : Term) (φ : ℕ → Term) → Normal (φ i) → BothSweep ps i t u φ ↔ Comes 0 ps t u
+    (bodyBelow (length ps) (φ i))
 both-comes ps i t u φ h = (λ s. (sym x ∙ s .0, sym y ∙ s .1), λ s. (x ∙ s .0, y ∙ s .1))
   where
-    x : sweep (fill φ (spine (var i) (firsts ps))) ≡ replace 0 (firsts ps) (bodies (length ps) (φ i))
+    x : sweep (fill φ (spine (var i) (firsts ps))) ≡ replace 0 (firsts ps) (bodyBelow (length ps) (φ i))
     x = sweep-spine φ i (length ps) (firsts ps) (length-firsts ps) h
 
-    y : sweep (fill φ (spine (var i) (seconds ps))) ≡ replace 0 (seconds ps) (bodies (length ps) (φ i))
+    y : sweep (fill φ (spine (var i) (seconds ps))) ≡ replace 0 (seconds ps) (bodyBelow (length ps) (φ i))
     y = sweep-spine φ i (length ps) (seconds ps) (length-seconds ps) h
 
 -- what is found is the body of a value, with which both goals are met
@@ -509,9 +510,9 @@ module _ (ps : List (ℕ × ℕ)) (t u b : Term) (e : join 0 ps t u ≡ some b) 
   pub enclose-ground : Ground t → Ground (enclose (length ps) b)
   enclose-ground h = ground-enclose (length ps) b (ground-replace 0 (firsts ps) b (rw (join-sound ps 0 t u b e .0) h))
 
-  pub both-meets : (i : ℕ) (φ : ℕ → Term) → Normal (φ i) → Normal t → φ i ≡ enclose (length ps) b → Both ps i t u φ
+  pub both-meets : (i : ℕ) (φ : ℕ → Term) → Normal (φ i) → Normal t → φ i ≡ enclose (length ps) b → BothSweep ps i t u φ
   both-meets i φ v h q =
-      let r : b ≡ bodies (length ps) (φ i) = sym (ap (bodies (length ps)) q ∙ bodies-enclose (length ps) b (join-normal h)) in
+      let r : b ≡ bodyBelow (length ps) (φ i) = sym (ap (bodyBelow (length ps)) q ∙ bodies-enclose (length ps) b (join-normal h)) in
       both-comes ps i t u φ v .1 (subst (Comes 0 ps t u) r (join-sound ps 0 t u b e))
 
 -- it is the only one
@@ -541,17 +542,17 @@ module _ (ps : List (ℕ × ℕ)) (h : PairsApart ps) where
   join-unique d b t u s = ap₂ (join d ps) (sym (s .0)) (sym (s .1)) ∙ join-replace d b
 
   module _ (i : ℕ) (t u : Term) (φ : ℕ → Term) (v : Normal (φ i)) where
-    pub join-value : Both ps i t u φ → join 0 ps t u ≡ some (bodies (length ps) (φ i))
-    join-value s = join-unique 0 (bodies (length ps) (φ i)) t u (both-comes ps i t u φ v .0 s)
+    pub join-value : BothSweep ps i t u φ → join 0 ps t u ≡ some (bodyBelow (length ps) (φ i))
+    join-value s = join-unique 0 (bodyBelow (length ps) (φ i)) t u (both-comes ps i t u φ v .0 s)
 
-    pub forced-value : (b : Term) → join 0 ps t u ≡ some b → Both ps i t u φ → φ i ≡ enclose (length ps) b
+    pub forced-value : (b : Term) → join 0 ps t u ≡ some b → BothSweep ps i t u φ → φ i ≡ enclose (length ps) b
     forced-value b e s = sym (enclose-bodies (length ps) (φ i) v) ∙ ap (enclose (length ps)) (let r = sym (join-value s) ∙ e in (cc))
 
-    pub no-value : join 0 ps t u ≡ none → ¬ Both ps i t u φ
-    no-value e s = subst IsSome (sym (join-value s) ∙ e) tt
+    pub join-no-value : join 0 ps t u ≡ none → ¬ BothSweep ps i t u φ
+    join-no-value e s = subst IsSome (sym (join-value s) ∙ e) tt
 
     -- the two goals together are that the variable has this value
-    pub forced-exactly : (b : Term) → join 0 ps t u ≡ some b → Normal t → Both ps i t u φ ↔ (φ i ≡ enclose (length ps) b)
+    pub forced-exactly : (b : Term) → join 0 ps t u ≡ some b → Normal t → BothSweep ps i t u φ ↔ (φ i ≡ enclose (length ps) b)
     forced-exactly b e h = (forced-value b e, both-meets ps t u b e i φ v h)
 
     -- among the goals of a search, one goal for the two
@@ -564,4 +565,4 @@ module _ (ps : List (ℕ × ℕ)) (h : PairsApart ps) where
         (λ s. (w ∙ r .0 (s .0, s .1 .0), s .1 .1), λ s. let x = r .1 (sym w ∙ s .0) in (x .0, (x .1, s .1)))
 
     pub goals-none : (gs : List Goal) → join 0 ps t u ≡ none → ¬ All (repeated ps i t u gs) φ
-    goals-none gs e s = no-value e (s .0, s .1 .0)
+    goals-none gs e s = join-no-value e (s .0, s .1 .0)

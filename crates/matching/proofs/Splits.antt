@@ -15,7 +15,7 @@ use Rattle.terms.specs.Members.{Distinct}
 use Rattle.terms.proofs.Tests.{or-true, true-of}
 use Rattle.terms.proofs.Shift.{unshift-shift}
 use Rattle.terms.proofs.Substitute.{substitute-here}
-use Rattle.terms.proofs.Members.{in-left, in-right, in-append, distinct-append, one}
+use Rattle.terms.proofs.Members.{in-left, in-right, in-append, distinct-append, in-one}
 use Rattle.terms.proofs.Table.{lam-inj}
 use Rattle.matching.specs.Abstractions.{same, abstractions}
 use Rattle.matching.proofs.Abstractions.{abstractions-iff, abstractions-distinct}
@@ -56,11 +56,11 @@ buildable t e = flatMap built (abstractions e 0 t)
 abbrev withArgument : Term → Term → Term × Term
 withArgument e b = (lam b, e)
 
-abbrev bodies : Term → Term → List (Term × Term)
-bodies t e = map (withArgument e) (buildable t e)
+abbrev splitsAt : Term → Term → List (Term × Term)
+splitsAt t e = map (withArgument e) (buildable t e)
 
 abbrev pub splits : Term → List (Term × Term)
-splits t = ownParts t ++ flatMap (bodies t) (candidates t)
+splits t = ownParts t ++ flatMap (splitsAt t) (candidates t)
 
 in-movable : (d : ℕ) (e : Term) → In e (movable d (shift d 0 e))
 in-movable d e = rw (unshift-shift d 0 e) (in-guard (same (shift d 0 e) (shift d 0 e)) e refl)
@@ -88,7 +88,7 @@ in-candidates e b t q u = in-nub same e (movableParts 0 t) (rw q at (in-movableP
 
 -- the members are the splits
 ownParts-in : (t : Term) (q : Term × Term) → In q (ownParts t) → t ≡ app (q .0) (q .1)
-ownParts-in (app f a) q p = rw (one p)
+ownParts-in (app f a) q p = rw (in-one p)
 ownParts-in (lam b) q p = absurd p
 ownParts-in (loc n) q p = absurd p
 ownParts-in (con n) q p = absurd p
@@ -113,15 +113,15 @@ buildable-distinct t e =
     (λ b c d i j p q.
     sym (guard-in (dec-× (dec-T (uses 0 b)) (normal? (lam b))) b d p .0) ∙ guard-in (dec-× (dec-T (uses 0 c)) (normal? (lam c))) c d q .0)
 
-bodies-in : (t e : Term) (q : Term × Term) → In q (bodies t e) → (b : Term) × In b (buildable t e) × (q ≡ (lam b, e))
+bodies-in : (t e : Term) (q : Term × Term) → In q (splitsAt t e) → (b : Term) × In b (buildable t e) × (q ≡ (lam b, e))
 bodies-in t e q p = map-in (withArgument e) q (buildable t e) p
 
 pub splits-in : (t : Term) (q : Term × Term) → In q (splits t) → Split (q .0) (q .1) t
 splits-in t q p = ⊎-elim (λ r. parts (ownParts-in t q r)) go (in-append q (ownParts t) _ p)
   where
-    go : In q (flatMap (bodies t) (candidates t)) → Split (q .0) (q .1) t
+    go : In q (flatMap (splitsAt t) (candidates t)) → Split (q .0) (q .1) t
     go p =
-        let r = flatMap-in (bodies t) q (candidates t) p in
+        let r = flatMap-in (splitsAt t) q (candidates t) p in
         let s = bodies-in t (r .0) q (r .2) in
         let k = buildable-in t (r .0) (s .0) (s .1) in
         rw (s .2) (body (s .0) refl (k .0) (k .1) (k .2))
@@ -130,7 +130,7 @@ pub in-splits : (f e t : Term) → Split f e t → In (f, e) (splits t)
 in-splits f e t (parts p) = rw p (inl refl)
 in-splits f e t (body b p q u n) =
     rw p (in-right (lam b, e) (ownParts t) _
-    (in-flatMap (bodies t) e (lam b, e) (candidates t) (in-candidates e b t q u)
+    (in-flatMap (splitsAt t) e (lam b, e) (candidates t) (in-candidates e b t q u)
     (in-map (withArgument e) b (buildable t e) (in-buildable t e b q u n))))
 
 -- none twice
@@ -141,15 +141,15 @@ ownParts-distinct (loc n) = tt
 ownParts-distinct (con n) = tt
 ownParts-distinct (var n) = tt
 
-bodies-distinct : (t e : Term) → Distinct (bodies t e)
+bodies-distinct : (t e : Term) → Distinct (splitsAt t e)
 bodies-distinct t e = distinct-map (withArgument e) (λ b c p. lam-inj b c (ap (λ z. z .0) p)) (buildable t e) (buildable-distinct t e)
 
 pub splits-distinct : (t : Term) → Normal t → Distinct (splits t)
 splits-distinct t h =
-    distinct-append (ownParts t) (flatMap (bodies t) (candidates t)) (ownParts-distinct t)
-    (distinct-flatMap (bodies t) (candidates t) (distinct-nub same (movableParts 0 t)) (λ e i. bodies-distinct t e)
+    distinct-append (ownParts t) (flatMap (splitsAt t) (candidates t)) (ownParts-distinct t)
+    (distinct-flatMap (splitsAt t) (candidates t) (distinct-nub same (movableParts 0 t)) (λ e i. bodies-distinct t e)
     (λ e d q i j p r. ap (λ z. z .1) (sym (bodies-in t e q p .2) ∙ bodies-in t d q r .2)))
     (λ q p r.
-    let a = flatMap-in (bodies t) q (candidates t) r in
+    let a = flatMap-in (splitsAt t) q (candidates t) r in
     let n : Normal (app (q .0) (q .1)) = rw (ownParts-in t q p) at h in
     subst (λ z. T (not (isAbstraction (z .0)))) (bodies-in t (a .0) q (a .2) .2) (n .0))

@@ -126,7 +126,7 @@ argument-normal f e t h (body b p q u n) = normal-used 0 e b u (rw q h)
 pub constant-normal : (t : Term) → Normal t → Normal (constant t)
 constant-normal t h = (rw (isEta-below 0 t) tt, rw (normal-shift 1 0 t) h)
 
--- a head that splits the target doesn't throw its argument away
+-- a head that splits the target doesn't ignore its argument
 pub split-constant : (f e t : Term) → Normal t → Split f e t → f ≡ constant t → ⊥
 split-constant f e t h (parts p) q = let n : Normal (app f e) = rw p at h in subst (λ x. T (not (isAbstraction x))) q (n .0)
 split-constant f e t h (body b p q u n) r =

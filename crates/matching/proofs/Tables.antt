@@ -9,7 +9,7 @@ use lib.Dec.{lit<}
 use Rattle.terms.specs.Term.{Term, Value, Closed, Below}
 use Rattle.terms.specs.Table.{encode}
 use Rattle.terms.specs.Sweep.{sweep, fill}
-use Rattle.terms.specs.Assignment.{Assignment, values, Entries, Complete, Match}
+use Rattle.terms.specs.Assignment.{Assignment, valuation, Entries, Complete, Match}
 use Rattle.terms.specs.Refusal.{Filled, Matches}
 use Rattle.terms.proofs.Occurs.{ChosenValues, chosen-values}
 use Rattle.terms.proofs.Refusal.{filled-one}
@@ -37,7 +37,7 @@ module _ (n : ℕ) (p l s : List ℕ) (u : Term) (f : Filled p l s u) (b : Below
   unfolding lent
   complete-lent = complete-restrict n (f .term) b (chosen .φ)
 
-  pub fill-lent : fill (values lent) (f .term) ≡ u
+  pub fill-lent : fill (valuation lent) (f .term) ≡ u
   unfolding lent
   fill-lent =
       fill-restrict n (f .term) b (chosen .φ) ∙ fill-same (chosen .φ) (f .φ) (f .term) (λ i o. chosen .holds i o .0) ∙ sym (f .is)

@@ -55,7 +55,7 @@ bodyTarget-ground (loc k) h = (rw (ground-shift 1 0 (loc k)) tt, tt)
 bodyTarget-ground (con k) h = (h, tt)
 bodyTarget-ground (var k) h = absurd h
 
--- the target of a head that throws its argument away
+-- the target of a head that ignores its argument
 pub constant-closed : (n : ℕ) (t : Term) → Closed n t → Closed n (constant t)
 constant-closed n t h = closed-shift 1 0 n (suc n) t (omega arith) h
 

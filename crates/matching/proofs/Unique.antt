@@ -17,30 +17,30 @@ use Rattle.matching.proofs.Lines.{Each, each-more}
 use Rattle.matching.proofs.Lists.{fillings, extends-fillings, values-fillings}
 
 -- a value longer than any given bound
-abbrev spine : ℕ → Term
-spine zero = con 0
-spine (suc n) = app (spine n) (con 0)
+abbrev longValue : ℕ → Term
+longValue zero = con 0
+longValue (suc n) = app (longValue n) (con 0)
 
-spine-head : (n : ℕ) → isAbstraction (spine n) ≡ false
+spine-head : (n : ℕ) → isAbstraction (longValue n) ≡ false
 spine-head zero = refl
 spine-head (suc n) = refl
 
-spine-size : (n : ℕ) → n < size (spine n)
+spine-size : (n : ℕ) → n < size (longValue n)
 spine-size zero = omega arith
 spine-size (suc n) = omega (arith, spine-size n)
 
-spine-value : (n : ℕ) → Value (spine n)
+spine-value : (n : ℕ) → Value (longValue n)
 spine-value zero = (tt, tt, lit< tt)
 spine-value (suc n) = let v = spine-value n in ((v .0, tt), (rw (spine-head n) tt, v .1, tt), (v .2, lit< tt))
 
 -- every value of the line is shorter than k
-abbrev Short : ℕ → Line → Type 0
-Short k l = Each (λ v. size v < k) l
+abbrev ShorterThan : ℕ → Line → Type 0
+ShorterThan k l = Each (λ v. size v < k) l
 
-short-more : (k j : ℕ) → k ≤ j → (l : Line) → Short k l → Short j l
+short-more : (k j : ℕ) → k ≤ j → (l : Line) → ShorterThan k l → ShorterThan j l
 short-more k j h l s = each-more (λ v. size v < k) (λ v. size v < j) (λ v q. omega arith) l s
 
-longer : (l : Line) → (k : ℕ) × Short k l
+longer : (l : Line) → (k : ℕ) × ShorterThan k l
 longer [] = (0, tt)
 longer (none ∷ l) = let b = longer l in (b .0, (tt, b .1))
 longer (some v ∷ l) =
@@ -48,7 +48,7 @@ longer (some v ∷ l) =
     let k = suc (size v) + b .0 in
     (k, (omega arith, short-more (b .0) k (omega arith) l (b .1)))
 
-longest : (ls : List Line) → (k : ℕ) × ((l : Line) → In l ls → Short k l)
+longest : (ls : List Line) → (k : ℕ) × ((l : Line) → In l ls → ShorterThan k l)
 longest [] = (0, λ l p. absurd p)
 longest (l ∷ ls) =
     let a = longer l in
@@ -76,7 +76,7 @@ agrees-same (o ∷ l) [] p r = absurd p
 agrees-same (o ∷ l) (q ∷ m) p r = ap₂ _∷_ (agrees-at-same o q (p .0) (r .0)) (agrees-same l m (p .1) (r .1))
 
 -- a line that a long filling of another extends assigns no more than that
-agrees-long : (k : ℕ) (u : Term) → k ≤ size u → (l m : Line) → length m ≡ length l → Short k m → Extends (fillings l u) m → Agrees l m
+agrees-long : (k : ℕ) (u : Term) → k ≤ size u → (l m : Line) → length m ≡ length l → ShorterThan k m → Extends (fillings l u) m → Agrees l m
 agrees-long k u h [] [] e s g = tt
 agrees-long k u h [] (q ∷ m) e s g = absurd (omega arith)
 agrees-long k u h (o ∷ l) [] e s g = absurd (omega arith)
@@ -88,11 +88,11 @@ agrees-long k u h (some v ∷ l) (some w ∷ m) e s g = (ap some (g .0), agrees-
 module _ (n : ℕ) (S : ℕ → Type 0) (Q : Predicate) where
   -- for a bound on the values of both
   also :
-      (k : ℕ) (ls ms : List Line) → Lists n S Q ls → Lists n S Q ms → ((l : Line) → In l ls → Short k l)
-      → ((l : Line) → In l ms → Short k l)
+      (k : ℕ) (ls ms : List Line) → Lists n S Q ls → Lists n S Q ms → ((l : Line) → In l ls → ShorterThan k l)
+      → ((l : Line) → In l ms → ShorterThan k l)
       → (l : Line) → In l ls → In l ms
   also k ls ms x y sl sm l i =
-      let u = spine k in
+      let u = longValue k in
       let h : k ≤ size u = omega (arith, spine-size k) in
       let φ = fillings l u in
       let v = values-fillings S l u (x .assigns l i) (spine-value k) in

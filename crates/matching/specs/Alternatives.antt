@@ -1,5 +1,5 @@
 -- The ways in which an application can come to its target.
---   constant t              the target of a head that throws its argument away
+--   constant t              the target of a head that ignores its argument
 --   Alternative f a t i φ   the filled application of f and a comes to t in way i
 use mathlib.Core.Path.{_≡_}
 use Prim.Native.Nat.{ℕ, zero, suc}

@@ -8,15 +8,12 @@
 
 use libc::STDOUT_FILENO;
 use records::Kind;
+use records::LINE;
 use records::RECORD;
 use records::TABLE_BYTES;
-use records::VARIABLES;
 ghost use Prim.Native.Nat.{_≤_};
 ghost use lib.ListN.{length};
 ghost use Rattle.io.specs.Counts.{Counts};
-
-// The bytes of a line, which has an entry for each variable.
-const LINE: usize = RECORD * VARIABLES;
 
 // How many values one byte has.
 const BYTE: usize = 256;

@@ -1,7 +1,7 @@
 -- One variable in two deferred goals: what finding them shows, and the agenda that is left when its value was written. By the list of
 -- goals, and by the value, which is the only one that comes to both targets. Assumes nothing.
 --   Among P W top i gs    the goal that stands at byte i, among the goals gs of a list, and the list behind it
---   Known P W top i p t   whatever deferred goal stands at byte i is that p sweeps to the target t
+--   GoalKnown P W top i p t   whatever deferred goal stands at byte i is that p sweeps to the target t
 --   Meant P W s r         the two goals of r: their targets, and what is known of them
 use mathlib.Core.Path.{_≡_, refl, sym, ap, ap₂, _∙_, subst}
 use mathlib.Core.List.{List, [], _∷_}
@@ -38,7 +38,8 @@ use Rattle.ordering.specs.declared.repeated.Occurrences.{Occurrences}
 use Rattle.ordering.specs.declared.repeated.Search.{Search}
 use Rattle.ordering.specs.declared.repeated.Search.the-variants.{Found, Nothing}
 use Rattle.agenda.specs.Stored.{storedBytes, StoredAt, StoredFits}
-use Rattle.agenda.specs.State.{patternAt, targetAt, nextAt, Target, Easy, Deferred, Node, Chain, weight, weights, Ready}
+use Rattle.agenda.specs.State.{goalBytes, relinking, patternAt, targetAt, nextAt, Target, Easy}
+use Rattle.agenda.specs.State.{Deferred, Node, Chain, weight, weights, Ready}
 use Rattle.agenda.specs.Moves.{Decided}
 use Rattle.agenda.specs.Stored.{storedMatch}
 use Rattle.ordering.specs.Ordering.{Reaches, Reaches.here, Reaches.further, Drops, Dropped}
@@ -134,9 +135,9 @@ module _ (P W : List ℕ) (at : ℕ) where
     }
     finds-further Nothing z = tt
 
-pub found : (P W : List ℕ) (at : ℕ) (o : Search) (r : Occurrences) → o ≡ Found r → RepeatedFound P W at o → Twice P W at r
+pub found-twice : (P W : List ℕ) (at : ℕ) (o : Search) (r : Occurrences) → o ≡ Found r → RepeatedFound P W at o → Twice P W at r
 unfolding RepeatedFound
-found P W at o r e x = let y : RepeatedFound P W at (Found r) = subst (RepeatedFound P W at) e x in y
+found-twice P W at o r e x = let y : RepeatedFound P W at (Found r) = subst (RepeatedFound P W at) e x in y
 
 -- a goal of a list
 record Among (P W : List ℕ) (top i : ℕ) (gs : List Goal) : Type 0 where
@@ -170,8 +171,8 @@ among P W top at i (g ∷ gs) c (further h r) =
     }
 
 -- what is known of a goal, in every work area with the same bytes below `top`
-record Known (P W : List ℕ) (top i : ℕ) (p t : Term) : Type 0 where
-  room : i + 8 ≤ top
+record GoalKnown (P W : List ℕ) (top i : ℕ) (p t : Term) : Type 0 where
+  room : i + goalBytes ≤ top
   kind : getD W (i + 1) 0 ≡ 0
   part : (f : Term) → Part P (patternAt W i) f → f ≡ p
   stands : Part P (patternAt W i) p
@@ -181,7 +182,7 @@ record Known (P W : List ℕ) (top i : ℕ) (p t : Term) : Type 0 where
 known :
     (P W : List ℕ) (top i : ℕ) (p : Term) (g : Goal) → Node Deferred P W top i g → getD W (i + 1) 0 ≡ 0
     → ((f : Term) → Part P (patternAt W i) f → f ≡ p)
-    → (t : Term) × Known P W top i p t
+    → (t : Term) × GoalKnown P W top i p t
 known P W top i p (match f t) n k h =
     let e = h f (n .goal .part) in (
       t,
@@ -196,7 +197,7 @@ known P W top i p (match f t) n k h =
     )
 known P W top i p (build f t e) n k h = absurd (omega (arith, n .goal .kind))
 
-goal-is : (P W X : List ℕ) (top higher i : ℕ) (p t : Term) (g : Goal) → Known P W top i p t → Kept W X top
+goal-is : (P W X : List ℕ) (top higher i : ℕ) (p t : Term) (g : Goal) → GoalKnown P W top i p t → Kept W X top
     → Node Deferred P X higher i g → g ≡ match p t
 goal-is P W X top higher i p t (match f u) k x n =
     let e : f ≡ p = k .part f (subst (λ (j : ℕ). Part P (4 * j) f) (byte-kept W X top x i (omega (arith, k .room))) (n .goal .part)) in
@@ -222,8 +223,8 @@ secondPart P q n = spine (var n) (seconds (pairsOf P q))
 record Meant (P W : List ℕ) (s : Agenda) (r : Occurrences) (n : ℕ) : Type 0 where
   t : Term
   u : Term
-  first : Known P W (s .top) (r .first) (firstPart P (r .pairs) n) t
-  second : Known P W (s .top) (r .second) (secondPart P (r .pairs) n) u
+  first : GoalKnown P W (s .top) (r .first) (firstPart P (r .pairs) n) t
+  second : GoalKnown P W (s .top) (r .second) (secondPart P (r .pairs) n) u
 
 no-easy : (P W : List ℕ) (top at : ℕ) (gs : List Goal) → at ≡ 0 → Chain Easy P W top at gs → gs ≡ []
 no-easy P W top at [] e c = refl
@@ -246,9 +247,9 @@ module _ {P W : List ℕ} {s : Agenda} {a : List Entry} (x : Ready 0 P W s a) wh
         short = b .short;
       }
 
-  pub decided-open : Decided 0 P W s a W decision.Open
+  pub forced-open : Decided 0 P W s a W decision.Open
   unfolding Decided
-  decided-open = refl
+  forced-open = refl
 
   module _ {r : Occurrences} (y : Twice P W (s .deferred) r) where
     -- the two goals, of any list of goals that stands there
@@ -268,10 +269,10 @@ module _ {P W : List ℕ} {s : Agenda} {a : List Entry} (x : Ready 0 P W s a) wh
         (y .repeated .second) in
         record { t = f .0; u = g .0; first = f .1; second = g .1 }
 
-    pub first-room : r .first + 8 ≤ length W
+    pub first-room : r .first + goalBytes ≤ length W
     first-room = omega (arith, meant .first .room, x .bounds .top, x .bounds .whole)
 
-    pub second-room : r .second + 8 ≤ length W
+    pub second-room : r .second + goalBytes ≤ length W
     second-room = omega (arith, meant .second .room, x .bounds .top, x .bounds .whole)
 
     -- each has 2,000 bytes at least
@@ -339,9 +340,9 @@ module _ {P W : List ℕ} {s : Agenda} {a : List Entry} (x : Ready 0 P W s a) wh
       module _ {out after : List ℕ} {w : Walk}
           (z : Joined P (r .pairs) (slice W (one .target)) (slice W (two .target)) 0 out 0 after w) where
         -- no value comes to both targets
-        pub decided-failed : w ≡ No → Decided 0 P W s a W decision.Failed
+        pub forced-failed : w ≡ No → Decided 0 P W s a W decision.Failed
         unfolding Decided
-        decided-failed e = record {
+        forced-failed e = record {
           none = λ gs hs l st φ v m.
               let f = one-among hs (st .deferred) in
               let g = two-among hs (st .deferred) in
@@ -366,8 +367,8 @@ module _ {P W : List ℕ} {s : Agenda} {a : List Entry} (x : Ready 0 P W s a) wh
           target-size : n ≡ 4 * size (meant .t)
           target-size = omega (arith, joined-ends e z .exact (meant .t) target-part)
 
-          pub target-within : n ≤ 4 * valueRecords
-          target-within = omega (arith, target-size, meant .first .target .short)
+          pub forced-target-within : n ≤ 4 * valueRecords
+          forced-target-within = omega (arith, target-size, meant .first .target .short)
 
           joint : Joint P (r .pairs) 0 (meant .t) (meant .u) out 0 after
           joint = joined-joint e z (meant .t) (meant .u) target-part other-part
@@ -379,7 +380,7 @@ module _ {P W : List ℕ} {s : Agenda} {a : List Entry} (x : Ready 0 P W s a) wh
             body-bytes : take (n - 0) (drop 0 after) ≡ encode (joint .body)
             body-bytes =
                 stored out after (encode (joint .body)) n (joint .bytes)
-                (omega (arith, encode-length (joint .body), body-size, target-size)) (omega (arith, target-within))
+                (omega (arith, encode-length (joint .body), body-size, target-size)) (omega (arith, forced-target-within))
 
             pub forced-encloses : Encloses (take (n - 0) (drop 0 after)) (r .pairs .count) (length W) (s .top)
             forced-encloses =
@@ -455,7 +456,7 @@ module _ {P W : List ℕ} {s : Agenda} {a : List Entry} (x : Ready 0 P W s a) wh
                   (one-among (x .hs) (x .state .deferred) .rest)
                   (one-among (x .hs) (x .state .deferred) .chain) (y .later))
 
-              few-deferred : 8 * length (x .hs) ≤ 256
+              few-deferred : goalBytes * length (x .hs) ≤ relinking
               few-deferred = omega (arith, few-goals P W (s .top) (s .deferred) (x .hs) (x .state .deferred), x .state .room)
 
               pub forced-drops : Drops X o (s .deferred) (r .first)
@@ -478,7 +479,7 @@ module _ {P W : List ℕ} {s : Agenda} {a : List Entry} (x : Ready 0 P W s a) wh
                 reaches-two : Reaches Y list (r .second)
                 reaches-two = d .later P (x .hs) (chain-one (x .hs) (x .state .deferred)) reaches-one (r .second) later-one
 
-                one-room : m ≤ o + 256
+                one-room : m ≤ o + relinking
                 one-room = omega (arith, d .go P (x .hs) (chain-one (x .hs) (x .state .deferred)) reaches-one .3 .few, few-deferred)
 
                 one-kept : Kept X Y o
@@ -515,13 +516,13 @@ module _ {P W : List ℕ} {s : Agenda} {a : List Entry} (x : Ready 0 P W s a) wh
 
                 -- and the second, before the new goal
                 module _ {Z : List ℕ} {rest k : ℕ} (h : Dropped Y m list (r .second) Z rest k) where
-                  two-room : k ≤ m + 256
+                  two-room : k ≤ m + relinking
                   two-room =
                       let b = d .go P (x .hs) (chain-one (x .hs) (x .state .deferred)) reaches-one in
                       let c = h .go P (b .1) (b .3 .chain) reaches-two in
                       omega (arith, c .3 .few, few-goals P Y m list (b .1) (b .3 .chain), b .3 .weighs, x .state .room)
 
-                  pub forced-room : k + 8 ≤ tableBytes
+                  pub forced-room : k + goalBytes ≤ tableBytes
                   forced-room = omega (arith, two-room, one-room, value-end, value-size, room-left)
 
                   two-kept : Kept Y Z m
@@ -557,7 +558,7 @@ module _ {P W : List ℕ} {s : Agenda} {a : List Entry} (x : Ready 0 P W s a) wh
                       all-kept : Kept W U (s .top)
                       all-kept = kept-then W X U (s .top) o (omega (arith, value-end)) value-kept from-value
 
-                      value-target : Target U (k + 8) 1 (s .top) value
+                      value-target : Target U (k + goalBytes) 1 (s .top) value
                       unfolding value
                       value-target =
                           let t = meant .first .target in
@@ -581,19 +582,19 @@ module _ {P W : List ℕ} {s : Agenda} {a : List Entry} (x : Ready 0 P W s a) wh
                         value-target .normal,
                       )
 
-                      goal-chain : Chain Easy P U (k + 8) k (match (var (y .repeated .number)) value ∷ [])
+                      goal-chain : Chain Easy P U (k + goalBytes) k (match (var (y .repeated .number)) value ∷ [])
                       goal-chain =
                           let f = y .repeated .variable in
-                          chain-match Easy P U (k + 8) k (storedMatch (r .pairs .first) (s .top) (s .easy))
+                          chain-match Easy P U (k + goalBytes) k (storedMatch (r .pairs .first) (s .top) (s .easy))
                           (goal-stored Z U k (storedMatch (r .pairs .first) (s .top) (s .easy)) bytes-stored
                           (omega (arith, forced-whole, forced-room)) first-even (x .bounds .even) (x .bounds .easy-even) (omega arith))
                           (omega (arith, x .bounds .start, value-end, d .higher, h .higher)) (omega arith) (h .even)
                           (omega (arith, none-easy, x .bounds .start, value-end, d .higher, h .higher))
                           (var (y .repeated .number)) value [] refl tt f value-target goal-listable none-easy
 
-                      pub decided-next : Decided 0 P W s a U (decision.Next (record { top = k + 8; easy = k; deferred = rest }))
+                      pub forced-next : Decided 0 P W s a U (decision.Next (record { top = k + goalBytes; easy = k; deferred = rest }))
                       unfolding Decided value
-                      decided-next = record {
+                      forced-next = record {
                         go = λ gs hs l st.
                             let b₁ = d .go P hs (chain-one hs (st .deferred)) reaches-one in
                             let b₂ = h .go P (b₁ .1) (b₁ .3 .chain) reaches-two in
@@ -607,8 +608,8 @@ module _ {P W : List ℕ} {s : Agenda} {a : List Entry} (x : Ready 0 P W s a) wh
                               line = l;
                               state = record {
                                 easy = goal-chain;
-                                deferred = chain-kept Z U k goal-kept (k + 8) (omega arith) P Deferred rest (b₂ .1) (b₂ .3 .chain);
-                                entries = holds-kept W U (s .top) all-kept (k + 8)
+                                deferred = chain-kept Z U k goal-kept (k + goalBytes) (omega arith) P Deferred rest (b₂ .1) (b₂ .3 .chain);
+                                entries = holds-kept W U (s .top) all-kept (k + goalBytes)
                                     (omega (arith, value-end, d .higher, h .higher)) a l (st .entries);
                                 line = st .line;
                                 assigns = st .assigns;

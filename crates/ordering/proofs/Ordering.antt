@@ -21,11 +21,11 @@ use Rattle.abstractions.proofs.Occurrences.{part-at}
 use Rattle.agenda.specs.declared.Agenda.{Agenda}
 use Rattle.agenda.specs.declared.StoredGoal.{StoredGoal}
 use Rattle.agenda.specs.Stored.{storedBytes, StoredAt, StoredFits}
-use Rattle.agenda.specs.State.{patternAt, nextAt, GoalAt, Easy, Deferred, Node, Chain, weight, weights, Ready}
+use Rattle.agenda.specs.State.{goalBytes, recordWeight, patternAt, nextAt, GoalAt, Easy, Deferred, Node, Chain, weight, weights, Ready}
 use Rattle.ordering.specs.Forwarding.{Forwarded}
 use Rattle.deciding.specs.Deciding.{HasEntries}
 use Rattle.agenda.specs.Locals.{Locals}
-use Rattle.ordering.specs.Ordering.{Reaches, Reaches.here, Reaches.further, linked, Branches, Weighs, Ranks, Drops, Dropped}
+use Rattle.ordering.specs.Ordering.{Reaches, Reaches.here, Reaches.further, linked, Branches, Costed, Ranks, Drops, Dropped}
 use Rattle.agenda.proofs.Lacking.{all-marks-at, locals-at}
 use Rattle.agenda.proofs.Frame.{Kept, next-kept, target-kept, chain-kept, holds-kept, kept-sets, kept-then, length-stored, goal-stored}
 use Rattle.agenda.proofs.Frame.{chain-match, chain-build}
@@ -90,40 +90,41 @@ linked-fits f e h = rw e (record { part = f .part; target = f .target; next = h;
 pub anew :
     (P W X : List ℕ) (top at o n : ℕ) (r : StoredGoal) (g : Goal) (gs : List Goal) → Kept W X top → top ≤ o → Node Deferred P W top at g
     → StoredAt W at r → StoredAt X o (linked r n)
-    → n < o → o % 4 ≡ 0 → Chain Deferred P X (o + 8) n gs → Chain Deferred P X (o + 8) o (g ∷ gs)
+    → n < o → o % 4 ≡ 0 → Chain Deferred P X (o + goalBytes) n gs → Chain Deferred P X (o + goalBytes) o (g ∷ gs)
 anew P W X top at o n r (match p t) gs k h x y z l e c =
     let q = x .goal in
-    chain-match Deferred P X (o + 8) o (linked r n) z (omega (arith, x .room)) (omega arith) e l p t gs
+    chain-match Deferred P X (o + goalBytes) o (linked r n) z (omega (arith, x .room)) (omega arith) e l p t gs
     (y .kind ∙ q .kind) (x .kind) (rw (y .part) (q .part))
-    (rw (y .target) (target-kept W X top k (o + 8) (omega arith) _ _ t (q .target))) (q .suits) c
+    (rw (y .target) (target-kept W X top k (o + goalBytes) (omega arith) _ _ t (q .target))) (q .suits) c
 anew P W X top at o n r (build f t e) gs k h x y z l ev c =
     let q = x .goal in
-    chain-build Deferred P X (o + 8) o (linked r n) z (omega (arith, x .room)) (omega arith) ev l f t e gs
-    (y .kind ∙ q .kind) (x .kind) (rw (y .part) (q .part)) (rw (y .target) (target-kept W X top k (o + 8) (omega arith) _ _ t (q .target)))
-    (rw (y .argument) (target-kept W X top k (o + 8) (omega arith) _ _ e (q .argument))) (q .suits) c
+    chain-build Deferred P X (o + goalBytes) o (linked r n) z (omega (arith, x .room)) (omega arith) ev l f t e gs
+    (y .kind ∙ q .kind) (x .kind) (rw (y .part) (q .part)) (rw (y .target)
+    (target-kept W X top k (o + goalBytes) (omega arith) _ _ t (q .target)))
+    (rw (y .argument) (target-kept W X top k (o + goalBytes) (omega arith) _ _ e (q .argument))) (q .suits) c
 
 module _ {W X Y : List ℕ} {top at j i list end : ℕ} {r q : StoredGoal} (x : StoredAt W at r) (y : Dropped W top j i X list end)
     (whole : length W ≡ tableBytes)
-    (room : end + 8 ≤ tableBytes) (e : q ≡ linked r list) (s : Y ≡ sets X end (storedBytes q)) where
-  stored : Y ≡ sets X end (storedBytes (linked r list))
-  stored = s ∙ ap (λ (z : StoredGoal). sets X end (storedBytes z)) e
+    (room : end + goalBytes ≤ tableBytes) (e : q ≡ linked r list) (s : Y ≡ sets X end (storedBytes q)) where
+  relinked-stored : Y ≡ sets X end (storedBytes (linked r list))
+  relinked-stored = s ∙ ap (λ (z : StoredGoal). sets X end (storedBytes z)) e
 
   list-kept : Kept X Y end
-  list-kept = kept-sets (storedBytes (linked r list)) X Y end end stored (omega arith) (omega (arith, y .whole))
+  list-kept = kept-sets (storedBytes (linked r list)) X Y end end relinked-stored (omega arith) (omega (arith, y .whole))
 
   below-kept : Kept W Y top
   below-kept = kept-then W X Y top end (y .higher)
       (record { same = y .kept; from = omega (arith, y .higher); to = omega (arith, y .higher, y .whole) }) list-kept
 
   stands : StoredAt Y end (linked r list)
-  stands = goal-stored X Y end (linked r list) stored (omega (arith, y .whole)) (omega (arith, x .part)) (omega (arith, x .target))
+  stands = goal-stored X Y end (linked r list) relinked-stored (omega (arith, y .whole)) (omega (arith, x .part)) (omega (arith, x .target))
       (y .list-even) (omega (arith, x .argument))
 
   in-front : (P : List ℕ) (g : Goal) (gs : List Goal) → Node Deferred P W top at g → Chain Deferred P X end list gs
-      → Chain Deferred P Y (end + 8) end (g ∷ gs)
+      → Chain Deferred P Y (end + goalBytes) end (g ∷ gs)
   in-front P g gs n c =
       anew P W Y top at end list r g gs below-kept (y .higher) n x stands (omega (arith, y .below)) (y .even)
-      (chain-kept X Y end list-kept (end + 8) (omega arith) P Deferred list gs c)
+      (chain-kept X Y end list-kept (end + goalBytes) (omega arith) P Deferred list gs c)
 
 -- the steps of a walk that drops a goal
 module _ {W : List ℕ} {top at i : ℕ} {r : StoredGoal} (d : Drops W top at i) (x : StoredAt W at r) where
@@ -172,7 +173,7 @@ module _ {W : List ℕ} {top at i : ℕ} {r : StoredGoal} (d : Drops W top at i)
         }
 
     module _ {X : List ℕ} {list end : ℕ} (y : Dropped W top (r .next) i X list end) where
-      pub anew-room : end + 8 ≤ tableBytes
+      pub anew-room : end + goalBytes ≤ tableBytes
       anew-room =
           let z = y .go (drops-next .pattern) (drops-next .goals) (drops-next .chain) next-reached in
           omega (arith, z .3 .few, drops-next .room)
@@ -181,7 +182,7 @@ module _ {W : List ℕ} {top at i : ℕ} {r : StoredGoal} (d : Drops W top at i)
       anew-fits f e = linked-fits f e (omega (arith, anew-room, y .below))
 
       pub dropped-further : {Y : List ℕ} {q : StoredGoal} → q ≡ linked r list → Y ≡ sets X end (storedBytes q)
-          → Dropped W top at i Y end (end + 8)
+          → Dropped W top at i Y end (end + goalBytes)
       dropped-further {Y} {q} e s = record {
         go = λ P gs c u.
             let f = front-goal Deferred P W top at gs c (reaches-some W at i u) in
@@ -216,7 +217,7 @@ module _ {W : List ℕ} {top at i : ℕ} {r : StoredGoal} (d : Drops W top at i)
       }
 
 -- the parts of a goal whose cost is asked
-module _ {P W : List ℕ} {at : ℕ} {r : StoredGoal} (x : Weighs P W at) (y : StoredAt W at r) where
+module _ {P W : List ℕ} {at : ℕ} {r : StoredGoal} (x : Costed P W at) (y : StoredAt W at r) where
   pub weighs-target : Whole W (r .target)
   weighs-target = cases (x .goal) (x .stands)
     where
@@ -313,8 +314,8 @@ module _ {P W : List ℕ} {at : ℕ} (x : Ranks P W at) where
   front : FrontGoal Deferred P W (x .top) at (x .goals)
   front = front-goal Deferred P W (x .top) at (x .goals) (x .chain) (x .some)
 
-  pub ranks-weighs : Weighs P W at
-  ranks-weighs = record {
+  pub ranks-costs : Costed P W at
+  ranks-costs = record {
     top = x .top;
     goal = front .goal;
     stands = front .node .goal;
@@ -344,11 +345,11 @@ goal-reached P W top at i (g ∷ gs) c (here h e) = (g, subst (λ (j : ℕ). Nod
 goal-reached P W top at i (g ∷ gs) c (further h r) = goal-reached P W top (nextAt W at) i gs (c .1) r
 
 -- a deferred goal has a weight of 2,000 or more, so that there are few
-pub weight-least : (P W : List ℕ) (top at : ℕ) (g : Goal) → GoalAt P W top at g → 2000 ≤ weight g
+pub weight-least : (P W : List ℕ) (top at : ℕ) (g : Goal) → GoalAt P W top at g → recordWeight ≤ weight g
 weight-least P W top at (match p t) x = omega (arith, x .part .some)
 weight-least P W top at (build f t e) x = omega (arith, x .part .some)
 
-pub few-goals : (P W : List ℕ) (top at : ℕ) (gs : List Goal) → Chain Deferred P W top at gs → 2000 * length gs ≤ weights 0 gs
+pub few-goals : (P W : List ℕ) (top at : ℕ) (gs : List Goal) → Chain Deferred P W top at gs → recordWeight * length gs ≤ weights 0 gs
 few-goals P W top at [] c = omega arith
 few-goals P W top at (g ∷ gs) c = omega (arith, weight-least P W top at g (c .0 .goal), few-goals P W top (nextAt W at) gs (c .1))
 
@@ -384,11 +385,11 @@ module _ {P W : List ℕ} {s : Agenda} {a : List Entry} (x : Ready 0 P W s a) (n
     some-deferred = some;
   }
 
-  relinking-room : s .top + 8 * length (x .hs) ≤ tableBytes
+  relinking-room : s .top + goalBytes * length (x .hs) ≤ tableBytes
   relinking-room = omega (arith, few-goals P W (s .top) (s .deferred) (x .hs) (x .state .deferred), x .state .room)
 
   module _ {i : ℕ} (h : Reaches W (s .deferred) i) where
-    pub reached-room : i + 8 ≤ length W
+    pub reached-room : i + goalBytes ≤ length W
     reached-room =
         omega (arith, goal-reached P W (s .top) (s .deferred) i (x .hs) (x .state .deferred) h .1 .room, x .bounds .top, x .bounds .whole)
 
@@ -408,14 +409,14 @@ module _ {P W : List ℕ} {s : Agenda} {a : List Entry} (x : Ready 0 P W s a) (n
         }
 
     module _ {r : StoredGoal} {X : List ℕ} {list end : ℕ} (y : StoredAt W i r) (z : Dropped W (s .top) (s .deferred) i X list end) where
-      pub forward-room : end + 8 ≤ tableBytes
+      pub forward-room : end + goalBytes ≤ tableBytes
       forward-room = omega (arith, z .go P (x .hs) (x .state .deferred) h .3 .few, relinking-room)
 
       pub forward-fits : StoredFits r → {q : StoredGoal} → q ≡ linked r list → StoredFits q
       forward-fits f e = linked-fits f e (omega (arith, forward-room, z .below))
 
       pub forwarded : {q : StoredGoal} {Y : List ℕ} → q ≡ linked r list → Y ≡ sets X end (storedBytes q)
-          → Forwarded P W s a Y (record { top = end + 8; easy = s .easy; deferred = end })
+          → Forwarded P W s a Y (record { top = end + goalBytes; easy = s .easy; deferred = end })
       forwarded {q} {Y} e w =
           let k : Kept W Y (s .top) = below-kept y z (x .bounds .whole) forward-room e w in
           record {
@@ -426,9 +427,9 @@ module _ {P W : List ℕ} {s : Agenda} {a : List Entry} (x : Ready 0 P W s a) (n
                   hs = b .0 ∷ b .1;
                   line = l;
                   state = record {
-                    easy = chain-kept W Y (s .top) k (end + 8) (omega (arith, z .higher)) P Easy (s .easy) gs (u .easy);
+                    easy = chain-kept W Y (s .top) k (end + goalBytes) (omega (arith, z .higher)) P Easy (s .easy) gs (u .easy);
                     deferred = in-front y z (x .bounds .whole) forward-room e w P (b .0) (b .1) (b .2) (b .3 .chain);
-                    entries = holds-kept W Y (s .top) k (end + 8) (omega (arith, z .higher)) a l (u .entries);
+                    entries = holds-kept W Y (s .top) k (end + goalBytes) (omega (arith, z .higher)) a l (u .entries);
                     line = u .line;
                     assigns = u .assigns;
                     room = omega (arith, few-goals P W (s .top) (s .deferred) hs (u .deferred), u .room, b .3 .few, b .3 .weighs);

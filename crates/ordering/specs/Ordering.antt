@@ -2,7 +2,7 @@
 --   Reaches W at i                     a list that begins at byte `at` comes to the goal at byte i
 --   linked x n                         the goal x with another one next
 --   Branches P W                       P begins with an application, and W with a term
---   Weighs P W at                      a goal that may be deferred stands in W at byte `at`
+--   Costed P W at                      a goal that may be deferred stands in W at byte `at`
 --   Ranks P W at                       a list of deferred goals begins at byte `at`, and has one at least
 --   Drops W top at i                   the goals of a list from byte `at` on can be written anew at `top`, without the one at byte i
 --   Without P X top list end g gs hs   the list at byte `list` of X, below byte `end`, has the goals hs, which are those of gs but for g
@@ -18,7 +18,7 @@ use Rattle.terms.specs.Term.{Term}
 use Rattle.matching.specs.Goals.{Goal, Meets, All}
 use Rattle.records.specs.Parts.{Whole}
 use Rattle.agenda.specs.declared.StoredGoal.{StoredGoal}
-use Rattle.agenda.specs.State.{nextAt, GoalAt, Deferred, Node, Chain, weight, weights}
+use Rattle.agenda.specs.State.{goalBytes, nextAt, GoalAt, Deferred, Node, Chain, weight, weights}
 
 pub data Reaches : List ℕ → ℕ → ℕ → Type 0 where
   here : {W : List ℕ} {at i : ℕ} → 0 < at → at ≡ i → Reaches W at i
@@ -33,12 +33,12 @@ pub record Branches (P W : List ℕ) : Type 0 where
   pub target : Whole W 0
   pub most : length W ≤ tableBytes
 
-pub record Weighs (P W : List ℕ) (at : ℕ) : Type 0 where
+pub record Costed (P W : List ℕ) (at : ℕ) : Type 0 where
   pub top : ℕ
   pub goal : Goal
   pub stands : GoalAt P W top at goal
   pub deferred : Deferred goal
-  pub within : at + 8 ≤ length W
+  pub within : at + goalBytes ≤ length W
   pub most : length W ≤ tableBytes
   pub short : length P ≤ 4 * patternRecords
 
@@ -47,7 +47,7 @@ pub record Ranks (P W : List ℕ) (at : ℕ) : Type 0 where
   pub goals : List Goal
   pub chain : Chain Deferred P W top at goals
   pub some : 0 < at
-  pub within : at + 8 ≤ length W
+  pub within : at + goalBytes ≤ length W
   pub falls : nextAt W at < at
   pub below : top ≤ length W
   pub most : length W ≤ tableBytes
@@ -58,15 +58,15 @@ pub record Drops (W : List ℕ) (top at i : ℕ) : Type 0 where
   pub goals : List Goal
   pub chain : Chain Deferred pattern W top at goals
   pub reaches : Reaches W at i
-  pub within : at + 8 ≤ top
+  pub within : at + goalBytes ≤ top
   pub falls : nextAt W at < at
   pub whole : length W ≡ tableBytes
-  pub room : top + 8 * length goals ≤ tableBytes
+  pub room : top + goalBytes * length goals ≤ tableBytes
   pub even : top % 4 ≡ 0
 
 pub record Without (P X : List ℕ) (top list end : ℕ) (g : Goal) (gs hs : List Goal) : Type 0 where
   pub chain : Chain Deferred P X end list hs
-  pub few : end + 8 ≤ top + 8 * length gs
+  pub few : end + goalBytes ≤ top + goalBytes * length gs
   pub weighs : weights 0 gs ≡ weight g + weights 0 hs
   pub same : (φ : ℕ → Term) → All gs φ ↔ (Meets g φ × All hs φ)
 
@@ -82,4 +82,4 @@ pub record Dropped (W : List ℕ) (top at i : ℕ) (X : List ℕ) (list end : �
   pub higher : top ≤ end
   pub even : end % 4 ≡ 0
   pub list-even : list % 4 ≡ 0
-  pub below : list + 8 ≤ end
+  pub below : list + goalBytes ≤ end

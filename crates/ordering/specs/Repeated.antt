@@ -14,7 +14,7 @@ use Rattle.matching.specs.Goals.{Goal}
 use Rattle.ordering.specs.declared.repeated.Occurrences.{Occurrences}
 use Rattle.ordering.specs.declared.repeated.Search.{Search}
 use Rattle.ordering.specs.declared.repeated.Search.the-variants.{Found, Nothing}
-use Rattle.agenda.specs.State.{patternAt, nextAt, Deferred, Chain}
+use Rattle.agenda.specs.State.{goalBytes, matchKind, patternAt, nextAt, Deferred, Chain}
 use Rattle.ordering.specs.Ordering.{Reaches}
 use Rattle.joins.specs.Pairs.{Repeated}
 
@@ -22,7 +22,7 @@ pub record GoalsListed (P W : List ℕ) (at : ℕ) : Type 0 where
   pub top : ℕ
   pub goals : List Goal
   pub chain : Chain Deferred P W top at goals
-  pub within : at + 8 ≤ length W
+  pub within : at + goalBytes ≤ length W
   pub below : top ≤ length W
   pub most : length W ≤ tableBytes
   pub short : length P ≤ 4 * patternRecords
@@ -30,7 +30,7 @@ pub record GoalsListed (P W : List ℕ) (at : ℕ) : Type 0 where
 pub record Second (P W : List ℕ) (at i x : ℕ) (r : Occurrences) : Type 0 where
   pub first : r .first ≡ i
   pub reaches : Reaches W at (r .second)
-  pub kind : getD W (r .second + 1) 0 ≡ 0
+  pub kind : getD W (r .second + 1) 0 ≡ matchKind
   pub repeated : Repeated P x (patternAt W (r .second)) (r .pairs)
 
 unfoldable pub Later : List ℕ → List ℕ → ℕ → ℕ → ℕ → Search → Type 0
@@ -40,8 +40,8 @@ Later P W at i x Nothing = Unit {0}
 pub record Twice (P W : List ℕ) (at : ℕ) (r : Occurrences) : Type 0 where
   pub reaches : Reaches W at (r .first)
   pub later : Reaches W (nextAt W (r .first)) (r .second)
-  pub first-kind : getD W (r .first + 1) 0 ≡ 0
-  pub second-kind : getD W (r .second + 1) 0 ≡ 0
+  pub first-kind : getD W (r .first + 1) 0 ≡ matchKind
+  pub second-kind : getD W (r .second + 1) 0 ≡ matchKind
   pub repeated : Repeated P (patternAt W (r .first)) (patternAt W (r .second)) (r .pairs)
 
 unfoldable pub RepeatedFound : List ℕ → List ℕ → ℕ → Search → Type 0

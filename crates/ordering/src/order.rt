@@ -12,7 +12,7 @@ ghost use Prim.Native.Nat.{_<_, _≤_};
 ghost use Rattle.records.specs.Parts.{Whole};
 ghost use Rattle.agenda.specs.State.{Ready};
 ghost use Rattle.ordering.specs.Forwarding.{Forwarded};
-ghost use Rattle.ordering.specs.Ordering.{Reaches, Branches, Weighs, Ranks, Drops, Dropped, linked as linkedTo};
+ghost use Rattle.ordering.specs.Ordering.{Reaches, Branches, Costed, Ranks, Drops, Dropped, linked as linkedTo};
 
 // What a body counts for: it leads on to a goal of its own, and so to more than one way of an application does.
 const BODY: usize = 4;
@@ -70,7 +70,7 @@ fn candidates(part: &[u8], target: &[u8]) -> usize
 // In how many ways the goal at byte `at` goes on, about. A goal without open variables is decided, and an application has its candidates. A
 // goal to build has its bodies: where the head lacks a local of the argument one is left.
 fn cost(pattern: &[u8], work: &[u8], at: usize, entries: [Entry; VARIABLES]) -> usize
-    requires { ⌜ Weighs (now pattern) (now work) at ⌝ }
+    requires { ⌜ Costed (now pattern) (now work) at ⌝ }
 {
     let goal = agenda::goal_at(work, at);
     let part = goal.part;

@@ -90,15 +90,15 @@ module _ (X D : List ℕ) (x : LineStandsAt X D) where
     stand = subst (λ (j : ℕ). Standing (take (4 * variables) D) j X m) (add-one v) (next-standing (take (4 * variables) D) v X o m s);
   }
 
-  from : (v : ℕ) → v < variables → From v
-  from zero h = record { entries = x .line; stand = standing }
-  from (suc v) h = let y = from v (omega (arith, h)) in next-from v (y .entries) (omega (arith, h)) (y .stand)
+  entries-from : (v : ℕ) → v < variables → From v
+  entries-from zero h = record { entries = x .line; stand = standing }
+  entries-from (suc v) h = let y = entries-from v (omega (arith, h)) in next-from v (y .entries) (omega (arith, h)) (y .stand)
 
   line-within : length X ≤ tableBytes → SpansWithin (take (4 * variables) D) X
   line-within f = record {
     whole = laid-length;
     few = f;
-    each = λ v y h e. let z = from v h in value-within (take (4 * variables) D) v X (z .entries) y h (z .stand) e;
+    each = λ v y h e. let z = entries-from v h in value-within (take (4 * variables) D) v X (z .entries) y h (z .stand) e;
   }
 
 pub printable :

@@ -36,9 +36,9 @@ pub opens-all : (l : List ℕ) (v n : ℕ) → v ≡ n → OpenBefore l v → Op
 opens-all l v n e x = subst (OpenBefore l) e x
 
 -- room for the printed line of a value
-pub value-fits : (x : Span) (s v : List ℕ) (n : ℕ) → v ≡ take (4 * x .count) (drop (4 * x .first) s) → 4 * (x .first + x .count) ≤ length s
+pub value-room : (x : Span) (s v : List ℕ) (n : ℕ) → v ≡ take (4 * x .count) (drop (4 * x .first) s) → 4 * (x .first + x .count) ≤ length s
     → length s ≤ tableBytes → room ≤ n → 64 + 9 * (length v / 4) ≤ n
-value-fits x s v n e w f r =
+value-room x s v n e w f r =
     let m : length v ≡ 4 * x .count =
     ap length e ∙ length-take-le (4 * x .count) (drop (4 * x .first) s) (omega (arith, length-drop (4 * x .first) s)) in
     omega (arith, m)

@@ -3,12 +3,12 @@
 // A listing is printed line by line: each assigned entry as its numbers and the records of its value, in hexadecimal digits. The crate
 // promises that the text of each printed line is the one that document 01 gives, and that it stays within the tables of a listing. What
 // goes to standard output, and in which order, no contract can say: the programs' outputs are compared with stored ones. It rests on
-// `records`, `assignments`, `listing`, `arranging` and, for copying bytes, on `copying`.
+// `records`, `assignments`, `listing` and `arranging`, on `copying` for bytes, and on the kit's `io` to write them.
 
 use assignments::Entry;
-use assignments::LINE;
 use assignments::Span;
 use libc::STDOUT_FILENO;
+use records::LINE;
 use records::RECORD;
 use records::TABLE_BYTES;
 use records::VARIABLES;
@@ -39,11 +39,11 @@ fn text_room() -> [u8; ROOM]
 const SIXTEEN: u8 = 16;
 
 // Puts one character.
-fn put(out: &mut [u8], at: usize, b: u8) -> usize
+fn put(out: &mut [u8], at: usize, byte: u8) -> usize
     requires { ⌜ at < length (now out) ⌝ }
-    ensures { λ r. ⌜ Puts (Is (b ∷ [])) (now (out .entry)) at r (now (out .exit)) × (r ≡ at + 1) ⌝ }
+    ensures { λ r. ⌜ Puts (Is (byte ∷ [])) (now (out .entry)) at r (now (out .exit)) × (r ≡ at + 1) ⌝ }
 {
-    out[at] = b;
+    out[at] = byte;
     at + 1
 }
 
@@ -57,33 +57,33 @@ fn put_digits(out: &mut [u8], at: usize, digits: [u8; 20], k: usize) -> usize
 }
 
 // Puts a number in decimal digits.
-fn put_decimal(out: &mut [u8], at: usize, n: usize) -> usize
+fn put_decimal(out: &mut [u8], at: usize, number: usize) -> usize
     requires { ⌜ at + 20 ≤ length (now out) ⌝ }
-    ensures { λ r. ⌜ Puts (Decimal n) (now (out .entry)) at r (now (out .exit)) × (r ≤ at + 20) ⌝ }
+    ensures { λ r. ⌜ Puts (Decimal number) (now (out .entry)) at r (now (out .exit)) × (r ≤ at + 20) ⌝ }
 {
     let mut digits = [0u8; 20];
-    let k = io::decimal(n as u64, &mut digits);
+    let k = io::decimal(number as u64, &mut digits);
     put_digits(out, at, digits, k)
 }
 
 // A hexadecimal digit.
-fn glyph(d: u8) -> u8
-    requires { ⌜ d < 16 ⌝ }
-    ensures { λ r. ⌜ r ≡ Digits·glyph d ⌝ }
+fn glyph(digit: u8) -> u8
+    requires { ⌜ digit < 16 ⌝ }
+    ensures { λ r. ⌜ r ≡ Digits·glyph digit ⌝ }
 {
-    if d < 10 {
-        return b'0' + d;
+    if digit < 10 {
+        return b'0' + digit;
     }
-    b'a' - 10 + d
+    b'a' - 10 + digit
 }
 
 // Puts a byte as two hexadecimal digits.
-fn put_byte(out: &mut [u8], at: usize, b: u8) -> usize
+fn put_byte(out: &mut [u8], at: usize, byte: u8) -> usize
     requires { ⌜ at + 2 ≤ length (now out) ⌝ }
-    ensures { λ r. ⌜ Puts (Is (hex b)) (now (out .entry)) at r (now (out .exit)) × (r ≡ at + 2) ⌝ }
+    ensures { λ r. ⌜ Puts (Is (hex byte)) (now (out .entry)) at r (now (out .exit)) × (r ≡ at + 2) ⌝ }
 {
-    let low = put(out, at, glyph(b / SIXTEEN));
-    put(out, low, glyph(b % SIXTEEN))
+    let low = put(out, at, glyph(byte / SIXTEEN));
+    put(out, low, glyph(byte % SIXTEEN))
 }
 
 // Puts a blank and the record k of a table.
@@ -150,13 +150,14 @@ fn put_bare(out: &mut [u8], line: usize) -> usize
 }
 
 // Puts a word and a number.
-fn put_labelled(out: &mut [u8], word: &[u8], n: usize) -> usize
+fn put_labelled(out: &mut [u8], word: &[u8], number: usize) -> usize
     requires { ⌜ length (now word) + 22 ≤ length (now out) ⌝ }
-    ensures { λ r. ⌜ Puts (Labelled (now (word .entry)) n) (now (out .entry)) 0 r (now (out .exit)) × (r ≤ length (now (out .exit))) ⌝ }
+    ensures { λ r. ⌜ Puts (Labelled (now (word .entry)) number) (now (out .entry)) 0 r (now (out .exit))
+        × (r ≤ length (now (out .exit))) ⌝ }
 {
     copying::copy_into(word, out, 0);
     let a = put(out, word.len(), b' ');
-    let b = put_decimal(out, a, n);
+    let b = put_decimal(out, a, number);
     put(out, b, b'\n')
 }
 
@@ -165,10 +166,10 @@ fn say(text: &[u8]) {
 }
 
 // Prints a word and a number.
-fn print_labelled(out: &mut [u8], word: &[u8], n: usize)
+fn print_labelled(out: &mut [u8], word: &[u8], number: usize)
     requires { ⌜ length (now word) + 22 ≤ length (now out) ⌝ }
 {
-    let end = put_labelled(out, word, n);
+    let end = put_labelled(out, word, number);
     say(&out[..end]);
 }
 
@@ -239,12 +240,12 @@ fn print_line(out: &mut [u8], number: usize, line: &[u8], values: &[u8])
     }
 }
 
-fn print_lines(out: &mut [u8], n: usize, lines: &[u8], values: &[u8])
-    requires { ⌜ (room ≤ length (now out)) × Printable n (now lines) (now values) ⌝ }
+fn print_lines(out: &mut [u8], count: usize, lines: &[u8], values: &[u8])
+    requires { ⌜ (room ≤ length (now out)) × Printable count (now lines) (now values) ⌝ }
 {
-    print_labelled(out, b"matches", n);
+    print_labelled(out, b"matches", count);
     let mut i = 0;
-    while i < n {
+    while i < count {
         let from = LINE * i;
         let to = from + LINE;
         print_line(out, i, &lines[from..to], values);
@@ -253,11 +254,11 @@ fn print_lines(out: &mut [u8], n: usize, lines: &[u8], values: &[u8])
 }
 
 // Prints a listing of n lines.
-pub fn print_listing(n: usize, lines: &[u8], values: &[u8])
-    requires { ⌜ Printable n (now lines) (now values) ⌝ }
+pub fn print_listing(count: usize, lines: &[u8], values: &[u8])
+    requires { ⌜ Printable count (now lines) (now values) ⌝ }
 {
     let mut out = text_room();
-    print_lines(&mut out, n, lines, values);
+    print_lines(&mut out, count, lines, values);
 }
 
 // Prints a refusal by its number.

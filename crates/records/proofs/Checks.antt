@@ -7,15 +7,15 @@ use mathlib.Core.Logic.{inl, inr, ⊎-elim}
 use mathlib.Core.List.{List, [], _∷_, _++_, append-nil, append-assoc}
 use Prim.Native.Nat.{ℕ, _+_, _*_, _/_, _%_, _≤_, _<_}
 use native.Mathlib.Omega.{arith}
-use lib.Dec.{T, ltb}
+use lib.Dec.{ltb}
 use lib.ListN.{length, length-append}
 use lib.Seq.{getD-append-add}
 use Rattle.terms.specs.Figures.{variables, patternRecords, valueRecords}
 use Rattle.terms.specs.Term.{Term, app, lam, loc, con, var, size, Normal, Closed, Below, Ground}
 use Rattle.terms.specs.Table.{encode, goodRecords, IsTable}
-use Rattle.terms.specs.Refusal.{Row, Refused, Passed, BadLength, NoTerm, pattern, recipeRows}
+use Rattle.terms.specs.Refusal.{Row, Refused, Passed, BadLength, NoTerm, patternRows, normalRows}
 use Rattle.terms.proofs.Refusal.{refused-passed}
-use Rattle.terms.proofs.Tests.{by-ltb}
+use Rattle.terms.proofs.Tests.{by-ltb, not-both}
 use Rattle.terms.proofs.Table.{encode-length, good-below}
 use Rattle.terms.proofs.Substitute.{size-pos}
 use Rattle.records.specs.declared.End.{End}
@@ -29,9 +29,6 @@ use Rattle.records.specs.Checks.{TableChecked}
 use Rattle.records.proofs.Record.{Bytes, rest-bytes, number-fits}
 use Rattle.records.proofs.Parts.{at-start, tree}
 use Rattle.records.proofs.Tests.{says}
-
-not-both : (b : Bool) → b ≡ true → b ≡ false → ⊥
-not-both b p q = let z : T false = subst T (sym p ∙ q) tt in z
 
 -- lengths
 pub length-last : (m : ℕ) (l : List ℕ) → ¬ (length l ≡ 0) → length l % 4 ≡ 0 → Says (ltb m (length l / 4)) (BadLength m l)
@@ -66,9 +63,9 @@ more-behind l r n x e h o =
     let p = y .0 .exact (o .tree) (at-start l (o .tree) (o .table .0)) in
     omega (arith, ap length (o .table .0), encode-length (o .tree))
 
-nothing : (l : List ℕ) → length l ≡ 0 → l ≡ []
-nothing [] e = refl
-nothing (x ∷ l) e = absurd (omega arith)
+length-zero : (l : List ℕ) → length l ≡ 0 → l ≡ []
+length-zero [] e = refl
+length-zero (x ∷ l) e = absurd (omega arith)
 
 pub tree-found : (l : List ℕ) (r : End) (n : ℕ) → Good l → Ended l r → r ≡ At n → length l ≤ n → Tree l
 unfolding Ended
@@ -76,7 +73,7 @@ tree-found l r n g x e h =
     let y : Ended l (At n) = ended l r (At n) x e in
     let w = y .1 (g .allowed) (g .good) in
     let q = y .0 .exact (w .tree) (w .part) in
-    let z = nothing (w .part .rest)
+    let z = length-zero (w .part .rest)
     (omega (arith, ap length (w .part .bytes), length-append (encode (w .tree)) (w .part .rest), encode-length (w .tree))) in
     tree l (w .tree) (w .part .bytes ∙ ap (encode (w .tree) ++_) z ∙ append-nil (encode (w .tree)))
 
@@ -86,9 +83,9 @@ one-term l false x c = λ o. c (o .tree) (o .table .0) (o .table .1)
 
 -- the answers of `check_table`, by what its tests say
 module _ (m : ℕ) (l : List ℕ) (b : Bool) (bad : Says b (BadLength m l)) where
-  pub found-length : (v : ℕ) → b ≡ true → TableChecked m v l PatternCheck.BadLength
+  pub length-checked : (v : ℕ) → b ≡ true → TableChecked m v l PatternCheck.BadLength
   unfolding TableChecked
-  found-length v p = says (BadLength m l) b true bad p
+  length-checked v p = says (BadLength m l) b true bad p
 
   module _ (p : b ≡ false) where
     pub found-most : length l ≤ 4 * m
@@ -131,18 +128,18 @@ module _ (m v : ℕ) (l : List ℕ) (a b c : ℕ) (more : List Row) where
   unfolding TableChecked
   passed-three k x y = inr (x .0, inr (not-both (goodRecords v l) (x .1), inr (λ n. n (x .2 .tree) (x .2 .table), y)))
 
-  pub passed-all : TableChecked m v l PatternCheck.Right → Passed more → Passed rows
+  pub checked-passed : TableChecked m v l PatternCheck.Right → Passed more → Passed rows
   unfolding TableChecked
-  passed-all x y = (x .0, (not-both (goodRecords v l) (x .1), (λ n. n (x .2 .tree) (x .2 .table), y)))
+  checked-passed x y = (x .0, (not-both (goodRecords v l) (x .1), (λ n. n (x .2 .tree) (x .2 .table), y)))
 
 below-good : (v : ℕ) (l : List ℕ) (t : Term) → goodRecords v l ≡ true → l ≡ encode t → Below v t
 below-good v l t g e = good-below v t [] (ap (goodRecords v) (append-nil (encode t) ∙ sym e) ∙ g) .0
 
 pub pattern-answer : (l : List ℕ) (r : PatternCheck) → TableChecked patternRecords variables l r
-    → Answers (pattern l) (Pattern l) (patternRefusal r)
+    → Answers (patternRows l) (Pattern l) (patternRefusal r)
 unfolding TableChecked
 pattern-answer l PatternCheck.Right x = (
-  passed-all patternRecords variables l 1 2 3 [] x tt,
+  checked-passed patternRecords variables l 1 2 3 [] x tt,
   record {
     tree = x .2 .tree;
     table = x .2 .table;
@@ -175,12 +172,12 @@ abbrev pub last : List ℕ → List Row
 last l = (7, (t : Term) → IsTable l t → ¬ Normal t) ∷ []
 
 pub normal-right : (m : ℕ) (l : List ℕ) → Bytes l → TableChecked m 0 l PatternCheck.Right → Tells l Normal true
-    → Answers (recipeRows m l) (NormalTable m l) none
+    → Answers (normalRows m l) (NormalTable m l) none
 unfolding TableChecked
 normal-right m l b x n =
     let t = x .2 .tree in
     let e = x .2 .table .0 in (
-      passed-all m 0 l 4 5 6 (last l) x ((λ f. f t (x .2 .table) (n t e)), tt),
+      checked-passed m 0 l 4 5 6 (last l) x ((λ f. f t (x .2 .table) (n t e)), tt),
       record {
         tree = t;
         table = x .2 .table;
@@ -190,7 +187,7 @@ normal-right m l b x n =
       },
     )
 
-pub normal-not : (m : ℕ) (l : List ℕ) → TableChecked m 0 l PatternCheck.Right → Tells l Normal false → Refused (recipeRows m l) 7
+pub normal-not : (m : ℕ) (l : List ℕ) → TableChecked m 0 l PatternCheck.Right → Tells l Normal false → Refused (normalRows m l) 7
 normal-not m l x n = passed-three m 0 l 4 5 6 (last l) 7 x (inl ((λ t y. n t (y .0)), refl))
 
 pub tree-checked : (m v : ℕ) (l : List ℕ) → TableChecked m v l PatternCheck.Right → Tree l
@@ -209,7 +206,7 @@ ground-good (loc n) r h g = g
 ground-good (con n) r h g = g
 ground-good (var n) r h g = absurd h
 
-value-passed : (l : List ℕ) → ValueTable l → Passed (recipeRows valueRecords l)
+value-passed : (l : List ℕ) → ValueTable l → Passed (normalRows valueRecords l)
 value-passed l x =
     let t = x .tree in
     let g : goodRecords 0 l ≡ true = ap (goodRecords 0) (x .bytes ∙ sym (append-nil (encode t))) ∙ ground-good t [] (x .value .2) refl in (
@@ -218,16 +215,16 @@ value-passed l x =
     )
 
 pub value-refused : (l : List ℕ) (r : RecipeCheck) (k : ℕ)
-    → Answers (recipeRows valueRecords l) (NormalTable valueRecords l) (recipeRefusal r) → recipeRefusal r ≡ some k → ¬ ValueTable l
+    → Answers (normalRows valueRecords l) (NormalTable valueRecords l) (recipeRefusal r) → recipeRefusal r ≡ some k → ¬ ValueTable l
 value-refused l r k x e y =
-    let z : Refused (recipeRows valueRecords l) k =
-    subst (λ (o : Option ℕ). Answers (recipeRows valueRecords l) (NormalTable valueRecords l) o) e x in
-    refused-passed (recipeRows valueRecords l) k z (value-passed l y)
+    let z : Refused (normalRows valueRecords l) k =
+    subst (λ (o : Option ℕ). Answers (normalRows valueRecords l) (NormalTable valueRecords l) o) e x in
+    refused-passed (normalRows valueRecords l) k z (value-passed l y)
 
-pub value-right : (l : List ℕ) (r : RecipeCheck) → Answers (recipeRows valueRecords l) (NormalTable valueRecords l) (recipeRefusal r)
+pub value-right : (l : List ℕ) (r : RecipeCheck) → Answers (normalRows valueRecords l) (NormalTable valueRecords l) (recipeRefusal r)
     → recipeRefusal r ≡ none → ValueTable l
 value-right l r x e =
-    let y : Answers (recipeRows valueRecords l) (NormalTable valueRecords l) none =
-    subst (λ (o : Option ℕ). Answers (recipeRows valueRecords l) (NormalTable valueRecords l) o) e x in
+    let y : Answers (normalRows valueRecords l) (NormalTable valueRecords l) none =
+    subst (λ (o : Option ℕ). Answers (normalRows valueRecords l) (NormalTable valueRecords l) o) e x in
     let n = y .1 in
     record { tree = n .tree; bytes = n .table .0; value = (n .table .1, n .normal, n .ground); most = n .most }

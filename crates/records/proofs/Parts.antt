@@ -7,7 +7,7 @@ use native.Mathlib.Omega.{arith}
 use lib.ListN.{length, getD, take, drop, length-append, length-drop, length-take}
 use lib.Seq.{drop-drop, drop-at, take-at, take-all}
 use Rattle.terms.specs.Term.{Term, app, lam, loc, con, var, size}
-use Rattle.terms.specs.Table.{bytes, encode}
+use Rattle.terms.specs.Table.{recordBytes, encode}
 use Rattle.terms.proofs.Table.{kind, numberOf, encode-length, encode-inj}
 use Rattle.terms.proofs.Substitute.{size-pos}
 use Rattle.records.specs.Record.{parts, numberAt}
@@ -38,9 +38,9 @@ children-length (con n) = refl
 children-length (var n) = refl
 
 -- a term's table is its first record and its parts
-pub encode-first : (t : Term) → encode t ≡ bytes (kind t) (numberOf t) (tables (children t))
-encode-first (app f a) = ap (λ (x : List ℕ). bytes 0 0 (encode f ++ x)) (sym (append-nil (encode a)))
-encode-first (lam b) = ap (bytes 1 0) (sym (append-nil (encode b)))
+pub encode-first : (t : Term) → encode t ≡ recordBytes (kind t) (numberOf t) (tables (children t))
+encode-first (app f a) = ap (λ (x : List ℕ). recordBytes 0 0 (encode f ++ x)) (sym (append-nil (encode a)))
+encode-first (lam b) = ap (recordBytes 1 0) (sym (append-nil (encode b)))
 encode-first (loc n) = refl
 encode-first (con n) = refl
 encode-first (var n) = refl
@@ -65,7 +65,7 @@ whole l at t x = record { tree = t; part = x; least = omega (arith, x .some, x .
 
 -- the first record of a term that stands in a table
 module _ (l : List ℕ) (at : ℕ) (t : Term) (x : Part l at t) where
-  first : drop at l ≡ bytes (kind t) (numberOf t) (tables (children t) ++ x .rest)
+  first : drop at l ≡ recordBytes (kind t) (numberOf t) (tables (children t) ++ x .rest)
   first = x .bytes ∙ ap (_++ x .rest) (encode-first t)
 
   pub kind-at : getD l at 0 ≡ kind t
@@ -111,6 +111,22 @@ abstraction l at (app f a) x k = absurd (omega (arith, kind-at l at (app f a) x)
 abstraction l at (loc n) x k = absurd (omega (arith, kind-at l at (loc n) x))
 abstraction l at (con n) x k = absurd (omega (arith, kind-at l at (con n) x))
 abstraction l at (var n) x k = absurd (omega (arith, kind-at l at (var n) x))
+
+-- the parts of a known application or abstraction
+pub application-parts : (l : List ℕ) (at : ℕ) (f a : Term) → Part l at (app f a) → Part l (at + 4) f × Part l (at + 4 + 4 * size f) a
+application-parts l at f a x =
+    let v = application l at (app f a) x (kind-at l at (app f a) x) in
+    let p : v .f ≡ f = cc in
+    let q : v .a ≡ a = cc in (
+      subst (Part l (at + 4)) p (v .head),
+      subst (λ (g : Term). Part l (at + 4 + 4 * size g) a) p (subst (Part l (at + 4 + 4 * size (v .f))) q (v .argument)),
+    )
+
+pub abstraction-part : (l : List ℕ) (at : ℕ) (b : Term) → Part l at (lam b) → Part l (at + 4) b
+abstraction-part l at b x =
+    let v = abstraction l at (lam b) x (kind-at l at (lam b) x) in
+    let q : v .b ≡ b = cc in
+    subst (Part l (at + 4)) q (v .body)
 
 -- some term at the head's, the argument's and the body's place
 pub whole-head : (l : List ℕ) (at : ℕ) → Whole l at → getD l at 0 ≡ 0 → Whole l (at + 4)

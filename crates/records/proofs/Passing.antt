@@ -7,7 +7,7 @@ use Prim.Native.Nat.{ℕ, zero, suc, _+_, _-_, _*_, _≤_, _<_}
 use native.Mathlib.Omega.{arith}
 use lib.ListN.{length, getD, drop, length-append, length-drop}
 use Rattle.terms.specs.Term.{Term, app, lam, loc, con, var}
-use Rattle.terms.specs.Table.{bytes, encode, goodRecords}
+use Rattle.terms.specs.Table.{recordBytes, encode, goodRecords}
 use Rattle.terms.proofs.Table.{kind, numberOf, encode-length}
 use Rattle.records.specs.Record.{parts, numberAt}
 use Rattle.records.specs.declared.End.the-variants.{At, Nowhere}
@@ -48,7 +48,7 @@ open-row l at m rest h x = go (x .terms) (x .count) (x .bytes)
     go [] c e = absurd (omega arith)
     go (t ∷ ts) c e =
         let b : List ℕ = tables (children t) ++ (tables ts ++ rest) in
-        let d : drop at l ≡ bytes (kind t) (numberOf t) b =
+        let d : drop at l ≡ recordBytes (kind t) (numberOf t) b =
         e ∙ append-assoc (encode t) (tables ts) rest ∙ ap (_++ (tables ts ++ rest)) (encode-first t) in
         let k : getD l at 0 ≡ kind t = kind-read l at (kind t) (numberOf t) b d in
         let p : length (children t) ≡ parts (getD l at 0) = children-length t ∙ ap parts (sym k) in
@@ -61,13 +61,13 @@ open-row l at m rest h x = go (x .terms) (x .count) (x .bytes)
 
 -- the row that a record of kind k and number n makes of a row of its parts
 made : (k n m : ℕ) (ts : List Term) → k ≤ 4 → (k ≤ 1 → n ≡ 0) → length ts ≡ m + parts k
-    → (us : List Term) × (length us ≡ suc m) × (bytes k n (tables ts) ≡ tables us)
+    → (us : List Term) × (length us ≡ suc m) × (recordBytes k n (tables ts) ≡ tables us)
 made zero n m [] h z c = absurd (omega arith)
 made zero n m (f ∷ []) h z c = absurd (omega arith)
 made zero n m (f ∷ a ∷ ts) h z c =
-    (app f a ∷ ts, omega arith, ap₂ (bytes 0) (z (omega arith)) (sym (append-assoc (encode f) (encode a) (tables ts))))
+    (app f a ∷ ts, omega arith, ap₂ (recordBytes 0) (z (omega arith)) (sym (append-assoc (encode f) (encode a) (tables ts))))
 made (suc zero) n m [] h z c = absurd (omega arith)
-made (suc zero) n m (b ∷ ts) h z c = (lam b ∷ ts, omega arith, ap (λ (i : ℕ). bytes 1 i (encode b ++ tables ts)) (z (omega arith)))
+made (suc zero) n m (b ∷ ts) h z c = (lam b ∷ ts, omega arith, ap (λ (i : ℕ). recordBytes 1 i (encode b ++ tables ts)) (z (omega arith)))
 made (suc (suc zero)) n m ts h z c = (loc n ∷ ts, omega arith, refl)
 made (suc (suc (suc zero))) n m ts h z c = (con n ∷ ts, omega arith, refl)
 made (suc (suc (suc (suc zero)))) n m ts h z c = (var n ∷ ts, omega arith, refl)
@@ -81,7 +81,7 @@ close-row v l at m rest h w b g x =
     record {
       terms = u .0;
       count = omega (arith, u .1);
-      bytes = a .is ∙ ap (bytes (getD l at 0) (numberAt l at)) (x .bytes) ∙ ap (_++ rest) (u .2);
+      bytes = a .is ∙ ap (recordBytes (getD l at 0) (numberAt l at)) (x .bytes) ∙ ap (_++ rest) (u .2);
     }
 
 pub passing-step : (l : List ℕ) (from at m : ℕ) → Passing l from at m → 0 < m → at + 4 ≤ length l → getD l (at + 2 + 1) 0 < 256 → (n : ℕ)
@@ -96,8 +96,8 @@ passing-step l from at m x h w b n e u = rw e (record {
 })
 
 -- one term is a row, and a row of none is the rest
-one : (l : List ℕ) (at : ℕ) (t : Term) (x : Part l at t) → TermRow l at 1 (x .rest)
-one l at t x = record { terms = t ∷ []; count = refl; bytes = x .bytes ∙ ap (_++ x .rest) (sym (append-nil (encode t))) }
+terms-one : (l : List ℕ) (at : ℕ) (t : Term) (x : Part l at t) → TermRow l at 1 (x .rest)
+terms-one l at t x = record { terms = t ∷ []; count = refl; bytes = x .bytes ∙ ap (_++ x .rest) (sym (append-nil (encode t))) }
 
 only : (l : List ℕ) (at : ℕ) (rest : List ℕ) → TermRow l at 1 rest → Whole l at
 only l at rest x = go (x .terms) (x .count) (x .bytes)
@@ -120,7 +120,7 @@ passing-found l from at h x = (
     more = omega (arith, x .more);
     within = x .within;
     exact = λ t y.
-        let e : drop at l ≡ y .rest = none l at (y .rest) (x .to (y .rest) (one l from t y)) in
+        let e : drop at l ≡ y .rest = none l at (y .rest) (x .to (y .rest) (terms-one l from t y)) in
         omega (
           arith,
           x .within,
@@ -145,7 +145,7 @@ reached-end l from at (suc m) h x z = absurd (omega arith)
 pub reached-short : (l : List ℕ) (from at m : ℕ) → Passing l from at m → 0 < m → length l - at < 4 → Reached l from m at
 unfolding Reached
 reached-short l from at zero x h s = absurd (omega arith)
-reached-short l from at (suc m) x h s = λ t y. go (x .to (y .rest) (one l from t y))
+reached-short l from at (suc m) x h s = λ t y. go (x .to (y .rest) (terms-one l from t y))
   where
     go : {rest : List ℕ} → TermRow l at (suc m) rest → ⊥
     go {rest} r = end (r .terms) (r .count) (r .bytes)

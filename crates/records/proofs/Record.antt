@@ -11,8 +11,8 @@ use lib.Dec.{T, eqb, leb, ltb}
 use lib.ListN.{length, getD, drop, length-drop, drop-of-length-le}
 use lib.Seq.{getD-drop, drop-drop}
 use borrow.Author.Tests.{eqb-true, leb-true, leb-false, eq-eqb, ne-eqb, le-leb, lt-leb, lt-ltb, le-ltb}
-use Rattle.terms.specs.Figures.{constants}
-use Rattle.terms.specs.Table.{bytes, recordOf, allowed, goodRecords}
+use Rattle.terms.specs.Figures.{numbers}
+use Rattle.terms.specs.Table.{recordBytes, recordOf, allowed, goodRecords}
 use Rattle.terms.proofs.Tests.{and-true, and-split}
 use Rattle.records.specs.declared.Kind.{Kind}
 use Rattle.records.specs.declared.KindRead.{KindRead}
@@ -41,7 +41,7 @@ module _ (l : List ℕ) (at : ℕ) where
       ∷ drop-drop 4 at l i)
 
   -- what is read where a record stands
-  module _ (k n : ℕ) (rest : List ℕ) (e : drop at l ≡ bytes k n rest) where
+  module _ (k n : ℕ) (rest : List ℕ) (e : drop at l ≡ recordBytes k n rest) where
     pub kind-read : getD l at 0 ≡ k
     kind-read = sym (byte 0 at (omega arith)) ∙ ap (λ (x : List ℕ). getD x 0 0) e
 
@@ -63,7 +63,7 @@ good-split l at v h g = and-split (allowed v (recordAt l at)) (goodRecords v (dr
 
 -- what an allowed record is
 pub record Allowed (v : ℕ) (l : List ℕ) (at : ℕ) : Type 0 where
-  pub is : drop at l ≡ bytes (getD l at 0) (numberAt l at) (drop (at + 4) l)
+  pub is : drop at l ≡ recordBytes (getD l at 0) (numberAt l at) (drop (at + 4) l)
   pub known : getD l at 0 ≤ 4
   pub none : getD l at 0 ≤ 1 → numberAt l at ≡ 0
 
@@ -101,11 +101,11 @@ allowed-is v l at h b a =
 abbrev pub Bytes : List ℕ → Type 0
 Bytes l = (i : ℕ) → getD l i 0 < 256
 
-module _ (k n : ℕ) (rest : List ℕ) (b : Bytes (bytes k n rest)) where
+module _ (k n : ℕ) (rest : List ℕ) (b : Bytes (recordBytes k n rest)) where
   pub rest-bytes : Bytes rest
   rest-bytes i = b (suc (suc (suc (suc i))))
 
-  pub number-fits : n < constants
+  pub number-fits : n < numbers
   number-fits = let h : n / 256 < 256 = b 2 in omega arith
 
 -- a kind with no parts

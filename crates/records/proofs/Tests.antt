@@ -16,7 +16,7 @@ use Rattle.terms.proofs.Table.{kind, numberOf, encode-length}
 use Rattle.terms.proofs.Tests.{or-false, and-true}
 use Rattle.terms.proofs.Substitute.{size-pos}
 use Rattle.records.specs.declared.Ask.{Ask}
-use Rattle.records.specs.declared.Ask.the-variants.{Below, Other}
+use Rattle.records.specs.declared.Ask.the-variants.{Bound, Other}
 use Rattle.records.specs.declared.Walk.{Walk}
 use Rattle.records.specs.declared.Walk.the-variants.{Upto, No}
 use Rattle.records.specs.Record.{numberAt, innermostAt}
@@ -125,7 +125,7 @@ module _ (n m : ℕ) (w : Walk) (e : w ≡ Upto m) where
 
 -- what is asked of locals goes by the parts
 pub asks-two : (q : Ask) (n : ℕ) (f a : Term) → Asks q n (app f a) ↔ (Asks q n f × Asks q n a)
-asks-two Below n f a = (λ p. p, λ p. p)
+asks-two Bound n f a = (λ p. p, λ p. p)
 asks-two Other n f a = (λ p. or-false (uses n f) (uses n a) p, λ p. rw (p .0, p .1))
 
 pub asks-under : (q : Ask) (n : ℕ) (b : Term) → Asks q n (lam b) ↔ Asks q (n + 1) b
@@ -134,27 +134,27 @@ asks-under q n b =
     (λ p. subst (λ (k : ℕ). Asks q k b) e (go q p), λ p. back q (subst (λ (k : ℕ). Asks q k b) (sym e) p))
   where
     go : (q : Ask) → Asks q n (lam b) → Asks q (suc n) b
-    go Below p = p
+    go Bound p = p
     go Other p = p
 
     back : (q : Ask) → Asks q (suc n) b → Asks q n (lam b)
-    back Below p = p
+    back Bound p = p
     back Other p = p
 
 pub asks-local : (q : Ask) (i n : ℕ) → asked q i n ≡ true → Asks q n (loc i)
-asks-local Below i n e = ltb-true i n e
+asks-local Bound i n e = ltb-true i n e
 asks-local Other i n e = not-true (eqb i n) e
 
 pub asks-local-no : (q : Ask) (i n : ℕ) → asked q i n ≡ false → ¬ Asks q n (loc i)
-asks-local-no Below i n e p = omega (arith, ltb-false i n e)
+asks-local-no Bound i n e p = omega (arith, ltb-false i n e)
 asks-local-no Other i n e p = let z : T false = subst T (sym (not-false (eqb i n) e) ∙ p) tt in z
 
 pub asks-con : (q : Ask) (n i : ℕ) → Asks q n (con i)
-asks-con Below n i = tt
+asks-con Bound n i = tt
 asks-con Other n i = refl
 
 pub asks-var : (q : Ask) (n i : ℕ) → Asks q n (var i)
-asks-var Below n i = tt
+asks-var Bound n i = tt
 asks-var Other n i = refl
 
 -- a term that ends behind a record is the innermost local if it begins there and the record is that local

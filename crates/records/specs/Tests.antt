@@ -18,7 +18,7 @@ use Rattle.terms.specs.Term.{Term, Normal, Closed, uses, isAbstraction}
 use Rattle.terms.specs.Table.{encode}
 use Rattle.records.specs.Parts.{Part, Ends}
 use Rattle.records.specs.declared.Ask.{Ask}
-use Rattle.records.specs.declared.Ask.the-variants.{Below, Other}
+use Rattle.records.specs.declared.Ask.the-variants.{Bound, Other}
 use Rattle.records.specs.declared.Walk.{Walk}
 use Rattle.records.specs.declared.Walk.the-variants.{Upto, No}
 
@@ -37,11 +37,11 @@ abbrev pub Head : Term → Type 0
 Head t = T (not (isAbstraction t)) × Normal t
 
 abbrev pub asked : Ask → ℕ → ℕ → Bool
-asked Below i n = ltb i n
+asked Bound i n = ltb i n
 asked Other i n = not (eqb i n)
 
 abbrev pub Asks : Ask → ℕ → Term → Type 0
-Asks Below n t = Closed n t
+Asks Bound n t = Closed n t
 Asks Other n t = uses n t ≡ false
 
 unfoldable pub Walked : List ℕ → ℕ → (Term → Type 0) → Walk → Type 0

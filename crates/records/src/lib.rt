@@ -1,7 +1,7 @@
 // Tables of 4-byte records: read, written and judged.
 //
-// A term is a table of records in the order head before argument, so a table is read by the kinds of its records alone. The crate has
-// the kinds, one record read and written, the parts of a table, tests of the term that a table holds (closed, normal, which locals it uses),
+// A term is a table of records in the order head before argument, so a table is read by the kinds of its records alone. The crate has the
+// kinds, one record read and written, the parts of a table, tests of the term that a table holds (closed, normal, which locals it uses),
 // and the checks by which bytes from outside come in. It promises that each check gives exactly the first of document 01's causes 1 to 7
 // that holds, for any bytes at all, and that each test answers for the very term whose table it was lent. It rests on the definitions of
 // `terms`; that a record begins with its kind is used throughout, how its other bytes lie only by the functions of one record.
@@ -18,8 +18,8 @@ ghost use lib.ListN.{length, getD};
 ghost use lib.Seq.{sets};
 ghost use Rattle.terms.specs.Figures.{numbers, tableBytes};
 ghost use Rattle.terms.specs.Term.{Term, isEta, Normal, Closed};
-ghost use Rattle.terms.specs.Refusal.{BadLength, pattern, recipe, recipeRows};
-ghost use Rattle.terms.specs.Table.{encode, bytes, allowed, goodRecords, applicationKind, abstractionKind, variableKind};
+ghost use Rattle.terms.specs.Refusal.{BadLength, patternRows, recipeRows, normalRows};
+ghost use Rattle.terms.specs.Table.{encode, recordBytes, allowed, goodRecords, applicationKind, abstractionKind, variableKind};
 ghost use Rattle.terms.specs.Layout.{wordAt};
 ghost use Rattle.records.specs.Record.{kindOf, parts as partsOf, readParts, numberAt, recordAt, innermostAt};
 ghost use Rattle.records.specs.Parts.{Whole, Ends, Reached, Ended, Tree, Divided, Lies};
@@ -53,11 +53,11 @@ impl Kind {
     pub const VARIABLE: Kind = Kind { code: 4 };
 
     // Five bytes are kinds, and no other.
-    pub fn from_byte(b: u8) -> KindRead
-        ensures { λ r. ⌜ r ≡ kindOf b ⌝ }
+    pub fn from_byte(byte: u8) -> KindRead
+        ensures { λ r. ⌜ r ≡ kindOf byte ⌝ }
     {
-        if b <= Kind::VARIABLE.code {
-            KindRead::Known(Kind { code: b })
+        if byte <= Kind::VARIABLE.code {
+            KindRead::Known(Kind { code: byte })
         } else {
             KindRead::Unknown
         }
@@ -106,10 +106,10 @@ impl KindRead {
 }
 
 // A byte as a number of the width that positions have.
-pub fn wide(b: u8) -> usize
-    ensures { λ r. ⌜ (r ≡ b) × (r < 256) ⌝ }
+pub fn wide(byte: u8) -> usize
+    ensures { λ r. ⌜ (r ≡ byte) × (r < 256) ⌝ }
 {
-    b as usize
+    byte as usize
 }
 
 // The 16-bit number at byte `at`, high byte first.
@@ -131,7 +131,7 @@ pub fn number_at(s: &[u8], at: usize) -> usize
 // Writes one record at byte `at`; nothing else changes.
 pub fn put_record(out: &mut [u8], at: usize, kind: Kind, number: usize)
     requires { ⌜ (at + 4 ≤ length (now out)) × (number < numbers) ⌝ }
-    ensures { λ _. ⌜ now (out .exit) ≡ sets (now (out .entry)) at (bytes (kind .code) number []) ⌝ }
+    ensures { λ _. ⌜ now (out .exit) ≡ sets (now (out .entry)) at (recordBytes (kind .code) number []) ⌝ }
 {
     let code = kind.code;
     out[at] = code;
@@ -264,7 +264,7 @@ pub fn good_records(s: &[u8], variables: usize) -> bool
 
 // What is asked of each local of a part: that its number is below n, or that it isn't n. Below a binder n is one more.
 pub enum Ask {
-    Below,
+    Bound,
     Other,
 }
 
@@ -273,7 +273,7 @@ impl Ask {
         ensures { λ r. ⌜ r ≡ asked self local n ⌝ }
     {
         match self {
-            Ask::Below => local < n,
+            Ask::Bound => local < n,
             Ask::Other => local != n,
         }
     }
@@ -328,7 +328,7 @@ pub fn is_closed(s: &[u8], depth: usize) -> bool
     requires { ⌜ Tree (now s) × (depth + length (now s) ≤ tableBytes) ⌝ }
     ensures { λ r. ⌜ Tells (now (s .entry)) (Closed depth) r ⌝ }
 {
-    let walk = ask_part(s, Ask::Below, depth);
+    let walk = ask_part(s, Ask::Bound, depth);
     match walk {
         Walk::Upto(_) => true,
         Walk::No => false,
@@ -435,6 +435,11 @@ pub const RECIPE_RECORDS: usize = 96;
 
 pub const VALUE_RECORDS: usize = 160;
 
+pub const SWEPT_RECORDS: usize = 256;
+
+// The bytes of a line, which has an entry of a record's length for each variable.
+pub const LINE: usize = RECORD * VARIABLES;
+
 // The most bytes of a line, value or output table, and the bytes of a work area.
 pub const TABLE_BYTES: usize = 65536;
 
@@ -456,10 +461,10 @@ pub enum RecipeCheck {
 }
 
 // Whether s is empty, has more than `most` records, or ends within one.
-fn is_bad_length(s: &[u8], most: usize) -> bool
-    ensures { λ r. ⌜ Says r (BadLength most (now (s .entry))) ⌝ }
+fn is_bad_length(table: &[u8], most: usize) -> bool
+    ensures { λ r. ⌜ Says r (BadLength most (now (table .entry))) ⌝ }
 {
-    let n = s.len();
+    let n = table.len();
     if n == 0 {
         return true;
     }
@@ -470,74 +475,74 @@ fn is_bad_length(s: &[u8], most: usize) -> bool
 }
 
 // Whether good records are one whole term, each of whose locals has its binder.
-fn is_one_term(s: &[u8]) -> bool
-    requires { ⌜ Good (now s) × (length (now s) ≤ tableBytes) ⌝ }
-    ensures { λ r. ⌜ Says r (OneTerm (now (s .entry))) ⌝ }
+fn is_one_term(table: &[u8]) -> bool
+    requires { ⌜ Good (now table) × (length (now table) ≤ tableBytes) ⌝ }
+    ensures { λ r. ⌜ Says r (OneTerm (now (table .entry))) ⌝ }
 {
-    let end = part_end(s);
+    let end = part_end(table);
     let End::At(n) = end else {
         return false;
     };
-    if n < s.len() {
+    if n < table.len() {
         return false;
     }
-    is_closed(s, 0)
+    is_closed(table, 0)
 }
 
 // Checks any bytes, in the order of document 01's causes, with the figures of the table that they are to be.
-fn check_table(s: &[u8], most: usize, variables: usize) -> PatternCheck
+fn check_table(table: &[u8], most: usize, variables: usize) -> PatternCheck
     requires { ⌜ 4 * most ≤ tableBytes ⌝ }
-    ensures { λ r. ⌜ TableChecked most variables (now (s .entry)) r ⌝ }
+    ensures { λ r. ⌜ TableChecked most variables (now (table .entry)) r ⌝ }
 {
-    if is_bad_length(s, most) {
+    if is_bad_length(table, most) {
         return PatternCheck::BadLength;
     }
-    if !good_records(s, variables) {
+    if !good_records(table, variables) {
         return PatternCheck::BadRecord;
     }
-    if is_one_term(s) {
+    if is_one_term(table) {
         return PatternCheck::Right;
     }
     PatternCheck::NoTerm
 }
 
 // Checks a pattern, or a right side.
-pub fn check_pattern(s: &[u8]) -> PatternCheck
-    ensures { λ r. ⌜ Answers (pattern (now (s .entry))) (Pattern (now (s .entry))) (patternRefusal r) ⌝ }
+pub fn check_pattern(pattern: &[u8]) -> PatternCheck
+    ensures { λ r. ⌜ Answers (patternRows (now (pattern .entry))) (Pattern (now (pattern .entry))) (patternRefusal r) ⌝ }
 {
-    check_table(s, PATTERN_RECORDS, VARIABLES)
+    check_table(pattern, PATTERN_RECORDS, VARIABLES)
 }
 
 // Checks any bytes that are to be a normal term without variables, of at most `most` records.
-fn check_normal(s: &[u8], most: usize) -> RecipeCheck
+fn check_normal(table: &[u8], most: usize) -> RecipeCheck
     requires { ⌜ 4 * most ≤ tableBytes ⌝ }
-    ensures { λ r. ⌜ Answers (recipeRows most (now (s .entry))) (NormalTable most (now (s .entry))) (recipeRefusal r) ⌝ }
+    ensures { λ r. ⌜ Answers (normalRows most (now (table .entry))) (NormalTable most (now (table .entry))) (recipeRefusal r) ⌝ }
 {
-    let check = check_table(s, most, 0);
+    let check = check_table(table, most, 0);
     match check {
         PatternCheck::BadLength => return RecipeCheck::BadLength,
         PatternCheck::BadRecord => return RecipeCheck::BadRecord,
         PatternCheck::NoTerm => return RecipeCheck::NoTerm,
         PatternCheck::Right => {}
     }
-    if is_normal(s) {
+    if is_normal(table) {
         return RecipeCheck::Right;
     }
     RecipeCheck::NotNormal
 }
 
 // Checks a recipe.
-pub fn check_recipe(s: &[u8]) -> RecipeCheck
-    ensures { λ r. ⌜ Answers (recipe (now (s .entry))) (Recipe (now (s .entry))) (recipeRefusal r) ⌝ }
+pub fn check_recipe(recipe: &[u8]) -> RecipeCheck
+    ensures { λ r. ⌜ Answers (recipeRows (now (recipe .entry))) (Recipe (now (recipe .entry))) (recipeRefusal r) ⌝ }
 {
-    check_normal(s, RECIPE_RECORDS)
+    check_normal(recipe, RECIPE_RECORDS)
 }
 
 // Whether s is the table of a value, of a size that document 01 allows.
-pub fn check_value(s: &[u8]) -> bool
-    ensures { λ r. ⌜ Says r (ValueTable (now (s .entry))) ⌝ }
+pub fn check_value(value: &[u8]) -> bool
+    ensures { λ r. ⌜ Says r (ValueTable (now (value .entry))) ⌝ }
 {
-    let check = check_normal(s, VALUE_RECORDS);
+    let check = check_normal(value, VALUE_RECORDS);
     match check {
         RecipeCheck::Right => true,
         RecipeCheck::BadLength => false,

@@ -35,12 +35,12 @@ module _ (l : List ℕ) where
       go (var i) o = refl
 
   -- one record
-  pub no-local : (k : ℕ) → ¬ (getD l 0 0 ≡ 2) → Equals l (isLocal k) false
-  no-local k n (app f a) e = refl
-  no-local k n (lam b) e = refl
-  no-local k n (loc i) e = absurd (n (kind-of (loc i) e))
-  no-local k n (con i) e = refl
-  no-local k n (var i) e = refl
+  pub not-local : (k : ℕ) → ¬ (getD l 0 0 ≡ 2) → Equals l (isLocal k) false
+  not-local k n (app f a) e = refl
+  not-local k n (lam b) e = refl
+  not-local k n (loc i) e = absurd (n (kind-of (loc i) e))
+  not-local k n (con i) e = refl
+  not-local k n (var i) e = refl
 
   pub same-local : (k m : ℕ) → getD l 0 0 ≡ 2 → m ≡ numberAt l 0 → Equals l (isLocal k) (eqb m k)
   same-local k m z i (app f a) e = absurd (omega (arith, z, kind-of (app f a) e))

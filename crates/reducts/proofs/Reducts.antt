@@ -10,7 +10,7 @@ use lib.Seq.{sets, length-sets}
 use Rattle.terms.specs.Figures.{numbers, patternRecords, sweptRecords}
 use Rattle.terms.specs.Term.{Term, app, lam, loc, con, var, size, Closed}
 use Rattle.terms.specs.Sweep.{contract}
-use Rattle.terms.specs.Table.{bytes, encode, IsTable}
+use Rattle.terms.specs.Table.{recordBytes, encode, IsTable}
 use Rattle.terms.specs.Heads.{rigid}
 use Rattle.terms.proofs.Table.{encode-length}
 use Rattle.terms.proofs.Substitute.{size-pos}
@@ -40,7 +40,7 @@ reduct-too-long t out after = tt
 
 -- an application as it is
 pub joined :
-    (f a out p q r : List ℕ) → 4 + length f + length a ≤ patternBytes → p ≡ sets out 0 (bytes 0 0 []) → q ≡ sets p 4 f
+    (f a out p q r : List ℕ) → 4 + length f + length a ≤ patternBytes → p ≡ sets out 0 (recordBytes 0 0 []) → q ≡ sets p 4 f
     → r ≡ sets q (4 + length f) a → ReducesApplication f a out (Records ((4 + length f + length a) / 4)) r
 joined f a out p q r h u v w x y e g =
     reduced (app x y) out r ((4 + length f + length a) / 4) (omega (arith, table-length f x e, table-length a y g)) (omega arith)
@@ -170,11 +170,11 @@ module _ (m out p : List ℕ) (r : Length) (n : ℕ) (w : Reduces m out r p) (e 
   results : (t : Term) → m ≡ encode t → ReductTable (reduct t) p n
   results t q = reduct-table (reduct t) out p r n (w t q) e h
 
-  pub result-few : Reducible m → n ≤ patternRecords
-  result-few x = results (x .tree) (x .bytes) .few
+  pub reduct-few : Reducible m → n ≤ patternRecords
+  reduct-few x = results (x .tree) (x .bytes) .few
 
-  pub result-within : Reducible m → n * 4 ≤ length p
-  result-within x = results (x .tree) (x .bytes) .within
+  pub reduct-within : Reducible m → n * 4 ≤ length p
+  reduct-within x = results (x .tree) (x .bytes) .within
 
   pub result-fills : Reducible m → length (take (n * 4 - 0) (drop 0 p)) ≡ 4 * n
   result-fills x = results (x .tree) (x .bytes) .fills
@@ -184,17 +184,17 @@ module _ (l : List ℕ) (z : getD l 0 0 ≡ 0) (m j : List ℕ) (head : (f a : T
     (argument : (f a : Term) → l ≡ encode (app f a) → j ≡ encode a) (u p : List ℕ) (r : Length) (w : Reduces m u r p) (c b : List ℕ)
     (o : Length) (y : Reduces j c o b) (n k : ℕ) (e : r ≡ Records n) (d : o ≡ Records k) (h : length u ≡ patternBytes)
     (i : length c ≡ patternBytes) where
-  both : (t : Term) (q : l ≡ encode t) → ReductTable (reduct (application-of l t q z .f)) p n
+  both-reduced : (t : Term) (q : l ≡ encode t) → ReductTable (reduct (application-of l t q z .f)) p n
       × ReductTable (reduct (application-of l t q z .a)) b k
-  both t q =
+  both-reduced t q =
       let v = application-of l t q z in
       (results m u p r n w e h (v .f) (head (v .f) (v .a) (v .bytes)), results j c b o k y d i (v .a) (argument (v .f) (v .a) (v .bytes)))
 
   pub parts-applicable : Reducible l → ReducibleParts (take (n * 4 - 0) (drop 0 p)) (take (k * 4 - 0) (drop 0 b))
   parts-applicable x =
       let v = application-of l (x .tree) (x .bytes) z in
-      let f = both (x .tree) (x .bytes) .0 in
-      let g = both (x .tree) (x .bytes) .1 in
+      let f = both-reduced (x .tree) (x .bytes) .0 in
+      let g = both-reduced (x .tree) (x .bytes) .1 in
       let c : Closed (x .depth) (app (v .f) (v .a)) = subst (Closed (x .depth)) (v .is) (x .closed) in
       record {
         head = whole (take (n * 4 - 0) (drop 0 p)) 0 (reduct (v .f)) (at-start (take (n * 4 - 0) (drop 0 p)) (reduct (v .f)) (f .bytes));
@@ -226,13 +226,13 @@ module _ (l : List ℕ) (z : getD l 0 0 ≡ 0) (m j : List ℕ) (head : (f a : T
       → Reduces l out q after
   reduces-application out q after x t g =
       let v = application-of l t g z in
-      rw (v .is) (x (reduct (v .f)) (reduct (v .a)) (both t g .0 .bytes) (both t g .1 .bytes))
+      rw (v .is) (x (reduct (v .f)) (reduct (v .a)) (both-reduced t g .0 .bytes) (both-reduced t g .1 .bytes))
 
 -- an abstraction
 pub reduces-abstraction :
     (l : List ℕ) → getD l 0 0 ≡ 1 → (m : List ℕ) → ((b : Term) → l ≡ encode (lam b) → m ≡ encode b) → (u p : List ℕ) (r : Length)
     → Reduces m u r p → (n : ℕ) → r ≡ Records n → length u ≡ patternBytes → ¬ (n * 4 ≡ patternBytes) → (out q after : List ℕ)
-    → q ≡ sets out 0 (bytes 1 0 []) → after ≡ sets q 4 (take (n * 4 - 0) (drop 0 p)) → Reduces l out (Records (n * 4 / 4 + 1)) after
+    → q ≡ sets out 0 (recordBytes 1 0 []) → after ≡ sets q 4 (take (n * 4 - 0) (drop 0 p)) → Reduces l out (Records (n * 4 / 4 + 1)) after
 reduces-abstraction l z m body u p r w n e h k out q after b c t g =
     let v = abstraction-of l t g z in
     let x = results m u p r n w e h (v .b) (body (v .b) (v .bytes)) in
@@ -240,13 +240,14 @@ reduces-abstraction l z m body u p r w n e h k out q after b c t g =
     table-length (take (n * 4 - 0) (drop 0 p)) (reduct (v .b)) (x .bytes) in
     rw (v .is)
     (reduced (lam (reduct (v .b))) out after (n * 4 / 4 + 1) (omega (arith, x .fills)) (omega (arith, x .few))
-    (written-then (bytes 1 0 []) (take (n * 4 - 0) (drop 0 p)) out q after 0 4 b c refl
-    ∙ ap (λ (s : List ℕ). sets out 0 (bytes 1 0 s)) (x .bytes)))
+    (written-then (recordBytes 1 0 []) (take (n * 4 - 0) (drop 0 p)) out q after 0 4 b c refl
+    ∙ ap (λ (s : List ℕ). sets out 0 (recordBytes 1 0 s)) (x .bytes)))
 
 -- a leaf
 module _ (l : List ℕ) (n : ¬ (getD l 0 0 ≡ 0)) (m : ¬ (getD l 0 0 ≡ 1)) where
-  pub leaf-length : Reducible l → length l ≡ 4
-  leaf-length x = omega (arith, table-length l (x .tree) (x .bytes), leaf-size l 0 (x .tree) (at-start l (x .tree) (x .bytes)) n m)
+  pub reducible-leaf-length : Reducible l → length l ≡ 4
+  reducible-leaf-length x =
+      omega (arith, table-length l (x .tree) (x .bytes), leaf-size l 0 (x .tree) (at-start l (x .tree) (x .bytes)) n m)
 
   own : (t : Term) → l ≡ encode t → reduct t ≡ t
   own (app f a) e = absurd (n (kind-at l 0 (app f a) (at-start l (app f a) e)))

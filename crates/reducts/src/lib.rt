@@ -28,52 +28,52 @@ ghost use Rattle.reducts.specs.Reduced.{Reducible, Reduces};
 // The bytes of a pattern of 32 records, the longest reduct that is written.
 pub const PATTERN_BYTES: usize = RECORD * PATTERN_RECORDS;
 
-// Contracts the application of f to a, both reduced, where f is an abstraction.
-fn contract_redex(f: &[u8], a: &[u8], out: &mut [u8; PATTERN_BYTES]) -> Length
-    requires { ⌜ SweptParts (now f) (now a) × (getD (now f) 0 0 ≡ abstractionKind) ⌝ }
-    ensures { λ r. ⌜ Contracts (now (f .entry)) (now (a .entry)) (now (out .entry)) r (now (out .exit)) ⌝ }
+// Contracts the application of a head, which is an abstraction, to an argument, both reduced.
+fn contract_redex(head: &[u8], argument: &[u8], out: &mut [u8; PATTERN_BYTES]) -> Length
+    requires { ⌜ SweptParts (now head) (now argument) × (getD (now head) 0 0 ≡ abstractionKind) ⌝ }
+    ensures { λ r. ⌜ Contracts (now (head .entry)) (now (argument .entry)) (now (out .entry)) r (now (out .exit)) ⌝ }
 {
-    let body = &f[RECORD..];
+    let body = &head[RECORD..];
     let uses = substitution::count_uses(body, 0);
     // each use is one record of the body, and all of the argument's records take its place
-    let bytes = f.len() - RECORD + uses.count * (a.len() - RECORD);
+    let bytes = head.len() - RECORD + uses.count * (argument.len() - RECORD);
     if bytes > PATTERN_BYTES {
         return Length::TooLong;
     }
-    substitution::substitute_into(body, 0, a, out, 0);
+    substitution::substitute_into(body, 0, argument, out, 0);
     Length::Records(bytes / RECORD)
 }
 
-// Writes the application of f to a as it is.
-fn join(f: &[u8], a: &[u8], out: &mut [u8; PATTERN_BYTES]) -> Length
-    requires { ⌜ (length (now f) ≤ patternBytes) × (length (now a) ≤ patternBytes) ⌝ }
-    ensures { λ r. ⌜ ReducesApplication (now (f .entry)) (now (a .entry)) (now (out .entry)) r (now (out .exit)) ⌝ }
+// Writes the application of a head to an argument as it is.
+fn join(head: &[u8], argument: &[u8], out: &mut [u8; PATTERN_BYTES]) -> Length
+    requires { ⌜ (length (now head) ≤ patternBytes) × (length (now argument) ≤ patternBytes) ⌝ }
+    ensures { λ r. ⌜ ReducesApplication (now (head .entry)) (now (argument .entry)) (now (out .entry)) r (now (out .exit)) ⌝ }
 {
-    let n = RECORD + f.len() + a.len();
+    let n = RECORD + head.len() + argument.len();
     if n > PATTERN_BYTES {
         return Length::TooLong;
     }
     records::put_record(out, 0, Kind::APPLICATION, 0);
-    copying::copy_into(f, out, RECORD);
-    copying::copy_into(a, out, RECORD + f.len());
+    copying::copy_into(head, out, RECORD);
+    copying::copy_into(argument, out, RECORD + head.len());
     Length::Records(n / RECORD)
 }
 
-// Applies f to a, both reduced: the redex is contracted if it is one, and a is rigid or the local guarded.
-fn apply(f: &[u8], a: &[u8], out: &mut [u8; PATTERN_BYTES]) -> Length
-    requires { ⌜ ReducibleParts (now f) (now a) ⌝ }
-    ensures { λ r. ⌜ ReducesRedex (now (f .entry)) (now (a .entry)) (now (out .entry)) r (now (out .exit)) ⌝ }
+// Applies a head to an argument, both reduced: the redex is contracted if it is one, and the argument is rigid or the local guarded.
+fn apply(head: &[u8], argument: &[u8], out: &mut [u8; PATTERN_BYTES]) -> Length
+    requires { ⌜ ReducibleParts (now head) (now argument) ⌝ }
+    ensures { λ r. ⌜ ReducesRedex (now (head .entry)) (now (argument .entry)) (now (out .entry)) r (now (out .exit)) ⌝ }
 {
-    if f[0] != Kind::ABSTRACTION.code {
-        return join(f, a, out);
+    if head[0] != Kind::ABSTRACTION.code {
+        return join(head, argument, out);
     }
-    if shifting::is_rigid(a) {
-        return contract_redex(f, a, out);
+    if shifting::is_rigid(argument) {
+        return contract_redex(head, argument, out);
     }
-    if guards::is_guarded(records::body_of(f), 0) {
-        return contract_redex(f, a, out);
+    if guards::is_guarded(records::body_of(head), 0) {
+        return contract_redex(head, argument, out);
     }
-    join(f, a, out)
+    join(head, argument, out)
 }
 
 // Reduces an application: its head, its argument, and then the two together.

@@ -38,8 +38,8 @@ module _ (k : ℕ) where
       ∙ ap (λ (n : ℕ). replicate n 0) (p ∙ e)
       ∙ simp (eq-eqb (length l) k e)
 
-  same : (l m : List ℕ) → length m ≡ length l → length l ≡ k → clearedOf m ≡ clearedOf l
-  same l m e f = simp (eq-eqb (length m) k (e ∙ f), eq-eqb (length l) k f)
+  same-cleared : (l m : List ℕ) → length m ≡ length l → length l ≡ k → clearedOf m ≡ clearedOf l
+  same-cleared l m e f = simp (eq-eqb (length m) k (e ∙ f), eq-eqb (length l) k f)
 
 pub cleared-other : (l : List ℕ) → ¬ (length l ≡ tableBytes) → l ≡ cleared l
 cleared-other = other tableBytes
@@ -49,4 +49,4 @@ cleared-all = all tableBytes
 
 -- a work area that a search used
 pub cleared-same : (l m : List ℕ) → length m ≡ length l → length l ≡ tableBytes → cleared m ≡ cleared l
-cleared-same = same tableBytes
+cleared-same = same-cleared tableBytes

@@ -13,7 +13,7 @@ use lib.ListN.{length}
 use Rattle.terms.specs.Figures.{variables, tableBytes}
 use Rattle.terms.specs.Term.{Term, Occurs}
 use Rattle.terms.specs.Layout.{Stored}
-use Rattle.terms.specs.Refusal.{Row, Refused, Passed, BadTable, Filled, OccursIn, assignmentTables, assignment}
+use Rattle.terms.specs.Refusal.{Row, Refused, Passed, BadTable, Filled, OccursIn, assignmentTableRows, assignmentRows}
 use Rattle.terms.specs.Sweep.{fill}
 use Rattle.terms.proofs.Tests.{by-eqb}
 use Rattle.terms.proofs.Refusal.{refused-first, refused-later, passed-both}
@@ -110,13 +110,14 @@ module _ (w : List ℕ) where
   good-area e = ((λ x. x e, tt), e)
 
 module _ (l s w : List ℕ) where
-  pub bad-line : ¬ (length l ≡ 4 * variables) → Judged (assignmentTables l s w) (length l ≡ 4 * variables) (Verdict.Refused Refusal.Tables)
+  pub bad-line : ¬ (length l ≡ 4 * variables)
+      → Judged (assignmentTableRows l s w) (length l ≡ 4 * variables) (Verdict.Refused Refusal.Tables)
   unfolding Judged
   bad-line n = inl (n, refl)
 
   pub good-line :
       (W : Type 0) (v : Verdict) → length l ≡ 4 * variables → Judged (tableRow 4 s ++ areaRow w) W v
-      → Judged (assignmentTables l s w) (length l ≡ 4 * variables) v
+      → Judged (assignmentTableRows l s w) (length l ≡ 4 * variables) v
   unfolding Judged
   good-line W Verdict.Right e x = ((λ n. n e, x .0), e)
   good-line W (Verdict.Refused c) e x = inr (λ n. n e, x)
@@ -126,7 +127,7 @@ module _ (p l s : List ℕ) (a : List Entry) (e : length l ≡ 4 * variables) (r
   given-at : AllGiven p s a true → (i : ℕ) → Occurs i (x .tree) → (v : Term) × Given s a i v
   given-at g i o = g i (occurs-below variables i (x .tree) (x .below) o) (occurs-mentions p i (x .tree) (x .table .0) o)
 
-  pub all-ready : (b : Bool) → AllGiven p s a b → b ≡ true → Judged (assignment (OccursIn p) l s) (FilledTables p l s) Verdict.Right
+  pub all-ready : (b : Bool) → AllGiven p s a b → b ≡ true → Judged (assignmentRows (OccursIn p) l s) (FilledTables p l s) Verdict.Right
   unfolding Judged
   all-ready b g q =
       ((λ c. missing (c .0) (c .1) (c .2), tt), record { checked = x; line = e; term = fill (given .φ) (x .tree); filled = filled })
@@ -149,7 +150,7 @@ module _ (p l s : List ℕ) (a : List Entry) (e : length l ≡ 4 * variables) (r
       filled = record { term = x .tree; table = x .table; φ = given .φ; stored = given .holds; is = refl }
 
   pub one-missing : (b : Bool) → AllGiven p s a b → b ≡ false
-      → Judged (assignment (OccursIn p) l s) (FilledTables p l s) (Verdict.Refused Refusal.Assignment)
+      → Judged (assignmentRows (OccursIn p) l s) (FilledTables p l s) (Verdict.Refused Refusal.Assignment)
   unfolding Judged
   one-missing b g q =
       let m = subst (AllGiven p s a) q g in
@@ -164,24 +165,25 @@ module _ (p l s : List ℕ) (a : List Entry) (e : length l ≡ 4 * variables) (r
 
 -- a variable of either side
 module _ (S R : ℕ → Type 0) (l s : List ℕ) where
-  abbrev Either : ℕ → Type 0
-  Either i = S i ⊎ R i
+  abbrev OfEither : ℕ → Type 0
+  OfEither i = S i ⊎ R i
 
-  pub side-stop : (W X : Type 0) (v : Verdict) → Judged (assignment S l s) W v → (c : Refusal) → v ≡ Verdict.Refused c
-      → Judged (assignment Either l s) X (Verdict.Refused c)
+  pub side-stop : (W X : Type 0) (v : Verdict) → Judged (assignmentRows S l s) W v → (c : Refusal) → v ≡ Verdict.Refused c
+      → Judged (assignmentRows OfEither l s) X (Verdict.Refused c)
   unfolding Judged
-  side-stop W X v x c e = go (subst (Judged (assignment S l s) W) e x)
+  side-stop W X v x c e = go (subst (Judged (assignmentRows S l s) W) e x)
     where
-      go : Refused (assignment S l s) (number c) → Refused (assignment Either l s) (number c)
+      go : Refused (assignmentRows S l s) (number c) → Refused (assignmentRows OfEither l s) (number c)
       go (inl m) = inl ((m .0 .0, inl (m .0 .1), m .0 .2), m .1)
       go (inr m) = absurd (m .1)
 
-  pub side-next : (W X : Type 0) (v u : Verdict) → Judged (assignment S l s) W v → v ≡ Verdict.Right → Judged (assignment R l s) X u
-      → Judged (assignment Either l s) (W × X) u
+  pub side-next : (W X : Type 0) (v u : Verdict) → Judged (assignmentRows S l s) W v → v ≡ Verdict.Right → Judged (assignmentRows R l s) X u
+      → Judged (assignmentRows OfEither l s) (W × X) u
   unfolding Judged
-  side-next W X v u x e y = go (subst (Judged (assignment S l s) W) e x) u y
+  side-next W X v u x e y = go (subst (Judged (assignmentRows S l s) W) e x) u y
     where
-      go : Passed (assignment S l s) × W → (u : Verdict) → Judged (assignment R l s) X u → Judged (assignment Either l s) (W × X) u
+      go : Passed (assignmentRows S l s) × W → (u : Verdict) → Judged (assignmentRows R l s) X u
+          → Judged (assignmentRows OfEither l s) (W × X) u
       go p Verdict.Right q = ((λ m. ⊎-elim (λ o. p .0 .0 (m .0, o, m .2)) (λ o. q .0 .0 (m .0, o, m .2)) (m .1), tt), (p .1, q .1))
       go p (Verdict.Refused c) (inl m) = inl ((m .0 .0, inr (m .0 .1), m .0 .2), m .1)
       go p (Verdict.Refused c) (inr m) = absurd (m .1)

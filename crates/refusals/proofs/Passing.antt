@@ -11,7 +11,7 @@ use lib.ListN.{length}
 use Rattle.terms.specs.Figures.{variables, patternRecords, recipeRecords, tableBytes}
 use Rattle.terms.specs.Term.{Term, size, Normal}
 use Rattle.terms.specs.Table.{encode, goodRecords, IsTable}
-use Rattle.terms.specs.Refusal.{Passed, BadLength, BadTable, pattern, recipe}
+use Rattle.terms.specs.Refusal.{Passed, BadLength, BadTable, patternRows, recipeRows}
 use Rattle.terms.proofs.Substitute.{size-pos}
 use Rattle.terms.proofs.Table.{encode-length}
 
@@ -29,9 +29,9 @@ module _ (t : Term) where
   good-passed v g e = subst T (sym g ∙ e) tt
 
   pub pattern-passed : IsTable (encode t) t → size t ≤ patternRecords → goodRecords variables (encode t) ≡ true
-      → Passed (pattern (encode t))
+      → Passed (patternRows (encode t))
   pattern-passed i h g = (length-passed patternRecords h, (good-passed variables g, (λ n. n t i, tt)))
 
   pub recipe-passed : IsTable (encode t) t → size t ≤ recipeRecords → goodRecords 0 (encode t) ≡ true → Normal t
-      → Passed (recipe (encode t))
+      → Passed (recipeRows (encode t))
   recipe-passed i h g m = (length-passed recipeRecords h, (good-passed 0 g, (λ n. n t i, (λ n. n t i m, tt))))

@@ -3,11 +3,12 @@
 // A verdict says that tables are right, or which of document 01's causes holds first; two verdicts are joined in the order in which an
 // operation asks. The crate judges a table's length, the work area, a pattern, a recipe and an assignment, and makes a work area zero. It
 // promises, for any bytes, that a verdict is the first of its rows whose cause holds, and else what the tables are then known to hold. It
-// rests on `records` and `assignments` alone, so that an operation which searches nothing refuses by the same rows.
+// rests on the rows of `terms`, and in code on `records` and `assignments` alone, so that an operation which searches nothing refuses by
+// the same rows.
 //
 // The enum has a case for each cause that an operation can give. Those of 9 and 10 are named after what there is no room for.
 
-use assignments::LINE;
+use records::LINE;
 use records::PatternCheck;
 use records::RECORD;
 use records::RecipeCheck;
@@ -18,7 +19,7 @@ ghost use mathlib.Core.Logic.{_⊎_};
 ghost use Prim.Native.Nat.{_*_, _≤_, _<_};
 ghost use lib.ListN.{length};
 ghost use Rattle.terms.specs.Figures.{variables, tableBytes};
-ghost use Rattle.terms.specs.Refusal.{OccursIn, BadTable, assignmentTables, pattern as patternRows, recipe as recipeRows, assignment};
+ghost use Rattle.terms.specs.Refusal.{OccursIn, BadTable, assignmentTableRows, patternRows, recipeRows, assignmentRows};
 ghost use Rattle.records.specs.Tests.{Says};
 ghost use Rattle.records.specs.Checks.{Pattern, Recipe};
 ghost use Rattle.refusals.specs.Judged.{number, Judged, firstOf, tableRow, areaRow, FilledTables};
@@ -49,10 +50,10 @@ pub enum Verdict {
 }
 
 // Document 01's number of a refusal.
-pub fn number_of(c: Refusal) -> u64
-    ensures { λ r. ⌜ r ≡ number c ⌝ }
+pub fn number_of(refusal: Refusal) -> u64
+    ensures { λ r. ⌜ r ≡ number refusal ⌝ }
 {
-    match c {
+    match refusal {
         Refusal::PatternLength => 1,
         Refusal::PatternRecord => 2,
         Refusal::PatternTerm => 3,
@@ -71,32 +72,32 @@ pub fn number_of(c: Refusal) -> u64
 }
 
 // The first of two verdicts that refuses.
-pub fn first(a: Verdict, b: Verdict) -> Verdict
-    ensures { λ r. ⌜ r ≡ firstOf a b ⌝ }
+pub fn first(earlier: Verdict, later: Verdict) -> Verdict
+    ensures { λ r. ⌜ r ≡ firstOf earlier later ⌝ }
 {
-    match a {
+    match earlier {
         Verdict::Refused(c) => Verdict::Refused(c),
-        Verdict::Right => b,
+        Verdict::Right => later,
     }
 }
 
 // Whether a table's length is no multiple of `place` bytes, or too large.
-fn is_bad_table(s: &[u8], place: usize) -> bool
+fn is_bad_table(table: &[u8], place: usize) -> bool
     requires { ⌜ 0 < place ⌝ }
-    ensures { λ r. ⌜ Says r (BadTable place (now (s .entry))) ⌝ }
+    ensures { λ r. ⌜ Says r (BadTable place (now (table .entry))) ⌝ }
 {
-    if TABLE_BYTES < s.len() {
+    if TABLE_BYTES < table.len() {
         return true;
     }
-    s.len() % place != 0
+    table.len() % place != 0
 }
 
 // A table of places of so many bytes.
-pub fn judge_table(s: &[u8], place: usize) -> Verdict
+pub fn judge_table(table: &[u8], place: usize) -> Verdict
     requires { ⌜ 0 < place ⌝ }
-    ensures { λ r. ⌜ Judged (tableRow place (now (s .entry))) (length (now (s .entry)) ≤ tableBytes) r ⌝ }
+    ensures { λ r. ⌜ Judged (tableRow place (now (table .entry))) (length (now (table .entry)) ≤ tableBytes) r ⌝ }
 {
-    if is_bad_table(s, place) {
+    if is_bad_table(table, place) {
         return Verdict::Refused(Refusal::Tables);
     }
     Verdict::Right
@@ -120,7 +121,7 @@ pub fn judge_room(values: &[u8], work: &[u8]) -> Verdict
 
 // The tables that an assignment comes in, and the work area.
 pub fn judge_tables(line: &[u8], values: &[u8], work: &[u8]) -> Verdict
-    ensures { λ r. ⌜ Judged (assignmentTables (now (line .entry)) (now (values .entry)) (now (work .entry)))
+    ensures { λ r. ⌜ Judged (assignmentTableRows (now (line .entry)) (now (values .entry)) (now (work .entry)))
         (length (now (line .entry)) ≡ 4 * variables) r ⌝ }
 {
     if line.len() != LINE {
@@ -130,10 +131,10 @@ pub fn judge_tables(line: &[u8], values: &[u8], work: &[u8]) -> Verdict
 }
 
 // A pattern, or a right side.
-pub fn judge_pattern(s: &[u8]) -> Verdict
-    ensures { λ r. ⌜ Judged (patternRows (now (s .entry))) (Pattern (now (s .entry))) r ⌝ }
+pub fn judge_pattern(pattern: &[u8]) -> Verdict
+    ensures { λ r. ⌜ Judged (patternRows (now (pattern .entry))) (Pattern (now (pattern .entry))) r ⌝ }
 {
-    let check = records::check_pattern(s);
+    let check = records::check_pattern(pattern);
     match check {
         PatternCheck::BadLength => Verdict::Refused(Refusal::PatternLength),
         PatternCheck::BadRecord => Verdict::Refused(Refusal::PatternRecord),
@@ -142,10 +143,10 @@ pub fn judge_pattern(s: &[u8]) -> Verdict
     }
 }
 
-pub fn judge_recipe(s: &[u8]) -> Verdict
-    ensures { λ r. ⌜ Judged (recipeRows (now (s .entry))) (Recipe (now (s .entry))) r ⌝ }
+pub fn judge_recipe(recipe: &[u8]) -> Verdict
+    ensures { λ r. ⌜ Judged (recipeRows (now (recipe .entry))) (Recipe (now (recipe .entry))) r ⌝ }
 {
-    let check = records::check_recipe(s);
+    let check = records::check_recipe(recipe);
     match check {
         RecipeCheck::BadLength => Verdict::Refused(Refusal::RecipeLength),
         RecipeCheck::BadRecord => Verdict::Refused(Refusal::RecipeRecord),
@@ -158,7 +159,7 @@ pub fn judge_recipe(s: &[u8]) -> Verdict
 // Whether each variable of a pattern has a value.
 pub fn judge_assignment(pattern: &[u8], line: &[u8], values: &[u8]) -> Verdict
     requires { ⌜ Pattern (now pattern) × (length (now line) ≡ 4 * variables) ⌝ }
-    ensures { λ r. ⌜ Judged (assignment (OccursIn (now (pattern .entry))) (now (line .entry)) (now (values .entry)))
+    ensures { λ r. ⌜ Judged (assignmentRows (OccursIn (now (pattern .entry))) (now (line .entry)) (now (values .entry)))
         (FilledTables (now (pattern .entry)) (now (line .entry)) (now (values .entry))) r ⌝ }
 {
     let a = assignments::entries_of(line);
@@ -172,7 +173,7 @@ pub fn judge_assignment(pattern: &[u8], line: &[u8], values: &[u8]) -> Verdict
 pub fn judge_sides(left: &[u8], right: &[u8], line: &[u8], values: &[u8]) -> Verdict
     requires { ⌜ Pattern (now left) × Pattern (now right) × (length (now line) ≡ 4 * variables) ⌝ }
     ensures { λ r. ⌜ Judged
-        (assignment (λ i. OccursIn (now (left .entry)) i ⊎ OccursIn (now (right .entry)) i) (now (line .entry)) (now (values .entry)))
+        (assignmentRows (λ i. OccursIn (now (left .entry)) i ⊎ OccursIn (now (right .entry)) i) (now (line .entry)) (now (values .entry)))
         (FilledTables (now (left .entry)) (now (line .entry)) (now (values .entry))
         × FilledTables (now (right .entry)) (now (line .entry)) (now (values .entry))) r ⌝ }
 {

@@ -12,8 +12,8 @@ use Rattle.terms.specs.Term.{Term, app, lam, loc, con, var, Occurs, size}
 use Rattle.terms.specs.Sweep.{sweep, fill, largest}
 use Rattle.terms.specs.Table.{encode, IsTable}
 use Rattle.terms.specs.Layout.{Stored}
-use Rattle.terms.specs.Refusal.{Passed, Filled, Matches, OccursIn, assignmentTables, assignment, swept}
-use Rattle.terms.specs.Refusal.{pattern as patternRows, recipe as recipeRows}
+use Rattle.terms.specs.Refusal.{Passed, Filled, Matches, OccursIn, assignmentTableRows, assignmentRows, sweptFormRows}
+use Rattle.terms.specs.Refusal.{patternRows, recipeRows}
 use Rattle.terms.proofs.Table.{encode-one}
 use Rattle.terms.proofs.Refusal.{passed-both, filled-one}
 use Rattle.refusals.proofs.Passing.{table-passed, pattern-passed, recipe-passed}
@@ -73,18 +73,18 @@ second-stored = record {
   value = (((tt, lit< tt), lit< tt), (tt, (tt, (tt, tt, tt), tt)), ((lit< tt, tt), tt));
 }
 
-stored : (i : ℕ) → Occurs i casePattern → Stored line caseValues i (φ i)
-stored i (inl (inl e)) = subst (λ (j : ℕ). Stored line caseValues j (φ j)) (sym e) first-stored
-stored i (inl (inr e)) = absurd e
-stored i (inr e) = subst (λ (j : ℕ). Stored line caseValues j (φ j)) (sym e) second-stored
+case-stored : (i : ℕ) → Occurs i casePattern → Stored line caseValues i (φ i)
+case-stored i (inl (inl e)) = subst (λ (j : ℕ). Stored line caseValues j (φ j)) (sym e) first-stored
+case-stored i (inl (inr e)) = absurd e
+case-stored i (inr e) = subst (λ (j : ℕ). Stored line caseValues j (φ j)) (sym e) second-stored
 
 filled : Filled p line caseValues (fill φ casePattern)
-filled = record { term = casePattern; table = pattern-table; φ = φ; stored = stored; is = refl }
+filled = record { term = casePattern; table = pattern-table; φ = φ; stored = case-stored; is = refl }
 
-filled-is : (t : Term) → Filled p line caseValues t → t ≡ fill φ casePattern
-filled-is t f = filled-one p line caseValues t (fill φ casePattern) f filled
+case-filled : (t : Term) → Filled p line caseValues t → t ≡ fill φ casePattern
+case-filled t f = filled-one p line caseValues t (fill φ casePattern) f filled
 
-tables-passed : (w : List ℕ) → length w ≡ tableBytes → Passed (assignmentTables line caseValues w)
+tables-passed : (w : List ℕ) → length w ≡ tableBytes → Passed (assignmentTableRows line caseValues w)
 tables-passed w h = (λ n. n refl, (table-passed 4 caseValues (lit≤ tt) refl, (λ n. n h, tt)))
 
 sides-passed : Passed (patternRows p ++ recipeRows r)
@@ -93,29 +93,29 @@ sides-passed =
     (pattern-passed casePattern pattern-table (lit≤ tt) refl)
     (recipe-passed caseRecipe recipe-table (lit≤ tt) refl (tt, (tt, (tt, tt, tt), tt)))
 
-assignment-passed : Passed (assignment (OccursIn p) line caseValues)
+assignment-passed : Passed (assignmentRows (OccursIn p) line caseValues)
 assignment-passed =
-    (λ z. z .2 (φ (z .0)) (stored (z .0) (subst (Occurs (z .0)) (encode-one (z .1 .0) casePattern (sym (z .1 .1 .0))) (z .1 .2))), tt)
+    (λ z. z .2 (φ (z .0)) (case-stored (z .0) (subst (Occurs (z .0)) (encode-one (z .1 .0) casePattern (sym (z .1 .1 .0))) (z .1 .2))), tt)
 
-swept-passed : Passed (swept p line caseValues)
-swept-passed = (λ z. omega (arith, z .2, ap largest (filled-is (z .0) (z .1))), tt)
+case-swept-passed : Passed (sweptFormRows p line caseValues)
+case-swept-passed = (λ z. omega (arith, z .2, ap largest (case-filled (z .0) (z .1))), tt)
 
-no-match : ¬ Matches p line caseValues r
-no-match z =
-    omega (arith, ap size (encode-one caseRecipe (sweep (z .0)) (z .2 .0)), ap (λ (t : Term). size (sweep t)) (filled-is (z .0) (z .1)))
+case-unmatched : ¬ Matches p line caseValues r
+case-unmatched z =
+    omega (arith, ap size (encode-one caseRecipe (sweep (z .0)) (z .2 .0)), ap (λ (t : Term). size (sweep t)) (case-filled (z .0) (z .1)))
 
 module _ (w : List ℕ) (h : length w ≡ tableBytes) where
   lent-passed : Passed (lentForCheck p r line caseValues w)
   lent-passed =
-      passed-both (assignmentTables line caseValues w ++ (patternRows p ++ recipeRows r))
-      (assignment (OccursIn p) line caseValues)
-      (passed-both (assignmentTables line caseValues w) (patternRows p ++ recipeRows r) (tables-passed w h) sides-passed)
+      passed-both (assignmentTableRows line caseValues w ++ (patternRows p ++ recipeRows r))
+      (assignmentRows (OccursIn p) line caseValues)
+      (passed-both (assignmentTableRows line caseValues w) (patternRows p ++ recipeRows r) (tables-passed w h) sides-passed)
       assignment-passed
 
   answer-no : Checked p r line caseValues w CheckAnswer.No
   unfolding Checked
   answer-no =
-      (passed-both (lentForCheck p r line caseValues w) (swept p line caseValues) lent-passed swept-passed, no-match)
+      (passed-both (lentForCheck p r line caseValues w) (sweptFormRows p line caseValues) lent-passed case-swept-passed, case-unmatched)
 
   pub case-8 : (a : CheckAnswer) → Checked p r line caseValues w a → a ≡ CheckAnswer.No
   case-8 a x = checked-one p r line caseValues w a CheckAnswer.No x answer-no

@@ -12,7 +12,7 @@ use Rattle.terms.specs.Figures.{variables, sweptRecords}
 use Rattle.terms.specs.Term.{Term, size}
 use Rattle.terms.specs.Table.{encode, IsTable}
 use Rattle.terms.specs.Sweep.{sweep, largest}
-use Rattle.terms.specs.Refusal.{Refused, Passed, Filled, Matches, swept, output}
+use Rattle.terms.specs.Refusal.{Refused, Passed, Filled, Matches, sweptFormRows, outputRows}
 use Rattle.terms.proofs.Occurs.{occurs-below}
 use Rattle.terms.proofs.Refusal.{filled-one, refused-first, refused-later, passed-both}
 use Rattle.terms.proofs.Table.{encode-one, encode-length}
@@ -75,12 +75,12 @@ module _ (p l s out : List ℕ) (r : Length) (after : List ℕ) (x : FilledTable
         bytes = q .bytes;
       }
 
-  pub too-long : r ≡ TooLong → Refused (swept p l s) 12
+  pub too-long : r ≡ TooLong → Refused (sweptFormRows p l s) 12
   too-long e = inl ((x .term, x .filled, swept-long (x .term) out after r (w (x .term) (x .filled)) e), refl)
 
 -- a side whose swept forms fit
 module _ (p l s : List ℕ) (n : ℕ) (after : List ℕ) (x : SideForm p l s n after) where
-  pub swept-passed : Passed (swept p l s)
+  pub swept-passed : Passed (sweptFormRows p l s)
   swept-passed = (λ c. omega (arith, x .all, ap largest (filled-one p l s (c .0) (x .term) (c .1) (x .filled)), c .2), tt)
 
   pub matches : (r : List ℕ) → Recipe r → take (n * 4 - 0) (drop 0 after) ≡ r → Matches p l s r
@@ -93,10 +93,10 @@ module _ (p l s : List ℕ) (n : ℕ) (after : List ℕ) (x : SideForm p l s n a
   matches-not r e m =
       e (x .bytes ∙ ap (λ t. encode (sweep t)) (sym (filled-one p l s (m .0) (x .term) (m .1) (x .filled))) ∙ sym (m .2 .0))
 
-  pub output-short : (o : List ℕ) → length o < n * 4 → Refused (output p l s o) 13
+  pub output-short : (o : List ℕ) → length o < n * 4 → Refused (outputRows p l s o) 13
   output-short o h = inl ((x .term, x .filled, omega (arith, x .records)), refl)
 
-  pub output-passed : (o : List ℕ) → n * 4 ≤ length o → Passed (output p l s o)
+  pub output-passed : (o : List ℕ) → n * 4 ≤ length o → Passed (outputRows p l s o)
   output-passed o h =
       (λ c. omega (arith, x .records, ap (λ t. size (sweep t)) (filled-one p l s (c .0) (x .term) (c .1) (x .filled)), c .2), tt)
 
@@ -120,7 +120,7 @@ module _ (p l s out : List ℕ) (r : Length) (after : List ℕ) (x : FilledTable
 
   pub put-long : (o : List ℕ) → r ≡ TooLong → SideSwept p l s o (SweepAnswer.Refused Refusal.SweptForm) o
   unfolding SideSwept
-  put-long o e = (refused-first (swept p l s) (output p l s o) 12 (too-long p l s out r after x w e), refl)
+  put-long o e = (refused-first (sweptFormRows p l s) (outputRows p l s o) 12 (too-long p l s out r after x w e), refl)
 
 module _ (p l s : List ℕ) (n : ℕ) (after : List ℕ) (x : SideForm p l s n after) where
   pub matched-yes : (t : List ℕ) → Recipe t → (c : Bool) → Same (take (n * 4 - 0) (drop 0 after)) t c → c ≡ true
@@ -134,12 +134,13 @@ module _ (p l s : List ℕ) (n : ℕ) (after : List ℕ) (x : SideForm p l s n a
 
   pub put-short : (o : List ℕ) → length o < n * 4 → SideSwept p l s o (SweepAnswer.Refused Refusal.Output) o
   unfolding SideSwept
-  put-short o h = (refused-later (swept p l s) (output p l s o) 13 (swept-passed p l s n after x) (output-short p l s n after x o h), refl)
+  put-short o h =
+      (refused-later (sweptFormRows p l s) (outputRows p l s o) 13 (swept-passed p l s n after x) (output-short p l s n after x o h), refl)
 
   pub put-done : (o m : List ℕ) → n * 4 ≤ length o → m ≡ sets o 0 (take (n * 4 - 0) (drop 0 after))
       → SideSwept p l s o (SweepAnswer.Records n) m
   unfolding SideSwept
   put-done o m h q = (
-    passed-both (swept p l s) (output p l s o) (swept-passed p l s n after x) (output-passed p l s n after x o h),
+    passed-both (sweptFormRows p l s) (outputRows p l s o) (swept-passed p l s n after x) (output-passed p l s n after x o h),
     written p l s n after x o m h q,
   )

@@ -10,8 +10,9 @@ use Prim.Native.Nat.{ℕ}
 use Rattle.terms.specs.Term.{Term, size}
 use Rattle.terms.specs.Table.{encode}
 use Rattle.terms.specs.Sweep.{sweep}
-use Rattle.terms.specs.Refusal.{Row, Refused, Passed, Filled, Matches, OccursIn, assignmentTables, outputTable, pattern, recipe, assignment}
-use Rattle.terms.specs.Refusal.{swept, output, unmatched}
+use Rattle.terms.specs.Refusal.{Row, Refused, Passed, Filled, Matches, OccursIn, assignmentTableRows, outputTableRows, patternRows}
+use Rattle.terms.specs.Refusal.{recipeRows, assignmentRows}
+use Rattle.terms.specs.Refusal.{sweptFormRows, outputRows, unmatchedRows}
 use Rattle.refusals.specs.Judged.{number}
 use Rattle.refusals.specs.Lent.{overwritten}
 use Rattle.rewriting.specs.declared.CheckAnswer.{CheckAnswer}
@@ -22,26 +23,27 @@ use Rattle.rewriting.specs.declared.RewriteAnswer.{RewriteAnswer}
 -- covers its variables too."
 -- check: line l
 abbrev pub lentForCheck : List ℕ → List ℕ → List ℕ → List ℕ → List ℕ → List Row
-lentForCheck p r l s w = (assignmentTables l s w ++ (pattern p ++ recipe r)) ++ assignment (OccursIn p) l s
+lentForCheck p r l s w = (assignmentTableRows l s w ++ (patternRows p ++ recipeRows r)) ++ assignmentRows (OccursIn p) l s
 
 abbrev pub checkRows : List ℕ → List ℕ → List ℕ → List ℕ → List ℕ → List Row
-checkRows p r l s w = lentForCheck p r l s w ++ swept p l s
+checkRows p r l s w = lentForCheck p r l s w ++ sweptFormRows p l s
 
 -- sweep: output table o
 abbrev pub lentForSweep : List ℕ → List ℕ → List ℕ → List ℕ → List ℕ → List Row
-lentForSweep p l s o w = (assignmentTables l s w ++ (outputTable o ++ pattern p)) ++ assignment (OccursIn p) l s
+lentForSweep p l s o w = (assignmentTableRows l s w ++ (outputTableRows o ++ patternRows p)) ++ assignmentRows (OccursIn p) l s
 
 abbrev pub sweepRows : List ℕ → List ℕ → List ℕ → List ℕ → List ℕ → List Row
-sweepRows p l s o w = lentForSweep p l s o w ++ (swept p l s ++ output p l s o)
+sweepRows p l s o w = lentForSweep p l s o w ++ (sweptFormRows p l s ++ outputRows p l s o)
 
 -- rewrite: left side p, right side q
 abbrev pub lentForRewrite : List ℕ → List ℕ → List ℕ → List ℕ → List ℕ → List ℕ → List ℕ → List Row
 lentForRewrite p q r l s o w =
-    (assignmentTables l s w ++ (outputTable o ++ (pattern p ++ (recipe r ++ pattern q))))
-    ++ assignment (λ i. OccursIn p i ⊎ OccursIn q i) l s
+    (assignmentTableRows l s w ++ (outputTableRows o ++ (patternRows p ++ (recipeRows r ++ patternRows q))))
+    ++ assignmentRows (λ i. OccursIn p i ⊎ OccursIn q i) l s
 
 abbrev pub rewriteRows : List ℕ → List ℕ → List ℕ → List ℕ → List ℕ → List ℕ → List ℕ → List Row
-rewriteRows p q r l s o w = lentForRewrite p q r l s o w ++ (swept p l s ++ (unmatched p l s r ++ (swept q l s ++ output q l s o)))
+rewriteRows p q r l s o w =
+    lentForRewrite p q r l s o w ++ (sweptFormRows p l s ++ (unmatchedRows p l s r ++ (sweptFormRows q l s ++ outputRows q l s o)))
 
 -- "gives yes or no"
 unfoldable pub Checked : List ℕ → List ℕ → List ℕ → List ℕ → List ℕ → CheckAnswer → Type 0

@@ -6,7 +6,7 @@ use mathlib.Core.Path.{_≡_}
 use mathlib.Core.List.{List, _++_}
 use Prim.Native.Nat.{ℕ}
 use Rattle.terms.specs.Term.{Term}
-use Rattle.terms.specs.Refusal.{Refused, Passed, Filled, Matches, swept, output}
+use Rattle.terms.specs.Refusal.{Refused, Passed, Filled, Matches, sweptFormRows, outputRows}
 use Rattle.sweeping.specs.declared.Length.{Length}
 use Rattle.sweeping.specs.Swept.{FormSwept}
 use Rattle.refusals.specs.Judged.{number}
@@ -19,10 +19,10 @@ abbrev pub SweptSide : List ℕ → List ℕ → List ℕ → List ℕ → Lengt
 SweptSide p l s out r after = (t : Term) → Filled p l s t → FormSwept t out r after
 
 unfoldable pub Matched : List ℕ → List ℕ → List ℕ → List ℕ → MatchTest → Type 0
-Matched p l s r MatchTest.Yes = Passed (swept p l s) × Matches p l s r
-Matched p l s r MatchTest.No = Passed (swept p l s) × ¬ Matches p l s r
-Matched p l s r MatchTest.TooLong = Refused (swept p l s) 12
+Matched p l s r MatchTest.Yes = Passed (sweptFormRows p l s) × Matches p l s r
+Matched p l s r MatchTest.No = Passed (sweptFormRows p l s) × ¬ Matches p l s r
+Matched p l s r MatchTest.TooLong = Refused (sweptFormRows p l s) 12
 
 unfoldable pub SideSwept : List ℕ → List ℕ → List ℕ → List ℕ → SweepAnswer → List ℕ → Type 0
-SideSwept p l s o (SweepAnswer.Records n) after = Passed (swept p l s ++ output p l s o) × Written p l s o n after
-SideSwept p l s o (SweepAnswer.Refused c) after = Refused (swept p l s ++ output p l s o) (number c) × (after ≡ o)
+SideSwept p l s o (SweepAnswer.Records n) after = Passed (sweptFormRows p l s ++ outputRows p l s o) × Written p l s o n after
+SideSwept p l s o (SweepAnswer.Refused c) after = Refused (sweptFormRows p l s ++ outputRows p l s o) (number c) × (after ≡ o)

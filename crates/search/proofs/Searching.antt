@@ -8,7 +8,7 @@ use Prim.Native.Nat.{ℕ, suc, _+_, _*_, _<_, _≤_}
 use native.Mathlib.Omega.{arith}
 use native.Mathlib.Decide.{decLt}
 use lib.ListN.{length, getD, take, set, length-set}
-use lib.Seq.{take-take, getD-take}
+use lib.Seq.{take-take}
 use Rattle.terms.specs.Figures.{valueRecords}
 use Rattle.terms.specs.Term.{Term}
 use Rattle.terms.specs.Listing.{Line}
@@ -30,7 +30,7 @@ use Rattle.builds.specs.Choices.{Choices, CopiesAre, ChosenBody}
 use Rattle.ordering.specs.Forwarding.{Forwarded}
 use Rattle.arguments.specs.Applications.{ApplicationDeferred, WaysCounted}
 use Rattle.builds.specs.Builds.{Builds}
-use Rattle.agenda.proofs.Frame.{Kept, state-kept}
+use Rattle.agenda.proofs.Frame.{byte-below, Kept, state-kept}
 use Rattle.search.specs.Collected.{Tallied}
 use Rattle.search.specs.Searched.{Begins, Searched}
 use Rattle.search.specs.Choosing.{Choosing}
@@ -160,12 +160,9 @@ begins-kept k P W s a limit L X done W₁ L₁ X₁ r e n m o u w b =
     }
 
 -- which goal is the first is kept too
-byte-kept : (W : List ℕ) (s : Agenda) (W₁ : List ℕ) (i : ℕ) → i < s .top → take (s .top) W₁ ≡ take (s .top) W → getD W₁ i 0 ≡ getD W i 0
-byte-kept W s W₁ i h e = sym (getD-take (s .top) W₁ i 0 h) ∙ ap (λ (l : List ℕ). getD l i 0) e ∙ getD-take (s .top) W i 0 h
-
 kind-kept : (P W : List ℕ) (s : Agenda) (W₁ : List ℕ) → Bounds P W s → take (s .top) W₁ ≡ take (s .top) W
     → getD W₁ (s .deferred + 1) 0 ≡ getD W (s .deferred + 1) 0
-kind-kept P W s W₁ b e = byte-kept W s W₁ (s .deferred + 1) (omega (arith, b .deferred-room)) e
+kind-kept P W s W₁ b e = byte-below W W₁ (s .top) (s .deferred + 1) (omega (arith, b .deferred-room)) e
 
 pub matches-kept : (P W : List ℕ) (s : Agenda) (a : List Entry) (W₁ : List ℕ) → take (s .top) W₁ ≡ take (s .top) W
     → Ready relinking P W₁ s a → ApplicationDeferred P W s a → ApplicationDeferred P W₁ s a
@@ -183,7 +180,7 @@ pub counted-kept :
 counted-kept P W s a W₁ w e n b c = record {
   ways = λ gs hs l x. c .ways gs hs l (back gs hs l x);
   argument =
-      subst (λ (i : ℕ). Ends P (4 * i + 4) (w .argument)) (sym (byte-kept W s W₁ (s .deferred) (omega (arith, b .deferred-room)) e))
+      subst (λ (i : ℕ). Ends P (4 * i + 4) (w .argument)) (sym (byte-below W W₁ (s .top) (s .deferred) (omega (arith, b .deferred-room)) e))
       (c .argument);
   rigid-argument = c .rigid-argument;
   depths-are = λ gs hs l x. c .depths-are gs hs l (back gs hs l x);
@@ -274,8 +271,8 @@ module _ (P W : List ℕ) (s : Agenda) (a : List Entry) (limit : ℕ) (L X : Lis
 
     module _ (w : (gs hs : List Goal) (l : Line) → State relinking P W s a gs hs l → HasWays n hs) where
       -- all ways were gone through
-      pub going-end : n ≤ i → Searched relinking Sat P W s a limit L X done W₁ L₁ X₁ r
-      going-end h = record {
+      pub searching-end : n ≤ i → Searched relinking Sat P W s a limit L X done W₁ L₁ X₁ r
+      searching-end h = record {
         kept = g .kept;
         upto = g .upto;
         records = g .records;

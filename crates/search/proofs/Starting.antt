@@ -19,13 +19,13 @@ use Rattle.records.proofs.Parts.{part}
 use Rattle.assignments.specs.declared.Entry.the-variants.{Open}
 use Rattle.listing.specs.declared.Tally.{Tally}
 use Rattle.assignments.specs.Held.{Holds}
-use Rattle.listing.specs.Outcome.{outcome}
+use Rattle.listing.specs.Outcome.{noneFound, outcome}
 use Rattle.agenda.specs.declared.Agenda.{Agenda}
 use Rattle.agenda.specs.declared.StoredGoal.{StoredGoal}
-use Rattle.agenda.specs.Stored.{storedBytes}
-use Rattle.agenda.specs.State.{Easy, Target, State, Sat}
+use Rattle.agenda.specs.Stored.{storedBytes, storedMatch}
+use Rattle.agenda.specs.State.{goalBytes, Easy, Target, State, Sat}
 use Rattle.agenda.proofs.Frame.{part-kept, part-stored, kept-sets, length-stored, goal-stored, chain-match}
-use Rattle.search.specs.Collected.{Tallied, nothing, Collects, Collected}
+use Rattle.search.specs.Collected.{Tallied, Collects, Collected}
 use Rattle.search.specs.Searched.{Begins, Searched}
 use Rattle.search.proofs.Tallies.{tallied-same}
 
@@ -37,10 +37,10 @@ pub recipe-short : (p t : List ℕ) (limit : ℕ) (L X W : List ℕ) → Collect
 recipe-short p t limit L X W c = omega (arith, ap length (c .recipe .table .0), encode-length (c .recipe .tree), c .recipe .most)
 
 abbrev pub start : ℕ → Agenda
-start n = record { top = n + 8; easy = n; deferred = 0 }
+start n = record { top = n + goalBytes; easy = n; deferred = 0 }
 
 abbrev pub first-goal : StoredGoal
-first-goal = record { part = 0; kind = 0; target = 0; next = 0; argument = 0 }
+first-goal = storedMatch 0 0 0
 
 module _ (p t : List ℕ) (limit : ℕ) (L X W : List ℕ) (c : Collects p t limit L X W) (W₁ W₂ : List ℕ) (e₁ : W₁ ≡ sets W 0 t)
     (e₂ : W₂ ≡ sets W₁ (length t) (storedBytes first-goal)) where
@@ -73,7 +73,7 @@ module _ (p t : List ℕ) (limit : ℕ) (L X W : List ℕ) (c : Collects p t lim
         (omega (arith, y-length))
         (subst (λ (l : List ℕ). Part l 0 y) (sym (e₁ ∙ ap (sets W 0) t-is)) (part-stored y W 0 (omega (arith, c .area, short))))
 
-    target : Target W₂ (length t + 8) (size x) 0 y
+    target : Target W₂ (length t + goalBytes) (size x) 0 y
     target = record {
       part = stands;
       below = omega (arith, y-length);
@@ -87,7 +87,7 @@ module _ (p t : List ℕ) (limit : ℕ) (L X W : List ℕ) (c : Collects p t lim
     pub state : State 0 p W₂ (start (length t)) (replicate variables Open) (match x y ∷ []) [] (openLine variables)
     state = record {
       easy =
-          chain-match Easy p W₂ (length t + 8) (length t) first-goal
+          chain-match Easy p W₂ (length t + goalBytes) (length t) first-goal
           (goal-stored W₁ W₂ (length t) first-goal e₂ (omega (arith, area, y-length, short)) refl refl refl refl)
           (omega (arith, y-length, stands .some)) (omega arith) (omega (arith, y-length)) (omega (arith, y-length, stands .some))
           x y [] refl tt (part p 0 x [] (p-is ∙ sym (append-nil (encode x)))) target (
@@ -95,20 +95,20 @@ module _ (p t : List ℕ) (limit : ℕ) (L X W : List ℕ) (c : Collects p t lim
             subst Normal y-is (c .recipe .normal),
           ) refl;
       deferred = refl;
-      entries = holds-none W₂ (length t + 8) variables;
+      entries = holds-none W₂ (length t + goalBytes) variables;
       line = length-blank variables;
       assigns = assigns-blank (OccursIn p) variables;
       room = omega (arith, y-length, short, few);
     }
 
     pub collected :
-        (W₃ L₃ X₃ : List ℕ) (r : Tally) → Searched 0 Sat p W₂ (start (length t)) (replicate variables Open) limit L X nothing W₃ L₃ X₃ r
-        → Tallied p (Sweeps x y) limit (outcome L X nothing) (outcome L₃ X₃ r)
+        (W₃ L₃ X₃ : List ℕ) (r : Tally) → Searched 0 Sat p W₂ (start (length t)) (replicate variables Open) limit L X noneFound W₃ L₃ X₃ r
+        → Tallied p (Sweeps x y) limit (outcome L X noneFound) (outcome L₃ X₃ r)
     collected W₃ L₃ X₃ r z =
-        tallied-same p limit (Sweeps x y) (Sat (match x y ∷ []) [] (openLine variables)) (outcome L X nothing) (outcome L₃ X₃ r)
+        tallied-same p limit (Sweeps x y) (Sat (match x y ∷ []) [] (openLine variables)) (outcome L X noneFound) (outcome L₃ X₃ r)
         (λ φ v. (λ q. ((q, tt), tt, extends-blank φ variables), λ q. q .0 .0)) (z .answer (match x y ∷ []) [] (openLine variables) state)
 
-  pub begins : Begins 0 p W₂ (start (length t)) (replicate variables Open) limit L X nothing
+  pub begins : Begins 0 p W₂ (start (length t)) (replicate variables Open) limit L X noneFound
   begins = record {
     ready = record {
       gs = match (c .pattern .tree) (c .recipe .tree) ∷ [];
@@ -131,5 +131,5 @@ module _ (p t : List ℕ) (limit : ℕ) (L X W : List ℕ) (c : Collects p t lim
   }
 
   pub answers : (W₃ L₃ X₃ : List ℕ) (r : Tally)
-      → Searched 0 Sat p W₂ (start (length t)) (replicate variables Open) limit L X nothing W₃ L₃ X₃ r → Collected p t limit L X L₃ X₃ r
+      → Searched 0 Sat p W₂ (start (length t)) (replicate variables Open) limit L X noneFound W₃ L₃ X₃ r → Collected p t limit L X L₃ X₃ r
   answers W₃ L₃ X₃ r z = record { answer = λ x y u v. collected x y u v W₃ L₃ X₃ r z }

@@ -39,14 +39,14 @@ module _ (P W : List ℕ) (s : Agenda) (a : List Entry) (W₁ : List ℕ) where
     branched-next s₁ e = unfold Branched in subst (Branched P W s a Q W₁) e x
 
   module _ (k : ℕ) (r : Decision) (x : Decided k P W s a W₁ r) where
-    pub decided-failed : r ≡ Decision.Failed → Failed k P W s a Sat W₁
-    decided-failed e = unfold Decided in subst (Decided k P W s a W₁) e x
+    pub taken-failed : r ≡ Decision.Failed → Failed k P W s a Sat W₁
+    taken-failed e = unfold Decided in subst (Decided k P W s a W₁) e x
 
-    pub decided-next : (s₁ : Agenda) → r ≡ Decision.Next s₁ → Move k P W s a Sat W₁ s₁ a
-    decided-next s₁ e = unfold Decided in subst (Decided k P W s a W₁) e x
+    pub taken-next : (s₁ : Agenda) → r ≡ Decision.Next s₁ → Move k P W s a Sat W₁ s₁ a
+    taken-next s₁ e = unfold Decided in subst (Decided k P W s a W₁) e x
 
-    pub decided-open : r ≡ Decision.Open → W₁ ≡ W
-    decided-open e = unfold Decided in subst (Decided k P W s a W₁) e x
+    pub taken-open : r ≡ Decision.Open → W₁ ≡ W
+    taken-open e = unfold Decided in subst (Decided k P W s a W₁) e x
 
   module _ (r : Plan) (x : Planned P W s a W₁ r) where
     pub planned-failed : r ≡ Plan.Failed → Failed relinking P W s a Sat W₁

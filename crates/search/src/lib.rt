@@ -1,12 +1,13 @@
 // The search: every match of a pattern and a recipe, line by line.
 //
 // Easy goals are taken first. When none is left, two deferred goals that give the value of their variable become one easy goal. When there
-// are no such two, the cheapest of those deferred is taken: what is known of its part decides it, or an application is taken in each of its
-// ways in turn, a goal to build with each choice among the copies of its argument. The functions call each other in one cycle; each call
-// finds less room above the agenda, or an earlier goal as the first of the easy ones, so that the search ends. The crate promises that the
-// lines it has found are exactly the lines of some list that is sound, covers every assignment and names each once, for these goals and
-// these entries, stored one after the other; or that such a list has more lines than the limit. It rests on `agenda` and the crates of its
-// steps, and on `listing` for what becomes of a found line.
+// are no such two, the cheapest of those deferred is taken: what is known of its part decides it, or an application is taken in each of
+// its ways in turn, a goal to build with each choice among the copies of its argument. The functions call each other in one cycle; each
+// time it comes round there is less room above the agenda, or an earlier goal is the first of the easy ones, so that the search ends. The
+// crate promises that the lines it has found are exactly the lines of some list that is sound, covers every assignment and names each
+// once, for these goals and these entries, stored one after the other; or that such a list has more lines than the limit. It rests on
+// `agenda` for goals, on `steps`, `ordering`, `deciding`, `alternatives` and `builds` for its steps, on `matching` for why the lines of
+// alternatives make up the whole, and on `listing` for what becomes of a found line.
 //
 // A cut may always decline: functions that never refused, decided or joined a goal would meet their contracts, and the listing would be the
 // same, later. What is promised is that what they refuse, decide or put in a goal's place is right. That the cuts are made at all is shown
@@ -322,7 +323,7 @@ fn cheapest(
 }
 
 // No easy goal is left: two goals of one variable give its value, or the cheapest goal is taken.
-fn postponed(
+fn next_deferred(
     pattern: &[u8],
     work: &mut [u8],
     agenda: Agenda,
@@ -370,7 +371,7 @@ pub fn search(
         return advance(pattern, work, agenda, entries, limit, lines, values, done);
     }
     if agenda.deferred != 0 {
-        return postponed(pattern, work, agenda, entries, limit, lines, values, done);
+        return next_deferred(pattern, work, agenda, entries, limit, lines, values, done);
     }
     listing::found(work, entries, lines, values, done)
 }

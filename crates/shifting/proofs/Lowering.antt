@@ -13,7 +13,7 @@ use lib.Seq.{sets, take-take, take-set-le}
 use borrow.Author.Tests.{lt-ltb, le-ltb, eq-eqb, ltb-true, ltb-false}
 use Rattle.terms.specs.Figures.{numbers}
 use Rattle.terms.specs.Term.{Term, app, lam, loc, size, shift, unshift, uses}
-use Rattle.terms.specs.Table.{bytes, encode}
+use Rattle.terms.specs.Table.{recordBytes, encode}
 use Rattle.terms.proofs.Shift.{uses-below}
 use Rattle.terms.proofs.Table.{app-inj, lam-inj}
 use Rattle.records.specs.declared.Walk.{Walk}
@@ -163,7 +163,7 @@ module _ (l : List ℕ) (c d o : ℕ) where
     unfolding Leaves
     leaves-no after e = e
 
-    module _ (p q : List ℕ) (z : getD l 0 0 ≡ 0) (e : p ≡ sets out o (bytes 0 0 [])) where
+    module _ (p q : List ℕ) (z : getD l 0 0 ≡ 0) (e : p ≡ sets out o (recordBytes 0 0 [])) where
       -- the head's bytes end where the argument's begin
       head-wrote : (h : ℕ) (r : Walk) → r ≡ Upto h → Leaves (slice l 4) c d p (o + 4) q r
           → Wrote (unshift d) l 4 c p (o + 4) q (4 + h) (o + (4 + h))
@@ -178,7 +178,7 @@ module _ (l : List ℕ) (c d o : ℕ) where
       before h m w x =
           let v = application l 0 (x .tree) (x .part) z in
           ap (take o) (w .bytes (v .f) (v .head)) ∙ take-sets (encode (unshift d c (v .f))) p o (o + 4) (omega arith) ∙ ap (take o) e
-          ∙ take-sets (bytes 0 0 []) out o o (omega arith)
+          ∙ take-sets (recordBytes 0 0 []) out o o (omega arith)
 
       module _ (h : ℕ) (r : Walk) (i : r ≡ Upto h) (x : Lowered (slice l 4) c d p (o + 4) q r) where
         -- the argument ends where the whole does
@@ -224,7 +224,7 @@ module _ (l : List ℕ) (c d o : ℕ) where
           record {
             walked = walked-stop l 0 (Movable d c) (Movable d c) (Movable d c) (further 4 r) z (movable-two d c) (ap (further 4) i)
                 (slice-walked l 4 (Movable d c) r (x .walked));
-            leaves = take-less q p o (o + 4) (omega arith) w ∙ ap (take o) e ∙ take-sets (bytes 0 0 []) out o o (omega arith);
+            leaves = take-less q p o (o + 4) (omega arith) w ∙ ap (take o) e ∙ take-sets (recordBytes 0 0 []) out o o (omega arith);
           }
 
     module _ (p q : List ℕ) (r : Walk) (z : getD l 0 0 ≡ 1) (x : Lowered (slice l 4) (c + 1) d p (o + 4) q r) where
@@ -237,7 +237,7 @@ module _ (l : List ℕ) (c d o : ℕ) where
               omega (arith, slices-lam l j z n .exact (w .tree) (w .part), w .shallow)
           go No y = tt
 
-      pub lowered-abstraction : (a : Walk) → p ≡ sets out o (bytes 1 0 []) → a ≡ further 4 r → Lowered l c d out o q a
+      pub lowered-abstraction : (a : Walk) → p ≡ sets out o (recordBytes 1 0 []) → a ≡ further 4 r → Lowered l c d out o q a
       unfolding Leaves
       lowered-abstraction a e u =
           subst (Lowered l c d out o q) (sym u) (record {
@@ -251,11 +251,11 @@ module _ (l : List ℕ) (c d o : ℕ) where
               leaves-upto q (4 + h) (o + 4 + h) (omega arith)
               (wrote-abstraction (unshift d) (unshifts d) l 0 c out o p q (4 + h) (o + 4 + h) z e
               (slice-wrote (unshift d) l 4 (c + 1) p (o + 4) q h (o + 4 + h) y))
-          go No y = take-less q p o (o + 4) (omega arith) y ∙ ap (take o) e ∙ take-sets (bytes 1 0 []) out o o (omega arith)
+          go No y = take-less q p o (o + 4) (omega arith) y ∙ ap (take o) e ∙ take-sets (recordBytes 1 0 []) out o o (omega arith)
 
     module _ (n : ℕ) (i : n ≡ numberAt l 0) where
       pub lowered-local : (p : List ℕ) (m : ℕ) → Whole l 0 → getD l 0 0 ≡ 2 → ¬ Inside c d n → loc m ≡ unshift d c (loc n)
-          → p ≡ sets out o (bytes 2 m []) → Lowered l c d out o p (Upto 4)
+          → p ≡ sets out o (recordBytes 2 m []) → Lowered l c d out o p (Upto 4)
       lowered-local p m x z j u e = record {
         walked = walked-leaf l 0 (Movable d c) x (λ q. omega arith) (λ q. omega arith)
             (part-local l 0 (Movable d c) z (subst (λ (k : ℕ). Movable d c (loc k)) i (movable-local n c d j)));

@@ -248,9 +248,9 @@ module _ (s e : List ℕ) (c d : ℕ) where
 
 -- a rigid head, by the first record
 module _ (s : List ℕ) where
-  pub rigid-application : (r : Bool) → getD s 0 0 ≡ 0 → ((t : Term) → Part (slice s 4) 0 t → r ≡ rigid t) → (t : Term)
+  pub rigid-application-part : (r : Bool) → getD s 0 0 ≡ 0 → ((t : Term) → Part (slice s 4) 0 t → r ≡ rigid t) → (t : Term)
       → Part s 0 t → r ≡ rigid t
-  rigid-application r z f t p = let v = application-slices s t p z in f (v .f) (v .head) ∙ ap rigid (sym (v .is))
+  rigid-application-part r z f t p = let v = application-slices s t p z in f (v .f) (v .head) ∙ ap rigid (sym (v .is))
 
   pub rigid-local : getD s 0 0 ≡ 2 → (t : Term) → Part s 0 t → true ≡ rigid t
   rigid-local z t p = ap rigid (sym (local-at s 0 (numberAt s 0) t p z refl))

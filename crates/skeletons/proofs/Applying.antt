@@ -23,8 +23,8 @@ use Rattle.skeletons.specs.Skeleton.{SkeletonComparable, MayBe, Skeleton
 use Rattle.skeletons.specs.Contracted.{ApplicationSkeleton, Writes, WritesApplication}
 
 module _ (c e t : List ℕ) (x : SkeletonApplicable c e t) where
-  pub argument-whole : Whole e 0
-  argument-whole = whole e 0 (x .argument) (x .part)
+  pub applied-argument-whole : Whole e 0
+  applied-argument-whole = whole e 0 (x .argument) (x .part)
 
   module _ (end : ℕ) (m : Ends e 0 end) where
     abbrev table : List ℕ

@@ -9,7 +9,7 @@ use lib.Dec.{T}
 use lib.ListN.{length, getD}
 use Rattle.terms.specs.Figures.{tableBytes}
 use Rattle.terms.specs.Term.{Term, app, lam, loc, con, var, size}
-use Rattle.terms.specs.Table.{bytes, encode}
+use Rattle.terms.specs.Table.{recordBytes, encode}
 use Rattle.terms.proofs.Table.{kind, numberOf, encode-one}
 use Rattle.terms.proofs.Substitute.{size-pos}
 use Rattle.matching.specs.Skeletons.{Fills, Fits}
@@ -17,7 +17,7 @@ use Rattle.matching.proofs.Skeletons.{isVariable, fills-closed, filled-closed, 
 use Rattle.records.specs.Record.{numberAt}
 use Rattle.records.specs.Parts.{slice, Part, Whole, Ends}
 use Rattle.records.specs.Tests.{Asks, Walked}
-use Rattle.records.specs.declared.Ask.the-variants.{Below}
+use Rattle.records.specs.declared.Ask.the-variants.{Bound}
 use Rattle.records.specs.declared.Walk.{Walk}
 use Rattle.records.specs.declared.Walk.the-variants as walk
 use Rattle.records.proofs.Parts.{whole, kind-at, number-at, leaf-size}
@@ -29,7 +29,7 @@ use Rattle.shifting.specs.Substitution.{NearBoth, bothFurther}
 use Rattle.shifting.proofs.Slices.{application-slices, abstraction-slices, slices-argument, slices-app, slices-lam, slices-leaf}
 use Rattle.skeletons.specs.Skeleton.{SkeletonComparable, MayBe}
 use Rattle.skeletons.specs.Compared.{SkeletonCompared}
-use Rattle.skeletons.proofs.Tests.{hole-at, no-variable}
+use Rattle.skeletons.proofs.Tests.{hole-at, not-variable}
 
 -- what fits has the first record of the skeleton, if that is no hole
 fits-kind : (x y : Term) → isVariable x ≡ false → Fits x y → kind x ≡ kind y
@@ -50,7 +50,7 @@ same-fits : (x y u v : Term) → x ≡ u → y ≡ v → Fits x y → Fits u v
 same-fits x y u v p q h = subst (λ (t : Term). Fits t v) p (subst (Fits x) q h)
 
 -- a single record is known by its kind and its number
-single : (t : Term) → size t ≡ 1 → encode t ≡ bytes (kind t) (numberOf t) []
+single : (t : Term) → size t ≡ 1 → encode t ≡ recordBytes (kind t) (numberOf t) []
 single (app f a) e = absurd (omega (arith, size-pos f, size-pos a))
 single (lam b) e = absurd (omega (arith, size-pos b))
 single (loc n) e = refl
@@ -58,16 +58,16 @@ single (con n) e = refl
 single (var n) e = refl
 
 single-same : (x y : Term) → size x ≡ 1 → size y ≡ 1 → kind x ≡ kind y → numberOf x ≡ numberOf y → x ≡ y
-single-same x y n m k i = encode-one x y (single x n ∙ ap₂ (λ (a b : ℕ). bytes a b []) k i ∙ sym (single y m))
+single-same x y n m k i = encode-one x y (single x n ∙ ap₂ (λ (a b : ℕ). recordBytes a b []) k i ∙ sym (single y m))
 
 -- what a walk came to
-record Reached (c s : List ℕ) (p : Places) : Type 0 where
+record FitReached (c s : List ℕ) (p : Places) : Type 0 where
   skeleton-ends : Ends c 0 (p .first)
   term-ends : Ends s 0 (p .second)
   fits : (x y : Term) → Part c 0 x → Part s 0 y → Fits x y
 
 module _ (c s : List ℕ) where
-  reached : (p : Places) (r : Pairing) → r ≡ Upto p → SkeletonCompared c s r → Reached c s p
+  reached : (p : Places) (r : Pairing) → r ≡ Upto p → SkeletonCompared c s r → FitReached c s p
   unfolding SkeletonCompared
   reached p r i q =
       let m : SkeletonCompared c s (Upto p) = subst (SkeletonCompared c s) i q in
@@ -89,13 +89,14 @@ module _ (c s : List ℕ) where
   }
 
   -- a walk further on in two parts comes to bytes that a number can say
-  pub compared-near : (n m : ℕ) (r : Pairing) → SkeletonComparable c s → SkeletonCompared (slice c n) (slice s m) r → NearBoth n m r
+  pub skeleton-compared-near : (n m : ℕ) (r : Pairing) → SkeletonComparable c s → SkeletonCompared (slice c n) (slice s m) r
+      → NearBoth n m r
   unfolding SkeletonCompared
-  compared-near n m (Upto p) x q = (
+  skeleton-compared-near n m (Upto p) x q = (
     omega (arith, x .skeleton-most, q .0 .more, q .0 .within, slice-length c n),
     omega (arith, x .term-most, q .1 .more, q .1 .within, slice-length s m),
   )
-  compared-near n m No x q = tt
+  skeleton-compared-near n m No x q = tt
 
   -- where the heads end
   pub heads-passed : (p : Places) (r : Pairing) → r ≡ Upto p → SkeletonCompared (slice c 4) (slice s 4) r → SkeletonComparable c s
@@ -119,55 +120,55 @@ module _ (c s : List ℕ) where
         → SkeletonCompared c s (Upto (record { first = 4; second = r }))
     compared-any m r i z w e = passed w r e (λ y q. subst (λ (n : ℕ). Fills n y) (sym z ∙ i) tt)
 
-    module _ (a : Walk) (v : Walked s 0 (Asks Below 0) a) where
+    module _ (a : Walk) (v : Walked s 0 (Asks Bound 0) a) where
       pub compared-closed : (r : ℕ) → a ≡ walk.Upto r → SkeletonComparable c s
           → SkeletonCompared c s (Upto (record { first = 4; second = r }))
       unfolding Walked
       compared-closed r i w =
-          let z : Walked s 0 (Asks Below 0) (walk.Upto r) = subst (Walked s 0 (Asks Below 0)) i v in
+          let z : Walked s 0 (Asks Bound 0) (walk.Upto r) = subst (Walked s 0 (Asks Bound 0)) i v in
           passed w r (z .0) (λ y q. fills-closed (numberAt c 0) y (z .1 y q))
 
       pub compared-loose : a ≡ walk.No → (m : ℕ) → m ≡ numberAt c 0 → ¬ (m ≡ 0) → SkeletonCompared c s No
       unfolding Walked SkeletonCompared
       compared-loose i m j o x y p q h =
-          let z : Walked s 0 (Asks Below 0) walk.No = subst (Walked s 0 (Asks Below 0)) i v in
+          let z : Walked s 0 (Asks Bound 0) walk.No = subst (Walked s 0 (Asks Bound 0)) i v in
           z y q (filled-closed (numberAt c 0) y (λ n. o (j ∙ n)) (same-fits x y (var (numberAt c 0)) y (hole-at c 0 x p k) refl h))
 
-  pub compared-kinds : ¬ (getD c 0 0 ≡ 4) → ¬ (getD c 0 0 ≡ getD s 0 0) → SkeletonCompared c s No
+  pub skeleton-compared-kinds : ¬ (getD c 0 0 ≡ 4) → ¬ (getD c 0 0 ≡ getD s 0 0) → SkeletonCompared c s No
   unfolding SkeletonCompared
-  compared-kinds v n = λ x y p q h. n (kind-at c 0 x p ∙ fits-kind x y (no-variable c 0 x p v) h ∙ sym (kind-at s 0 y q))
+  skeleton-compared-kinds v n = λ x y p q h. n (kind-at c 0 x p ∙ fits-kind x y (not-variable c 0 x p v) h ∙ sym (kind-at s 0 y q))
 
   module _ (e : getD c 0 0 ≡ getD s 0 0) where
     module _ (w : getD c 0 0 ≡ 0) where
-      pub compares-head : SkeletonComparable c s → SkeletonComparable (slice c 4) (slice s 4)
-      compares-head x =
+      pub skeleton-compares-head : SkeletonComparable c s → SkeletonComparable (slice c 4) (slice s 4)
+      skeleton-compares-head x =
           let u = application-slices c (x .skeleton .tree) (x .skeleton .part) w in
           let v = application-slices s (x .term .tree) (x .term .part) (sym e ∙ w) in
           compares 4 4 (u .f) (v .f) (u .head) (v .head) x
 
-      pub compared-stop : (r : Pairing) → r ≡ No → SkeletonCompared (slice c 4) (slice s 4) r → SkeletonCompared c s No
+      pub skeleton-compared-stop : (r : Pairing) → r ≡ No → SkeletonCompared (slice c 4) (slice s 4) r → SkeletonCompared c s No
       unfolding SkeletonCompared
-      compared-stop r i q = λ x y f g h.
+      skeleton-compared-stop r i q = λ x y f g h.
           let u = application-slices c x f w in
           let v = application-slices s y g (sym e ∙ w) in
           let k : Fits (app (u .f) (u .a)) (app (v .f) (v .a)) = same-fits x y (app (u .f) (u .a)) (app (v .f) (v .a)) (u .is) (v .is) h in
           refused (slice c 4) (slice s 4) r i q (u .f) (v .f) (u .head) (v .head) (k .0)
 
       module _ (p : Places) (r : Pairing) (i : r ≡ Upto p) (q : SkeletonCompared (slice c 4) (slice s 4) r) where
-        come : Reached (slice c 4) (slice s 4) p
+        come : FitReached (slice c 4) (slice s 4) p
         come = reached (slice c 4) (slice s 4) p r i q
 
-        pub compares-argument : SkeletonComparable c s → SkeletonComparable (slice c (4 + p .first)) (slice s (4 + p .second))
-        compares-argument x =
+        pub skeleton-compares-argument : SkeletonComparable c s → SkeletonComparable (slice c (4 + p .first)) (slice s (4 + p .second))
+        skeleton-compares-argument x =
             let u = application-slices c (x .skeleton .tree) (x .skeleton .part) w in
             let v = application-slices s (x .term .tree) (x .term .part) (sym e ∙ w) in
             compares (4 + p .first) (4 + p .second) (u .a) (v .a) (slices-argument c (p .first) (x .skeleton .tree) (come .skeleton-ends) u)
             (slices-argument s (p .second) (x .term .tree) (come .term-ends) v) x
 
-        pub compared-app : (o a : Pairing) → a ≡ bothFurther (4 + p .first) (4 + p .second) o
+        pub skeleton-compared-app : (o a : Pairing) → a ≡ bothFurther (4 + p .first) (4 + p .second) o
             → SkeletonCompared (slice c (4 + p .first)) (slice s (4 + p .second)) o → SkeletonCompared c s a
         unfolding SkeletonCompared
-        compared-app o a d z = subst (SkeletonCompared c s) (sym d) (go o z)
+        skeleton-compared-app o a d z = subst (SkeletonCompared c s) (sym d) (go o z)
           where
             go : (o : Pairing) → SkeletonCompared (slice c (4 + p .first)) (slice s (4 + p .second)) o
                 → SkeletonCompared c s (bothFurther (4 + p .first) (4 + p .second) o)
@@ -192,15 +193,16 @@ module _ (c s : List ℕ) where
                 (slices-argument s (p .second) y (come .term-ends) v) (k .1)
 
     module _ (w : getD c 0 0 ≡ 1) where
-      pub compares-body : SkeletonComparable c s → SkeletonComparable (slice c 4) (slice s 4)
-      compares-body x =
+      pub skeleton-compares-body : SkeletonComparable c s → SkeletonComparable (slice c 4) (slice s 4)
+      skeleton-compares-body x =
           let u = abstraction-slices c (x .skeleton .tree) (x .skeleton .part) w in
           let v = abstraction-slices s (x .term .tree) (x .term .part) (sym e ∙ w) in
           compares 4 4 (u .b) (v .b) (u .body) (v .body) x
 
-      pub compared-lam : (o a : Pairing) → a ≡ bothFurther 4 4 o → SkeletonCompared (slice c 4) (slice s 4) o → SkeletonCompared c s a
+      pub skeleton-compared-lam : (o a : Pairing) → a ≡ bothFurther 4 4 o → SkeletonCompared (slice c 4) (slice s 4) o
+          → SkeletonCompared c s a
       unfolding SkeletonCompared
-      compared-lam o a d z = subst (SkeletonCompared c s) (sym d) (go o z)
+      skeleton-compared-lam o a d z = subst (SkeletonCompared c s) (sym d) (go o z)
         where
           go : (o : Pairing) → SkeletonCompared (slice c 4) (slice s 4) o → SkeletonCompared c s (bothFurther 4 4 o)
           go (Upto j) m = (
@@ -229,10 +231,10 @@ module _ (c s : List ℕ) where
             (fits-refl x),
       )
 
-      pub compared-other : ¬ (getD c 0 0 ≡ 4) → ¬ (n ≡ m) → SkeletonCompared c s No
+      pub skeleton-compared-other : ¬ (getD c 0 0 ≡ 4) → ¬ (n ≡ m) → SkeletonCompared c s No
       unfolding SkeletonCompared
-      compared-other v h = λ x y p q g.
-          h (i ∙ number-at c 0 x p ∙ fits-number x y (no-variable c 0 x p v) g ∙ sym (number-at s 0 y q) ∙ sym j)
+      skeleton-compared-other v h = λ x y p q g.
+          h (i ∙ number-at c 0 x p ∙ fits-number x y (not-variable c 0 x p v) g ∙ sym (number-at s 0 y q) ∙ sym j)
 
   -- what a walk says of the whole skeleton
   pub may-be-fits : MayBe c s true
@@ -245,8 +247,8 @@ module _ (c s : List ℕ) where
 
 -- a part of a table, handed on as a slice
 module _ (c s : List ℕ) (t : ℕ) where
-  pub comparable-at : Whole c 0 → Whole s t → length c ≤ tableBytes → length s ≤ t + tableBytes → SkeletonComparable c (slice s t)
-  comparable-at x y n m = record {
+  pub skeleton-comparable-at : Whole c 0 → Whole s t → length c ≤ tableBytes → length s ≤ t + tableBytes → SkeletonComparable c (slice s t)
+  skeleton-comparable-at x y n m = record {
     skeleton = x;
     term = whole-slice s t y;
     skeleton-most = n;

@@ -21,7 +21,7 @@ use Rattle.sweeping.specs.declared.Length.{Length}
 use Rattle.sweeping.specs.declared.Length.the-variants.{Records, TooLong}
 use Rattle.sweeping.specs.Swept.{SweptBody, ContractsAbstraction, SweptParts, ContractsApplication, WrittenForm}
 use Rattle.skeletons.specs.Contracted.{ApplicationSkeleton, AbstractionSkeleton, Writes, WritesApplication, WritesAbstraction}
-use Rattle.skeletons.proofs.Tests.{no-variable}
+use Rattle.skeletons.proofs.Tests.{not-variable}
 
 -- what a hole's record leaves
 abbrev pub Hole : List ℕ → ℕ → List ℕ → Type 0
@@ -89,7 +89,7 @@ module _ (f a out : List ℕ) (r : Length) (mid : List ℕ) (w : ContractsApplic
             sized = m .sized;
             holds = record {
               closed = λ d c o. closed-apply d x y c o;
-              fits = λ u v i j. fits-apply x u y v (no-variable f 0 x (at-start f x e) z) i j;
+              fits = λ u v i j. fits-apply x u y v (not-variable f 0 x (at-start f x e) z) i j;
             };
           }
 

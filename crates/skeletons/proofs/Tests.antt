@@ -5,7 +5,6 @@ use mathlib.Core.Bool.{Bool, true, false, _&&_, _||_}
 use mathlib.Core.Logic.{_↔_}
 use mathlib.Core.List.{List}
 use Prim.Native.Nat.{ℕ}
-use native.Mathlib.Omega.{arith}
 use lib.Dec.{T, eqb}
 use lib.ListN.{getD}
 use borrow.Author.Tests.{eq-eqb, ne-eqb}
@@ -19,7 +18,7 @@ use Rattle.records.specs.declared.Walk.the-variants.{Upto, No}
 use Rattle.records.specs.Record.{numberAt}
 use Rattle.records.specs.Parts.{slice, Part, Whole, Tree}
 use Rattle.records.specs.Tests.{Tells, Equals, Walked}
-use Rattle.records.proofs.Parts.{kind-at, number-at, at-start, application, tree-whole, whole-head}
+use Rattle.records.proofs.Parts.{kind-at, variable-at, at-start, application, tree-whole, whole-head}
 use Rattle.records.proofs.Slices.{part-slice}
 use Rattle.records.proofs.Tests.{not-false-true}
 use Rattle.substitution.proofs.Writers.{local-at}
@@ -28,18 +27,14 @@ use Rattle.skeletons.specs.Contracted.{Exact}
 -- a hole, and a record that is none
 module _ (l : List ℕ) (at : ℕ) where
   pub hole-at : (t : Term) → Part l at t → getD l at 0 ≡ 4 → t ≡ var (numberAt l at)
-  hole-at (app f a) x k = absurd (omega (arith, kind-at l at (app f a) x))
-  hole-at (lam b) x k = absurd (omega (arith, kind-at l at (lam b) x))
-  hole-at (loc n) x k = absurd (omega (arith, kind-at l at (loc n) x))
-  hole-at (con n) x k = absurd (omega (arith, kind-at l at (con n) x))
-  hole-at (var n) x k = ap var (sym (number-at l at (var n) x))
+  hole-at t x k = variable-at l at (numberAt l at) t x k refl
 
-  pub no-variable : (t : Term) → Part l at t → ¬ (getD l at 0 ≡ 4) → isVariable t ≡ false
-  no-variable (app f a) x n = refl
-  no-variable (lam b) x n = refl
-  no-variable (loc i) x n = refl
-  no-variable (con i) x n = refl
-  no-variable (var i) x n = absurd (n (kind-at l at (var i) x))
+  pub not-variable : (t : Term) → Part l at t → ¬ (getD l at 0 ≡ 4) → isVariable t ≡ false
+  not-variable (app f a) x n = refl
+  not-variable (lam b) x n = refl
+  not-variable (loc i) x n = refl
+  not-variable (con i) x n = refl
+  not-variable (var i) x n = absurd (n (kind-at l at (var i) x))
 
   pub hole-inexact : getD l at 0 ≡ 4 → (t : Term) → Part l at t → ¬ Exact t
   hole-inexact k t x e = let q : true ≡ false = sym (ap hasVariable (hole-at t x k)) ∙ e in subst T q tt
@@ -92,8 +87,8 @@ module _ (b : List ℕ) where
   sure-other v n (var i) e = absurd (v (kind-at b 0 (var i) (at-start b (var i) e)))
 
   module _ (z : getD b 0 0 ≡ 0) where
-    pub head-whole : Tree b → Whole b 4
-    head-whole x = whole-head b 0 (tree-whole b x) z
+    pub tree-head-whole : Tree b → Whole b 4
+    tree-head-whole x = whole-head b 0 (tree-whole b x) z
 
     -- g is the table of its argument
     module _ (g : List ℕ) (u : (f a : Term) → b ≡ encode (app f a) → g ≡ encode a) where

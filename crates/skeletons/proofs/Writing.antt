@@ -23,18 +23,17 @@ use Rattle.matching.proofs.Repeated.{closed-contract}
 use Rattle.records.specs.Record.{numberAt}
 use Rattle.records.specs.Parts.{Part}
 use Rattle.records.specs.Tests.{Says, Tells}
-use Rattle.records.proofs.Parts.{part, kind-at, at-start, leaf-size, application-of, abstraction-of}
+use Rattle.records.proofs.Parts.{part, kind-at, variable-at, at-start, leaf-size, application-of, abstraction-of}
 use Rattle.assignments.specs.declared.Span.{Span}
 use Rattle.assignments.specs.declared.Entry.{Entry}
 use Rattle.assignments.specs.declared.Entry.the-variants.{Open, Assigned}
 use Rattle.sweeping.specs.Swept.{sweptBytes, SweptParts, SweptBody}
 use Rattle.copying.proofs.Stores.{stored}
 use Rattle.sweeping.proofs.Contraction.{table-length}
-use Rattle.sweeping.proofs.Values.{ValueBytes, held}
+use Rattle.sweeping.proofs.Values.{ValueBytes, given-bytes}
 use Rattle.skeletons.specs.Skeleton.{GivenValues, SkeletonInput, IsSkeleton, SkeletonWritten, WritesSkeleton}
 use Rattle.skeletons.specs.Contracted.{WritesApplication, WritesAbstraction, Known, Entered}
 use Rattle.skeletons.proofs.Contractions.{Hole, ClosedHole}
-use Rattle.skeletons.proofs.Tests.{hole-at}
 
 -- a hole is a skeleton of everything, and one for closed terms is a skeleton of what is closed
 module _ (s : List ℕ) (a : List Entry) (out : List ℕ) (n : ℕ) (after : List ℕ) where
@@ -71,7 +70,7 @@ module _ (s : List ℕ) (a : List Entry) (i : ℕ) (x : Span) (e : getD a i Open
   value = k .given x e .0
 
   pub value-held : ValueBytes s x value
-  value-held = held s a i value (k .given x e .1) x e
+  value-held = given-bytes s a i value (k .given x e .1) x e
 
   pub entered-value : (out b after : List ℕ) → b ≡ take (4 * x .count) (drop (4 * x .first) s) → after ≡ sets out 0 b
       → Entered s a i out (x .count) after
@@ -92,7 +91,7 @@ module _ (s : List ℕ) (a : List Entry) (i : ℕ) (x : Span) (e : getD a i Open
       is-skeleton : IsSkeleton s a (var i) value
       is-skeleton φ v g =
           let y = g i x refl e in
-          let r : value ≡ φ i = encode-one value (φ i) (sym (value-held .bytes) ∙ held s a i (φ i) y x e .bytes) in
+          let r : value ≡ φ i = encode-one value (φ i) (sym (value-held .bytes) ∙ given-bytes s a i (φ i) y x e .bytes) in
           subst (Fits value) (r ∙ sym (sweep-normal (φ i) (y .value .1))) (fits-refl value)
 
   pub value-bytes : (b : List ℕ) → b ≡ take (4 * x .count) (drop (4 * x .first) s) → length b ≤ sweptBytes
@@ -168,9 +167,9 @@ result s a t u p n w m h =
       is-skeleton = w .is-skeleton;
     }
 
-pub result-within : (m s : List ℕ) (a : List Entry) (u p : List ℕ) (n : ℕ) → WritesSkeleton m s a u n p → length u ≡ sweptBytes
+pub skeleton-within : (m s : List ℕ) (a : List Entry) (u p : List ℕ) (n : ℕ) → WritesSkeleton m s a u n p → length u ≡ sweptBytes
     → SkeletonInput m s a → n * 4 ≤ length p
-result-within m s a u p n w h x =
+skeleton-within m s a u p n w h x =
     let y = w .written (x .tree) (x .bytes) in
     omega (arith, w .few, ap length (y .bytes), length-sets u 0 (encode (y .skeleton)))
 
@@ -193,8 +192,8 @@ module _ (l s : List ℕ) (a : List Entry) (z : getD l 0 0 ≡ 0) (m : List ℕ)
         let v = application-of l t q z in
         result s a (v .a) c b k (y .written (v .a) (argument (v .f) (v .a) (v .bytes))) (y .few) i
 
-    pub parts-applied : SkeletonInput l s a → SweptParts (take (n * 4 - 0) (drop 0 p)) (take (k * 4 - 0) (drop 0 b))
-    parts-applied x =
+    pub skeleton-parts-swept : SkeletonInput l s a → SweptParts (take (n * 4 - 0) (drop 0 p)) (take (k * 4 - 0) (drop 0 b))
+    skeleton-parts-swept x =
         let v = application-of l (x .tree) (x .bytes) z in
         let f = first-part (x .tree) (x .bytes) in
         let g = second-part (x .tree) (x .bytes) in
@@ -241,8 +240,8 @@ module _ (l s : List ℕ) (a : List Entry) (z : getD l 0 0 ≡ 1) (m : List ℕ)
       let v = abstraction-of l t q z in
       result s a (v .b) u p n (w .written (v .b) (body (v .b) (v .bytes))) (w .few) h
 
-  pub part-abstracted : SkeletonInput l s a → SweptBody (take (n * 4 - 0) (drop 0 p))
-  part-abstracted x =
+  pub skeleton-body-swept : SkeletonInput l s a → SweptBody (take (n * 4 - 0) (drop 0 p))
+  skeleton-body-swept x =
       let v = abstraction-of l (x .tree) (x .bytes) z in
       let f = one-part (x .tree) (x .bytes) in
       let o : Closed (x .depth) (lam (v .b)) = subst (Closed (x .depth)) (v .is) (x .closed) in
@@ -276,7 +275,7 @@ module _ (l s : List ℕ) (a : List Entry) (z : getD l 0 0 ≡ 1) (m : List ℕ)
 -- a variable
 module _ (l s : List ℕ) (a : List Entry) (i : ℕ) (z : getD l 0 0 ≡ 4) (q : i ≡ numberAt l 0) where
   variable-is : (t : Term) → l ≡ encode t → t ≡ var i
-  variable-is t e = hole-at l 0 t (at-start l t e) z ∙ ap var (sym q)
+  variable-is t e = variable-at l 0 i t (at-start l t e) z q
 
   pub variable-known : SkeletonInput l s a → Known s a i
   variable-known x =
@@ -294,8 +293,8 @@ module _ (l s : List ℕ) (a : List Entry) (i : ℕ) (z : getD l 0 0 ≡ 4) (q :
 
 -- a constant or a local
 module _ (l s : List ℕ) (a : List Entry) (n : ¬ (getD l 0 0 ≡ 0)) (m : ¬ (getD l 0 0 ≡ 1)) where
-  pub leaf-length : SkeletonInput l s a → length l ≡ 4
-  leaf-length x = omega (arith, table-length l (x .tree) (x .bytes), leaf-size l 0 (x .tree) (at-start l (x .tree) (x .bytes)) n m)
+  pub skeleton-leaf-length : SkeletonInput l s a → length l ≡ 4
+  skeleton-leaf-length x = omega (arith, table-length l (x .tree) (x .bytes), leaf-size l 0 (x .tree) (at-start l (x .tree) (x .bytes)) n m)
 
   pub skeleton-leaf : (out after : List ℕ) → ¬ (getD l 0 0 ≡ 4) → after ≡ sets out 0 l → WritesSkeleton l s a out 1 after
   skeleton-leaf out after v w = record { written = each; some = omega arith; few = omega arith }

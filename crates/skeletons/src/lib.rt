@@ -5,7 +5,8 @@
 // skeleton with some term in place of each hole, a closed one where the part that the hole stands for is closed; so a target that doesn't
 // fit the skeleton is never met, and a skeleton without a hole is the swept part itself. The crate writes skeletons, a hole as a variable's
 // record, looks for holes in them, applies them, and compares them with terms. It promises that the swept part fits what it writes. It
-// rests on `sweeping` for single contractions, on `assignments` for values, and on `shifting` for the answer of a walk over two parts.
+// rests on `matching` for the laws of skeletons, on `sweeping` for single contractions, on `assignments` for values, and on `shifting` for
+// the answer of a walk over two parts.
 //
 // A hole takes in whatever isn't certain, so that nothing has to be promised of how much a skeleton shows, only that every swept form fits
 // it. A hole for a part without loose locals takes closed terms alone, since values bring in no loose local: such a term is never the local
@@ -65,12 +66,12 @@ fn hole_for(s: &[u8], out: &mut [u8; SWEPT_BYTES]) -> usize
     hole(ANY, out)
 }
 
-// Writes the skeleton of the application of f to x, both skeletons, where f is no hole.
-fn apply(f: &[u8], x: &[u8], out: &mut [u8; SWEPT_BYTES]) -> usize
-    requires { ⌜ SweptParts (now f) (now x) × ¬ (getD (now f) 0 0 ≡ variableKind) ⌝ }
-    ensures { λ r. ⌜ WritesApplication (now (f .entry)) (now (x .entry)) (now (out .entry)) r (now (out .exit)) ⌝ }
+// Writes the skeleton of the application of a head, which is no hole, to an argument, both skeletons.
+fn apply(head: &[u8], argument: &[u8], out: &mut [u8; SWEPT_BYTES]) -> usize
+    requires { ⌜ SweptParts (now head) (now argument) × ¬ (getD (now head) 0 0 ≡ variableKind) ⌝ }
+    ensures { λ r. ⌜ WritesApplication (now (head .entry)) (now (argument .entry)) (now (out .entry)) r (now (out .exit)) ⌝ }
 {
-    let length = sweeping::contract_application(f, x, out);
+    let length = sweeping::contract_application(head, argument, out);
     let Length::Records(n) = length else {
         return hole(ANY, out);
     };
@@ -114,18 +115,18 @@ pub fn is_exact(c: &[u8]) -> bool
 
 // Whether the abstraction over what the skeleton b stands for may contract or not: b is a hole for any term, an application to such a hole,
 // or an application to the innermost local whose head has a hole, in which that local may be used.
-fn is_unsure(b: &[u8]) -> bool
-    requires { ⌜ Tree (now b) × (length (now b) ≤ tableBytes) ⌝ }
-    ensures { λ r. ⌜ Equals (now (b .entry)) isUnsure r ⌝ }
+fn is_unsure(body: &[u8]) -> bool
+    requires { ⌜ Tree (now body) × (length (now body) ≤ tableBytes) ⌝ }
+    ensures { λ r. ⌜ Equals (now (body .entry)) isUnsure r ⌝ }
 {
-    let kind = b[0];
+    let kind = body[0];
     if kind == Kind::VARIABLE.code {
-        return records::number_at(b, 0) == ANY;
+        return records::number_at(body, 0) == ANY;
     }
     if kind != Kind::APPLICATION.code {
         return false;
     }
-    let argument = records::argument_of(b);
+    let argument = records::argument_of(body);
     if argument[0] == Kind::VARIABLE.code {
         return records::number_at(argument, 0) == ANY;
     }
@@ -135,7 +136,7 @@ fn is_unsure(b: &[u8]) -> bool
     if records::number_at(argument, 0) != 0 {
         return false;
     }
-    let head = exact_part(&b[RECORD..]);
+    let head = exact_part(&body[RECORD..]);
     match head {
         Walk::Upto(_) => false,
         Walk::No => true,
@@ -143,14 +144,14 @@ fn is_unsure(b: &[u8]) -> bool
 }
 
 // Writes the skeleton of the abstraction over b, which is a skeleton.
-fn abstract_over(b: &[u8], out: &mut [u8; SWEPT_BYTES]) -> usize
-    requires { ⌜ SweptBody (now b) ⌝ }
-    ensures { λ r. ⌜ WritesAbstraction (now (b .entry)) (now (out .entry)) r (now (out .exit)) ⌝ }
+fn abstract_over(body: &[u8], out: &mut [u8; SWEPT_BYTES]) -> usize
+    requires { ⌜ SweptBody (now body) ⌝ }
+    ensures { λ r. ⌜ WritesAbstraction (now (body .entry)) (now (out .entry)) r (now (out .exit)) ⌝ }
 {
-    if is_unsure(b) {
+    if is_unsure(body) {
         return hole(ANY, out);
     }
-    let length = sweeping::contract_abstraction(b, out);
+    let length = sweeping::contract_abstraction(body, out);
     let Length::Records(n) = length else {
         return hole(ANY, out);
     };
@@ -160,15 +161,15 @@ fn abstract_over(b: &[u8], out: &mut [u8; SWEPT_BYTES]) -> usize
 // Writes the skeleton of variable i: its value, which is normal and so its own swept form, or a hole for a closed term,
 // as every value is one.
 fn skeleton_variable(
-    i: usize,
+    variable: usize,
     values: &[u8],
     entries: [Entry; VARIABLES],
     out: &mut [u8; SWEPT_BYTES],
 ) -> usize
-    requires { ⌜ Known (now values) entries i ⌝ }
-    ensures { λ r. ⌜ Entered (now (values .entry)) entries i (now (out .entry)) r (now (out .exit)) ⌝ }
+    requires { ⌜ Known (now values) entries variable ⌝ }
+    ensures { λ r. ⌜ Entered (now (values .entry)) entries variable (now (out .entry)) r (now (out .exit)) ⌝ }
 {
-    let e = entries[i];
+    let e = entries[variable];
     match e {
         Entry::Open => hole(CLOSED, out),
         Entry::Assigned(span) => {
@@ -254,7 +255,7 @@ fn fits_hole(c: &[u8], s: &[u8]) -> Pairing
             second: n,
         });
     }
-    let closed = records::ask_part(s, Ask::Below, 0);
+    let closed = records::ask_part(s, Ask::Bound, 0);
     match closed {
         Walk::Upto(n) => Pairing::Upto(Places {
             first: RECORD,
@@ -310,15 +311,15 @@ pub fn may_be(c: &[u8], s: &[u8]) -> bool
     }
 }
 
-// Whether a part with the skeleton c, which is no hole, may be an abstraction that comes to the term that t begins with, with the one that
-// e begins with put in: the former fits the skeleton applied to the latter.
-pub fn may_build(c: &[u8], e: &[u8], t: &[u8]) -> bool
-    requires { ⌜ SkeletonApplicable (now c) (now e) (now t) × ¬ (getD (now c) 0 0 ≡ variableKind) ⌝ }
-    ensures { λ r. ⌜ MayBuild (now (c .entry)) (now (e .entry)) (now (t .entry)) r ⌝ }
+// Whether a part with the skeleton c, which is no hole, may be an abstraction that comes to the term that the target begins with, with
+// the one that the argument begins with put in: the former fits the skeleton applied to the latter.
+pub fn may_build(c: &[u8], argument: &[u8], target: &[u8]) -> bool
+    requires { ⌜ SkeletonApplicable (now c) (now argument) (now target) × ¬ (getD (now c) 0 0 ≡ variableKind) ⌝ }
+    ensures { λ r. ⌜ MayBuild (now (c .entry)) (now (argument .entry)) (now (target .entry)) r ⌝ }
 {
-    let end = records::end_at(e, 0);
+    let end = records::end_at(argument, 0);
     let mut built = [0u8; SWEPT_BYTES];
-    let n = apply(c, &e[0..end], &mut built);
+    let n = apply(c, &argument[0..end], &mut built);
     let n = n * RECORD;
-    may_be(&built[0..n], t)
+    may_be(&built[0..n], target)
 }

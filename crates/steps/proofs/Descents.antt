@@ -10,7 +10,7 @@ use lib.ListN.{length, getD, take, drop, length-take}
 use lib.Seq.{sets}
 use Rattle.terms.specs.Figures.{variables, patternRecords, tableBytes}
 use Rattle.terms.specs.Term.{Term, app, lam, loc, con, var, size, shift, Normal, Ground, Closed}
-use Rattle.terms.specs.Table.{bytes, encode}
+use Rattle.terms.specs.Table.{recordBytes, encode}
 use Rattle.terms.specs.Sweep.{sweep, fill}
 use Rattle.terms.specs.Refusal.{OccursIn}
 use Rattle.terms.specs.Heads.{rigid}
@@ -19,7 +19,7 @@ use Rattle.terms.proofs.Shift.{size-shift}
 use Rattle.matching.specs.Goals.{Sweeps, Goal, Goal.match, All, Listable}
 use Rattle.matching.proofs.Step.{bodyTarget, match-abstraction, bodyTarget-normal}
 use Rattle.matching.proofs.Targets.{closed-more, bodyTarget-closed, bodyTarget-ground, closed-shift}
-use Rattle.matching.proofs.Prune.{rigid-application, no-local}
+use Rattle.matching.proofs.Cuts.{rigid-application, no-local}
 use Rattle.records.specs.Parts.{slice, Part, Whole, Ends}
 use Rattle.records.proofs.Slices.{part-slice}
 use Rattle.records.proofs.Parts.{kind-at, application, abstraction, argument-part, whole-head}
@@ -31,22 +31,22 @@ use Rattle.copying.proofs.Stores.{written-then, stored}
 use Rattle.agenda.specs.declared.Agenda.{Agenda}
 use Rattle.agenda.specs.declared.StoredGoal.{StoredGoal}
 use Rattle.agenda.specs.declared.Step.the-variants as step
-use Rattle.agenda.specs.Stored.{storedBytes}
-use Rattle.agenda.specs.State.{targetBytes, Target, Easy, Deferred, Bounds}
+use Rattle.agenda.specs.Stored.{storedBytes, storedMatch}
+use Rattle.agenda.specs.State.{goalBytes, targetBytes, Target, Easy, Deferred, Bounds}
 use Rattle.steps.specs.Steps.{Stepped}
 use Rattle.agenda.specs.Locals.{Locals, Lacks}
 use Rattle.steps.specs.Opening.{Opens, Expandable, Expanded}
 use Rattle.agenda.proofs.Lacking.{all-marks-at, locals-at, lacks-at}
 use Rattle.agenda.proofs.Frame.{Kept, target-kept, chain-kept, holds-kept, part-stored, kept-sets, kept-then, length-stored}
-use Rattle.steps.proofs.Opening.{Opened, opened, pushed, Pushed, dead, replaced}
+use Rattle.steps.proofs.Opening.{Opened, easy-opened, match-pushed, Pushed, step-failed, replaced}
 
 -- what stands in a state that is known to be there
 module _ (P W : List ℕ) (s : Agenda) (a : List Entry) (r : StoredGoal) (x : Opens P W s a r) where
   pub known : Opened P W s r (x .ready .gs) (x .ready .hs)
-  known = opened P W s a r (x .some) (x .stored-goal) (x .ready .gs) (x .ready .hs) (x .ready .line) (x .ready .state)
+  known = easy-opened P W s a r (x .some) (x .stored-goal) (x .ready .gs) (x .ready .hs) (x .ready .line) (x .ready .state)
 
-  pub head-whole : getD P (r .part) 0 ≡ 0 → Whole P (r .part + 4)
-  head-whole k = whole-head P (r .part) (x .part) k
+  pub application-head-whole : getD P (r .part) 0 ≡ 0 → Whole P (r .part + 4)
+  application-head-whole k = whole-head P (r .part) (x .part) k
 
   pub target-head-whole : getD W (r .target) 0 ≡ 0 → Whole W (r .target + 4)
   target-head-whole k = whole-head W (r .target) (x .target) k
@@ -64,8 +64,8 @@ module _ (P W : List ℕ) (s : Agenda) (a : List Entry) (r : StoredGoal) (x : Op
         room = omega (arith, x .room, b .whole);
       }
 
-  pub locals : Locals (slice P (r .part)) (slice W (r .target))
-  locals =
+  pub step-locals : Locals (slice P (r .part)) (slice W (r .target))
+  step-locals =
       let o = known in
       locals-at P (r .part) W (r .target) (x .part) (x .ready .bounds .short)
       (all-marks-at W (r .target) (patternRecords - size (o .p)) (o .t) (o .target .part) (omega arith) (o .target .closed)
@@ -91,16 +91,24 @@ module _ (W : List ℕ) (at o : ℕ) (x : Expandable W at o) where
     pub apply-most : n ≤ targetBytes
     apply-most = omega (arith, apply-length, x .short)
 
-    pub copy-room : (U : List ℕ) → U ≡ sets W o (bytes 0 0 []) → o + 4 + length (take (n - 0) (drop 0 Y)) ≤ length U
-    copy-room U e = omega (arith, length-take (n - 0) (drop 0 Y), length-stored (bytes 0 0 []) W U o e, apply-most, x .room)
+    pub copy-room : (U : List ℕ) → U ≡ sets W o (recordBytes 0 0 []) → o + 4 + length (take (n - 0) (drop 0 Y)) ≤ length U
+    copy-room U e = omega (arith, length-take (n - 0) (drop 0 Y), length-stored (recordBytes 0 0 []) W U o e, apply-most, x .room)
 
-    pub local-room : (U X : List ℕ) → U ≡ sets W o (bytes 0 0 []) → X ≡ sets U (o + 4) (take (n - 0) (drop 0 Y)) → o + 4 + n + 4 ≤ length X
+    pub local-room : (U X : List ℕ) → U ≡ sets W o (recordBytes 0 0 []) → X ≡ sets U (o + 4) (take (n - 0) (drop 0 Y))
+        → o + 4 + n + 4 ≤ length X
     local-room U X e f =
-        omega (arith, length-stored (bytes 0 0 []) W U o e, length-stored (take (n - 0) (drop 0 Y)) U X (o + 4) f, apply-most, x .room)
+        omega (
+          arith,
+          length-stored (recordBytes 0 0 []) W U o e,
+          length-stored (take (n - 0) (drop 0 Y)) U X
+              (o + 4) f,
+          apply-most,
+          x .room,
+        )
 
     pub expanded :
-        (U X R : List ℕ) (m : ℕ) → length Z ≡ targetBytes → U ≡ sets W o (bytes 0 0 []) → X ≡ sets U (o + 4) (take (n - 0) (drop 0 Y))
-        → R ≡ sets X m (bytes 2 0 [])
+        (U X R : List ℕ) (m : ℕ) → length Z ≡ targetBytes → U ≡ sets W o (recordBytes 0 0 []) → X ≡ sets U (o + 4) (take (n - 0) (drop 0 Y))
+        → R ≡ sets X m (recordBytes 2 0 [])
         → m ≡ o + 4 + n → Expanded W at o R (m + 4)
     expanded U X R m z e f g h = record {
       exact = λ t y. omega (arith, w .exact t y);
@@ -108,9 +116,9 @@ module _ (W : List ℕ) (at o : ℕ) (x : Expandable W at o) where
           let c : take (n - 0) (drop 0 Y) ≡ encode (shift 1 0 t) =
           stored Z Y (encode (shift 1 0 t)) n (w .bytes t y) (omega (arith, w .exact t y, encode-length (shift 1 0 t)))
           (omega (arith, apply-most)) in
-          let d : X ≡ sets W o (bytes 0 0 (encode (shift 1 0 t))) =
-          written-then (bytes 0 0 []) (encode (shift 1 0 t)) W U X o (o + 4) e (f ∙ ap (sets U (o + 4)) c) refl in
-          written-then (bytes 0 0 (encode (shift 1 0 t))) (bytes 2 0 []) W X R o m d g
+          let d : X ≡ sets W o (recordBytes 0 0 (encode (shift 1 0 t))) =
+          written-then (recordBytes 0 0 []) (encode (shift 1 0 t)) W U X o (o + 4) e (f ∙ ap (sets U (o + 4)) c) refl in
+          written-then (recordBytes 0 0 (encode (shift 1 0 t))) (recordBytes 2 0 []) W X R o m d g
           (omega (arith, w .exact t y, encode-length (shift 1 0 t)));
       more = omega arith;
       most = omega (arith, apply-most);
@@ -129,7 +137,7 @@ module _ (P W : List ℕ) (s : Agenda) (a : List Entry) (r : StoredGoal) (x : Op
   body-goal :
       (Y : List ℕ) (at i : ℕ) (gs hs : List Goal) (o : Opened P W s r gs hs) (u : Term) → bodyTarget (o .t) ≡ u → Part Y i u
       → i + 4 * size u ≤ at → size u ≤ size (o .t) + 2
-      → Pushed P Y at (record { part = r .part + 4; kind = 0; target = i; next = r .next; argument = 0 }) (o .p) (o .t)
+      → Pushed P Y at (storedMatch (r .part + 4) i (r .next)) (o .p) (o .t)
   body-goal Y at i gs hs o u e y below short =
       let v = abstraction P (r .part) (o .p) (o .part) k in
       let n = ap size (v .is) in
@@ -159,11 +167,11 @@ module _ (P W : List ℕ) (s : Agenda) (a : List Entry) (r : StoredGoal) (x : Op
 
   pub body-pushed :
       (X : List ℕ) → getD W (r .target) 0 ≡ 1
-      → X ≡ sets W (s .top) (storedBytes (record { part = r .part + 4; kind = 0; target = r .target + 4; next = r .next; argument = 0 }))
-      → Stepped P W s a X (step.Left (record { top = s .top + 8; easy = s .top; deferred = s .deferred }))
+      → X ≡ sets W (s .top) (storedBytes (storedMatch (r .part + 4) (r .target + 4) (r .next)))
+      → Stepped P W s a X (step.Left (record { top = s .top + goalBytes; easy = s .top; deferred = s .deferred }))
   body-pushed X t e =
       let b = x .ready .bounds in
-      replaced P W s a r x W X (s .top) (record { part = r .part + 4; kind = 0; target = r .target + 4; next = r .next; argument = 0 })
+      replaced P W s a r x W X (s .top) (storedMatch (r .part + 4) (r .target + 4) (r .next))
       (record { same = refl; from = omega (arith, b .top, b .whole); to = omega (arith, b .top, b .whole) }) (b .whole) e (omega arith)
       (omega arith) (b .even)
       refl refl (omega (arith, x .part-even)) (omega (arith, x .target-even)) refl
@@ -174,8 +182,8 @@ module _ (P W : List ℕ) (s : Agenda) (a : List Entry) (r : StoredGoal) (x : Op
 
   pub applied-pushed :
       (Y X : List ℕ) (end : ℕ) → ¬ (getD W (r .target) 0 ≡ 1) → Expanded W (r .target) (s .top) Y end
-      → X ≡ sets Y end (storedBytes (record { part = r .part + 4; kind = 0; target = s .top; next = r .next; argument = 0 }))
-      → Stepped P W s a X (step.Left (record { top = end + 8; easy = end; deferred = s .deferred }))
+      → X ≡ sets Y end (storedBytes (storedMatch (r .part + 4) (s .top) (r .next)))
+      → Stepped P W s a X (step.Left (record { top = end + goalBytes; easy = end; deferred = s .deferred }))
   applied-pushed Y X end t d e =
       let b = x .ready .bounds in
       let o = known P W s a r x in
@@ -183,7 +191,7 @@ module _ (P W : List ℕ) (s : Agenda) (a : List Entry) (r : StoredGoal) (x : Op
       let whole = b .whole in
       let top = b .top in
       let even = b .even in
-      replaced P W s a r x Y X end (record { part = r .part + 4; kind = 0; target = s .top; next = r .next; argument = 0 })
+      replaced P W s a r x Y X end (storedMatch (r .part + 4) (s .top) (r .next))
       (kept-sets (encode (app (shift 1 0 (o .t)) (loc 0))) W Y (s .top) (s .top) h (omega arith) (omega arith))
       (length-stored (encode (app (shift 1 0 (o .t)) (loc 0))) W Y (s .top) h ∙ whole) e (d .more) (omega (arith, d .most))
       (omega (arith, d .exact (o .t) (o .target .part))) refl refl (omega (arith, x .part-even)) even refl
@@ -209,26 +217,27 @@ module _ (P W : List ℕ) (s : Agenda) (a : List Entry) (r : StoredGoal) (x : Op
 
     pub rigid-missed : ¬ (getD W (r .target) 0 ≡ 0) → Stepped P W s a W step.Failed
     rigid-missed n =
-        dead P W s a r x (λ gs hs l y o φ v g z.
+        step-failed P W s a r x (λ gs hs l y o φ v g z.
         let u = application P (r .part) (o .p) (o .part) k in
         n (kind-at W (r .target) (o .t) (o .target .part) ∙ ap kind (parts-of gs hs o (u .f) (u .a) (u .is) φ .0 z)))
 
     module _ (h i : ℕ) (t : getD W (r .target) 0 ≡ 0) (d : Ends P (r .part + 4) h) (c : Ends W (r .target + 4) i) where
       abbrev first : StoredGoal
-      first = record { part = h; kind = 0; target = i; next = r .next; argument = 0 }
+      first = storedMatch h i (r .next)
 
       abbrev second : StoredGoal
-      second = record { part = r .part + 4; kind = 0; target = r .target + 4; next = s .top; argument = 0 }
+      second = storedMatch (r .part + 4) (r .target + 4) (s .top)
 
-      pub parts-pushed :
-          (Y X : List ℕ) → Y ≡ sets W (s .top) (storedBytes (record { part = h; kind = 0; target = i; next = r .next; argument = 0 }))
+      pub step-parts-pushed :
+          (Y X : List ℕ) → Y ≡ sets W (s .top) (storedBytes (storedMatch h i (r .next)))
           → X
-          ≡ sets Y (s .top + 8) (storedBytes (record { part = r .part + 4; kind = 0; target = r .target + 4; next = s .top; argument = 0 }))
-          → Stepped P W s a X (step.Left (record { top = s .top + 8 + 8; easy = s .top + 8; deferred = s .deferred }))
+          ≡ sets Y (s .top + goalBytes) (storedBytes (storedMatch (r .part + 4) (r .target + 4) (s .top)))
+          → Stepped P W s a X
+          (step.Left (record { top = s .top + goalBytes + goalBytes; easy = s .top + goalBytes; deferred = s .deferred }))
       unfolding Stepped
-      parts-pushed Y X e f = record {
+      step-parts-pushed Y X e f = record {
         go = λ gs hs l y.
-            let o = opened P W s a r (x .some) (x .stored-goal) gs hs l y in
+            let o = easy-opened P W s a r (x .some) (x .stored-goal) gs hs l y in
             let u = application P (r .part) (o .p) (o .part) k in
             let w = application W (r .target) (o .t) (o .target .part) t in
             let n = ap size (u .is) in
@@ -262,7 +271,8 @@ module _ (P W : List ℕ) (s : Agenda) (a : List Entry) (r : StoredGoal) (x : Op
               short = omega arith;
             } in
             let chain =
-            pushed Easy P W Y (s .top) first e (omega arith) (omega arith) even refl (omega arith) part-even target-even next-even refl
+            match-pushed Easy P W Y (s .top) first e (omega arith) (omega arith) even refl
+            (omega arith) part-even target-even next-even refl
             (u .a) (w .a) (o .rest) tt
             (argument-part P (r .part) h (o .p) d u) argument ((suits .0 .0 .1, λ j q. suits .0 .1 j (inr q)), normal .2) (o .chain) in
             record {
@@ -271,13 +281,15 @@ module _ (P W : List ℕ) (s : Agenda) (a : List Entry) (r : StoredGoal) (x : Op
               line = l;
               state = record {
                 easy =
-                    pushed Easy P Y X (s .top + 8) second f (omega arith) (omega (arith, written)) (omega (arith, even)) refl (omega arith)
+                    match-pushed Easy P Y X (s .top + goalBytes) second f (omega arith) (omega (arith, written)) (omega (arith, even)) refl
+                    (omega arith)
                     (omega arith) (omega arith) even refl (u .f) (w .f)
                     (match (u .a) (w .a) ∷ o .rest) tt (u .head)
-                    (target-kept W Y (s .top) from (s .top + 8) (omega arith) (size (u .f)) (r .target + 4) (w .f) head)
+                    (target-kept W Y (s .top) from (s .top + goalBytes) (omega arith) (size (u .f)) (r .target + 4) (w .f) head)
                     ((suits .0 .0 .0, λ j q. suits .0 .1 j (inl q)), normal .1) chain;
-                deferred = chain-kept W X (s .top) all (s .top + 8 + 8) (omega arith) P Deferred (s .deferred) hs (y .deferred);
-                entries = holds-kept W X (s .top) all (s .top + 8 + 8) (omega arith) a l (y .entries);
+                deferred = chain-kept W X (s .top) all (s .top + goalBytes + goalBytes) (omega arith) P Deferred (s .deferred) hs
+                    (y .deferred);
+                entries = holds-kept W X (s .top) all (s .top + goalBytes + goalBytes) (omega arith) a l (y .entries);
                 line = y .line;
                 assigns = y .assigns;
                 room = omega (arith, o .room);
@@ -301,7 +313,7 @@ module _ (P W : List ℕ) (s : Agenda) (a : List Entry) (r : StoredGoal) (x : Op
         higher = omega arith;
         falls = omega arith;
         bounds = record {
-          whole = length-stored (storedBytes second) Y X (s .top + 8) f ∙ written;
+          whole = length-stored (storedBytes second) Y X (s .top + goalBytes) f ∙ written;
           short = x .ready .bounds .short;
           top = omega arith;
           start = omega arith;
@@ -341,40 +353,41 @@ module _ (P W : List ℕ) (s : Agenda) (a : List Entry) (r : StoredGoal) (x : Op
           from = kept-sets (storedBytes first) W Y (s .top) (s .top) e (omega arith) (omega (arith, x .room, whole))
 
           all : Kept W X (s .top)
-          all = kept-then W Y X (s .top) (s .top + 8) (omega arith) from
-              (kept-sets (storedBytes second) Y X (s .top + 8) (s .top + 8) f (omega arith) (omega (arith, x .room, written)))
+          all = kept-then W Y X (s .top) (s .top + goalBytes) (omega arith) from
+              (kept-sets (storedBytes second) Y X (s .top + goalBytes) (s .top + goalBytes) f (omega arith)
+              (omega (arith, x .room, written)))
 
   -- the target has a local that it lacks
   pub flexible-missed : (b : Bool) → b ≡ true → Lacks (slice P (r .part)) (slice W (r .target)) b → Stepped P W s a W step.Failed
   flexible-missed b e h =
       let j = lacks-at P (r .part) W (r .target) b e h in
-      dead P W s a r x (λ gs hs l y o φ v g z.
+      step-failed P W s a r x (λ gs hs l y o φ v g z.
       let q = j .1 (o .p) (o .t) (o .part) (o .target .part) in
       no-local φ v (o .p) (o .t) (j .0) (q .0) (q .1) z)
 
   -- it is deferred
   pub deferred-as-is :
       (X : List ℕ) → X ≡ sets W (s .top) (storedBytes
-      (record { part = r .part; kind = 0; target = r .target; next = s .deferred; argument = 0 }))
-      → Stepped P W s a X (step.Left (record { top = s .top + 8; easy = r .next; deferred = s .top }))
+      (storedMatch (r .part) (r .target) (s .deferred)))
+      → Stepped P W s a X (step.Left (record { top = s .top + goalBytes; easy = r .next; deferred = s .top }))
   unfolding Stepped
   deferred-as-is X e = record {
     go = λ gs hs l y.
-        let o = opened P W s a r (x .some) (x .stored-goal) gs hs l y in
+        let o = easy-opened P W s a r (x .some) (x .stored-goal) gs hs l y in
         let u = application P (r .part) (o .p) (o .part) k in
         record {
           gs = o .rest;
           hs = match (o .p) (o .t) ∷ hs;
           line = l;
           state = record {
-            easy = chain-kept W X (s .top) j (s .top + 8) (omega arith) P Easy (r .next) (o .rest) (o .chain);
+            easy = chain-kept W X (s .top) j (s .top + goalBytes) (omega arith) P Easy (r .next) (o .rest) (o .chain);
             deferred =
-                pushed Deferred P W X (s .top) q e (omega (arith, b .start)) (omega (arith, x .room, b .whole)) (b .even) refl
+                match-pushed Deferred P W X (s .top) q e (omega (arith, b .start)) (omega (arith, x .room, b .whole)) (b .even) refl
                 (omega (arith, b .deferred-room)) (x .part-even) (x .target-even)
                 (b .deferred-even) refl (o .p) (o .t) hs (subst (λ (p : Term). Deferred (match p (o .t))) (sym (u .is)) tt) (o .part)
                 (o .target)
                 (o .suits) (y .deferred);
-            entries = holds-kept W X (s .top) j (s .top + 8) (omega arith) a l (y .entries);
+            entries = holds-kept W X (s .top) j (s .top + goalBytes) (omega arith) a l (y .entries);
             line = y .line;
             assigns = y .assigns;
             room = omega (arith, o .room);
@@ -406,7 +419,7 @@ module _ (P W : List ℕ) (s : Agenda) (a : List Entry) (r : StoredGoal) (x : Op
       b = x .ready .bounds
 
       q : StoredGoal
-      q = record { part = r .part; kind = 0; target = r .target; next = s .deferred; argument = 0 }
+      q = storedMatch (r .part) (r .target) (s .deferred)
 
       j : Kept W X (s .top)
       j = kept-sets (storedBytes q) W X (s .top) (s .top) e (omega arith) (omega (arith, x .room, b .whole))

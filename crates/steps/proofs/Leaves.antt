@@ -22,7 +22,7 @@ use Rattle.matching.proofs.Lines.{extends-entry, extends-set, assigns-set}
 use Rattle.records.specs.Record.{numberAt}
 use Rattle.records.specs.Parts.{slice, Part, Ends}
 use Rattle.records.specs.Tests.{Says, Asks, Walked}
-use Rattle.records.specs.declared.Ask.the-variants.{Below}
+use Rattle.records.specs.declared.Ask.the-variants.{Bound}
 use Rattle.records.specs.declared.Walk.{Walk}
 use Rattle.records.specs.declared.Walk.the-variants.{Upto, No}
 use Rattle.records.proofs.Slices.{slice-upto, slice-no}
@@ -40,7 +40,7 @@ use Rattle.agenda.specs.declared.StoredGoal.{StoredGoal}
 use Rattle.agenda.specs.declared.Step.the-variants as step
 use Rattle.steps.specs.Steps.{Stepped}
 use Rattle.steps.specs.Opening.{Opens, Plain, Names, SameRecord}
-use Rattle.steps.proofs.Opening.{Opened, opened, dead, dropped}
+use Rattle.steps.proofs.Opening.{Opened, easy-opened, step-failed, dropped}
 
 -- two records of one kind
 pub same-by-number : (P : List ℕ) (i : ℕ) (W : List ℕ) (j m n : ℕ) → m ≡ numberAt P i → n ≡ numberAt W j → getD P i 0 ≡ getD W j 0
@@ -81,7 +81,7 @@ module _ (P W : List ℕ) (s : Agenda) (a : List Entry) (r : StoredGoal) (x : Op
 
   pub record-missed : b ≡ false → Stepped P W s a W step.Failed
   record-missed e =
-      dead P W s a r x
+      step-failed P W s a r x
       (λ gs hs l y o φ v g z. says _ b false k e (sweeps-record P W (r .part) (r .target) h φ (o .p) (o .t) (o .part) (o .target .part) z))
 
 -- a variable's number
@@ -89,7 +89,7 @@ pub variable-below : (P W : List ℕ) (s : Agenda) (a : List Entry) (r : StoredG
     → numberAt P (r .part) < variables
 variable-below P W s a r x k =
     let y = x .ready in
-    let o = opened P W s a r (x .some) (x .stored-goal) (y .gs) (y .hs) (y .line) (y .state) in
+    let o = easy-opened P W s a r (x .some) (x .stored-goal) (y .gs) (y .hs) (y .line) (y .state) in
     let e = variable-at P (r .part) (numberAt P (r .part)) (o .p) (o .part) k refl in
     let h : Listable variables (OccursIn P) (match (var (numberAt P (r .part))) (o .t)) =
     subst (λ (p : Term). Listable variables (OccursIn P) (match p (o .t))) e (o .suits) in
@@ -111,15 +111,16 @@ module _ (P W : List ℕ) (s : Agenda) (a : List Entry) (r : StoredGoal) (i : �
   is-value gs hs o φ v z = subst (λ (p : Term). Sweeps p (o .t) φ) (sym (names gs hs o)) (match-variable φ i (o .t) (v i) .1 z)
 
   -- the target isn't closed
-  pub open-missed : (w : Walk) → w ≡ No → Walked (slice W (r .target)) 0 (Asks Below 0) w → Stepped P W s a W step.Failed
+  pub open-missed : (w : Walk) → w ≡ No → Walked (slice W (r .target)) 0 (Asks Bound 0) w → Stepped P W s a W step.Failed
   unfolding Walked
   open-missed w e k =
-      let n : Walked W (r .target) (Asks Below 0) No = slice-no W (r .target) (Asks Below 0) w e k in
-      dead P W s a r (x .opens) (λ gs hs l y o φ v g z. n (o .t) (o .target .part) (subst (Closed 0) (value-is gs hs o φ v z) (v i .0)))
+      let n : Walked W (r .target) (Asks Bound 0) No = slice-no W (r .target) (Asks Bound 0) w e k in
+      step-failed P W s a r (x .opens) (λ gs hs l y o φ v g z. n (o .t) (o .target .part)
+      (subst (Closed 0) (value-is gs hs o φ v z) (v i .0)))
 
   -- it is, and the variable takes it
   pub open-met :
-      (w : Walk) (n : ℕ) → w ≡ Upto n → Walked (slice W (r .target)) 0 (Asks Below 0) w → getD a i Open ≡ Open
+      (w : Walk) (n : ℕ) → w ≡ Upto n → Walked (slice W (r .target)) 0 (Asks Bound 0) w → getD a i Open ≡ Open
       → Stepped P W s a W (step.Assign (record {
         variable = i;
         span = record { first = r .target / 4; count = n / 4 };
@@ -130,8 +131,8 @@ module _ (P W : List ℕ) (s : Agenda) (a : List Entry) (r : StoredGoal) (i : �
     x .below,
     record {
       go = λ gs hs l y.
-          let o = opened P W s a r (x .opens .some) (x .opens .stored-goal) gs hs l y in
-          let m : Walked W (r .target) (Asks Below 0) (Upto (r .target + n)) = slice-upto W (r .target) (Asks Below 0) n w e k in
+          let o = easy-opened P W s a r (x .opens .some) (x .opens .stored-goal) gs hs l y in
+          let m : Walked W (r .target) (Asks Bound 0) (Upto (r .target + n)) = slice-upto W (r .target) (Asks Bound 0) n w e k in
           let ends = m .0 .exact (o .t) (o .target .part) in
           let value : Value (o .t) = (m .1 (o .t) (o .target .part), o .target .normal, o .target .ground) in
           let first : 4 * (r .target / 4) ≡ r .target = omega (arith, x .opens .target-even) in
@@ -219,7 +220,7 @@ module _ (P W : List ℕ) (s : Agenda) (a : List Entry) (r : StoredGoal) (i : �
       held-missed e =
           let f : Same (take (4 * n .count) (drop (4 * n .first) W)) (take (end - r .target) (drop (r .target) W)) false =
           subst (Same _ _) e k in
-          dead P W s a r (x .opens) (λ gs hs l y o φ v g z.
+          step-failed P W s a r (x .opens) (λ gs hs l y o φ v g z.
           let h = holds-held W (s .top) a l i n (y .entries) q in
           let c = bytes-of (h .0) (o .t) (h .2) (o .target .part) in
           f (c .0 ∙ ap encode (sym (extends-entry φ l i (h .0) (h .1) g) ∙ value-is gs hs o φ v z) ∙ sym (c .1)))

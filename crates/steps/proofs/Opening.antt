@@ -22,7 +22,7 @@ use Rattle.agenda.specs.declared.Agenda.{Agenda}
 use Rattle.agenda.specs.declared.StoredGoal.{StoredGoal}
 use Rattle.agenda.specs.declared.Step.the-variants as step
 use Rattle.agenda.specs.Stored.{storedBytes, StoredAt, StoredFits}
-use Rattle.agenda.specs.State.{Target, Chain, Easy, State, Bounds, Ready, weights}
+use Rattle.agenda.specs.State.{goalBytes, recordWeight, Target, Chain, Easy, State, Bounds, Ready, weights}
 use Rattle.agenda.specs.Moves.{Failed}
 use Rattle.steps.specs.Steps.{Stepped}
 use Rattle.steps.specs.Opening.{Opens}
@@ -38,14 +38,14 @@ pub record Opened (P W : List ℕ) (s : Agenda) (r : StoredGoal) (gs hs : List G
   pub suits : Listable variables (OccursIn P) (match p t)
   pub chain : Chain Easy P W (s .top) (r .next) rest
   pub falls : r .next < s .easy
-  pub room : s .top + 8 + 2000 * size p + weights 8 rest + weights 0 hs ≤ tableBytes
+  pub room : s .top + goalBytes + recordWeight * size p + weights goalBytes rest + weights 0 hs ≤ tableBytes
 
-pub opened :
+pub easy-opened :
     (P W : List ℕ) (s : Agenda) (a : List Entry) (r : StoredGoal) → 0 < s .easy → StoredAt W (s .easy) r
     → (gs hs : List Goal) (l : Line) → State 0 P W s a gs hs l → Opened P W s r gs hs
-opened P W s a r some stored-goal gs hs l x = go gs (x .easy) (x .room)
+easy-opened P W s a r some stored-goal gs hs l x = go gs (x .easy) (x .room)
   where
-    go : (gs : List Goal) → Chain Easy P W (s .top) (s .easy) gs → s .top + weights 8 gs + weights 0 hs ≤ tableBytes + 0
+    go : (gs : List Goal) → Chain Easy P W (s .top) (s .easy) gs → s .top + weights goalBytes gs + weights 0 hs ≤ tableBytes + 0
         → Opened P W s r gs hs
     go [] c w = absurd (omega (arith, c))
     go (match p t ∷ rest) c w = record {
@@ -66,7 +66,7 @@ opened P W s a r some stored-goal gs hs l x = go gs (x .easy) (x .room)
 pub opens : (P W : List ℕ) (s : Agenda) (a : List Entry) (r : StoredGoal) → Ready 0 P W s a → 0 < s .easy → StoredAt W (s .easy) r
     → StoredFits r → Opens P W s a r
 opens P W s a r x some stored-goal fits =
-    let o = opened P W s a r some stored-goal (x .gs) (x .hs) (x .line) (x .state) in
+    let o = easy-opened P W s a r some stored-goal (x .gs) (x .hs) (x .line) (x .state) in
     record {
       ready = x;
       some = some;
@@ -83,17 +83,18 @@ opens P W s a r x some stored-goal fits =
     }
 
 -- a goal more at the head of a chain
-pub pushed :
-    (K : Goal → Type 0) (P Y X : List ℕ) (at : ℕ) (q : StoredGoal) → X ≡ sets Y at (storedBytes q) → 0 < at → at + 8 ≤ length Y → at % 4 ≡ 0
+pub match-pushed :
+    (K : Goal → Type 0) (P Y X : List ℕ) (at : ℕ) (q : StoredGoal) → X ≡ sets Y at (storedBytes q) → 0 < at → at + goalBytes ≤ length Y
+    → at % 4 ≡ 0
     → q .kind ≡ 0 → q .next < at → q .part % 4 ≡ 0 → q .target % 4 ≡ 0 → q .next % 4 ≡ 0 → q .argument % 4 ≡ 0
     → (p t : Term) (gs : List Goal) → K (match p t) → Part P (q .part) p → Target Y at (size p) (q .target) t
     → Listable variables (OccursIn P) (match p t)
-    → Chain K P Y at (q .next) gs → Chain K P X (at + 8) at (match p t ∷ gs)
-pushed K P Y X at q e low room even kind falls a b c d p t gs fit part target suits chain =
+    → Chain K P Y at (q .next) gs → Chain K P X (at + goalBytes) at (match p t ∷ gs)
+match-pushed K P Y X at q e low room even kind falls a b c d p t gs fit part target suits chain =
     let k = kept-sets (storedBytes q) Y X at at e (omega arith) (omega arith) in
-    chain-match K P X (at + 8) at q (goal-stored Y X at q e room a b c d) low (omega arith) even falls p t gs kind fit part
-    (target-kept Y X at k (at + 8) (omega arith) (size p) (q .target) t target) suits
-    (chain-kept Y X at k (at + 8) (omega arith) P K (q .next) gs chain)
+    chain-match K P X (at + goalBytes) at q (goal-stored Y X at q e room a b c d) low (omega arith) even falls p t gs kind fit part
+    (target-kept Y X at k (at + goalBytes) (omega arith) (size p) (q .target) t target) suits
+    (chain-kept Y X at k (at + goalBytes) (omega arith) P K (q .next) gs chain)
 
 pub record Pushed (P Y : List ℕ) (at : ℕ) (r : StoredGoal) (p t : Term) : Type 0 where
   pub q : Term
@@ -110,15 +111,15 @@ module _ (P W : List ℕ) (s : Agenda) (a : List Entry) (r : StoredGoal) (x : Op
   bounds = x .ready .bounds
 
   open-at : (gs hs : List Goal) (l : Line) → State 0 P W s a gs hs l → Opened P W s r gs hs
-  open-at = opened P W s a r (x .some) (x .stored-goal)
+  open-at = easy-opened P W s a r (x .some) (x .stored-goal)
 
   -- no assignment satisfies it
-  pub dead :
+  pub step-failed :
       ((gs hs : List Goal) (l : Line) → State 0 P W s a gs hs l → (o : Opened P W s r gs hs) (φ : ℕ → Term) → Values φ → Extends φ l
       → ¬ Sweeps (o .p) (o .t) φ)
       → Stepped P W s a W step.Failed
   unfolding Stepped
-  dead n = record {
+  step-failed n = record {
     none = λ gs hs l y φ v z.
         let o = open-at gs hs l y in
         n gs hs l y o φ v (z .2) (subst (λ (g : List Goal). All g φ) (o .is) (z .0) .0);
@@ -173,7 +174,7 @@ module _ (P W : List ℕ) (s : Agenda) (a : List Entry) (r : StoredGoal) (x : Op
       → at ≤ s .top + 1000 → at % 4 ≡ 0
       → q .kind ≡ 0 → q .next ≡ r .next → q .part % 4 ≡ 0 → q .target % 4 ≡ 0 → q .argument % 4 ≡ 0
       → ((gs hs : List Goal) (l : Line) → State 0 P W s a gs hs l → (o : Opened P W s r gs hs) → Pushed P Y at q (o .p) (o .t))
-      → Stepped P W s a X (step.Left (record { top = at + 8; easy = at; deferred = s .deferred }))
+      → Stepped P W s a X (step.Left (record { top = at + goalBytes; easy = at; deferred = s .deferred }))
   unfolding Stepped
   replaced Y X at q k n e up near even kind next qa qb qd f =
       let falls = x .falls in
@@ -192,12 +193,12 @@ module _ (P W : List ℕ) (s : Agenda) (a : List Entry) (r : StoredGoal) (x : Op
               line = l;
               state = record {
                 easy =
-                    pushed Easy P Y X at q e (omega arith) (omega arith) even kind (omega arith) qa qb (omega arith) qd (u .q) (u .u)
+                    match-pushed Easy P Y X at q e (omega arith) (omega arith) even kind (omega arith) qa qb (omega arith) qd (u .q) (u .u)
                     (o .rest) tt (u .part) (u .target) (u .suits)
                     (chain-kept W Y (s .top) k at up P Easy (q .next) (o .rest)
                     (subst (λ (i : ℕ). Chain Easy P W (s .top) i (o .rest)) (sym next) (o .chain)));
-                deferred = chain-kept W X (s .top) j (at + 8) (omega arith) P _ (s .deferred) hs (y .deferred);
-                entries = holds-kept W X (s .top) j (at + 8) (omega arith) a l (y .entries);
+                deferred = chain-kept W X (s .top) j (at + goalBytes) (omega arith) P _ (s .deferred) hs (y .deferred);
+                entries = holds-kept W X (s .top) j (at + goalBytes) (omega arith) a l (y .entries);
                 line = y .line;
                 assigns = y .assigns;
                 room = omega (arith, o .room, u .fewer);

@@ -18,7 +18,7 @@ use Rattle.records.specs.Parts.{Part, Whole}
 use Rattle.assignments.specs.declared.Entry.{Entry}
 use Rattle.agenda.specs.declared.Agenda.{Agenda}
 use Rattle.agenda.specs.declared.StoredGoal.{StoredGoal}
-use Rattle.agenda.specs.State.{Ready}
+use Rattle.agenda.specs.State.{goalBytes, recordWeight, Ready}
 use Rattle.agenda.specs.Stored.{StoredAt, StoredFits}
 
 pub record Opens (P W : List ℕ) (s : Agenda) (a : List Entry) (r : StoredGoal) : Type 0 where
@@ -34,7 +34,7 @@ pub record Opens (P W : List ℕ) (s : Agenda) (a : List Entry) (r : StoredGoal)
   pub falls : r .next < s .easy
   pub below : r .target + 4 ≤ s .top
   -- a goal has 2,000 bytes for each record of its part, and eight for itself
-  pub room : s .top + 2008 ≤ tableBytes
+  pub room : s .top + goalBytes + recordWeight ≤ tableBytes
 
 pub record Plain (P : List ℕ) (i : ℕ) : Type 0 where
   pub no-application : ¬ (getD P i 0 ≡ applicationKind)

@@ -63,20 +63,20 @@ fn step_record(
     Step::Failed
 }
 
-// Variable i is open: it takes the target, if that is closed.
+// The variable is open: it takes the target, if that is closed.
 fn step_open(
     pattern: &[u8],
     work: &[u8],
     agenda: Agenda,
     entries: [Entry; VARIABLES],
     goal: StoredGoal,
-    i: usize,
+    variable: usize,
 ) -> Step
-    requires { ⌜ Names (now pattern) (now work) agenda entries goal i × (getD entries i Entry.Open ≡ Entry.Open) ⌝ }
+    requires { ⌜ Names (now pattern) (now work) agenda entries goal variable × (getD entries variable Entry.Open ≡ Entry.Open) ⌝ }
     ensures { λ r. ⌜ Stepped (now (pattern .entry)) (now (work .entry)) agenda entries (now (work .entry)) r ⌝ }
 {
     let target = goal.target;
-    let closed = records::ask_part(&work[target..], Ask::Below, 0);
+    let closed = records::ask_part(&work[target..], Ask::Bound, 0);
     let Walk::Upto(n) = closed else {
         return Step::Failed;
     };
@@ -90,23 +90,23 @@ fn step_open(
         deferred: agenda.deferred,
     };
     Step::Assign(Binding {
-        variable: i,
+        variable,
         span: span,
         agenda: left,
     })
 }
 
-// Variable i has a value already: the target has to be that.
+// The variable has a value already: the target has to be that.
 fn step_assigned(
     pattern: &[u8],
     work: &[u8],
     agenda: Agenda,
     entries: [Entry; VARIABLES],
     goal: StoredGoal,
-    i: usize,
+    variable: usize,
     span: Span,
 ) -> Step
-    requires { ⌜ Names (now pattern) (now work) agenda entries goal i × (getD entries i Entry.Open ≡ Entry.Assigned span) ⌝ }
+    requires { ⌜ Names (now pattern) (now work) agenda entries goal variable × (getD entries variable Entry.Open ≡ Entry.Assigned span) ⌝ }
     ensures { λ r. ⌜ Stepped (now (pattern .entry)) (now (work .entry)) agenda entries (now (work .entry)) r ⌝ }
 {
     let target = goal.target;

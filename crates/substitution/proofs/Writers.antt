@@ -7,10 +7,10 @@ use native.Mathlib.Omega.{arith}
 use native.Mathlib.Numerals.{add-one}
 use lib.ListN.{length, getD, take, drop}
 use lib.Seq.{sets}
-use borrow.Author.Tests.{lt-ltb, le-ltb}
-use Rattle.terms.specs.Figures.{constants}
+use Rattle.terms.specs.Figures.{numbers}
 use Rattle.terms.specs.Term.{Term, app, lam, loc, con, var, size, shift}
-use Rattle.terms.specs.Table.{bytes, encode}
+use Rattle.terms.specs.Table.{recordBytes, encode}
+use Rattle.terms.proofs.Shift.{shift-low, shift-high}
 use Rattle.terms.proofs.Substitute.{substitute-here, substitute-low, substitute-high, size-pos}
 use Rattle.terms.proofs.Table.{encode-length}
 use Rattle.records.specs.Record.{numberAt}
@@ -34,7 +34,7 @@ shifts d = record { application = λ k f a. refl; abstraction = λ k b. refl; co
 pub replaces : (e : Term) → Change (substituteFor e)
 replaces e = record { application = λ k f a. refl; abstraction = λ k b. refl; constant = λ k n. refl; variable = λ k n. refl }
 
-pub source : (g : ℕ → Term → Term) (l : List ℕ) (at k room o : ℕ) (t : Term) → Part l at t → NumbersFit (g k t) → k + size t ≤ constants
+pub source : (g : ℕ → Term → Term) (l : List ℕ) (at k room o : ℕ) (t : Term) → Part l at t → NumbersFit (g k t) → k + size t ≤ numbers
     → o + 4 * size (g k t) ≤ room → Source g l at k room o
 source g l at k room o t x f s e = record {
   tree = t;
@@ -84,7 +84,7 @@ by-other P l at h c v (var n) x = v n x
 module _ (g : ℕ → Term → Term) (change : Change g) (l : List ℕ) (at k : ℕ) where
   -- what was written
   module _ (out : List ℕ) (o : ℕ) where
-    pub wrote-application : (p q r : List ℕ) (h m next end : ℕ) → getD l at 0 ≡ 0 → p ≡ sets out o (bytes 0 0 [])
+    pub wrote-application : (p q r : List ℕ) (h m next end : ℕ) → getD l at 0 ≡ 0 → p ≡ sets out o (recordBytes 0 0 [])
         → Wrote g l (at + 4) k p (o + 4) q h m → Wrote g l h k q m r next end → Wrote g l at k out o r next end
     wrote-application p q r h m next end z e x y = record {
       ends = ends-app l at h next z (x .ends) (y .ends);
@@ -99,11 +99,15 @@ module _ (g : ℕ → Term → Term) (change : Change g) (l : List ℕ) (at k : 
             let u : g k t ≡ app (g k (v .f)) (g k (v .a)) = ap (g k) (v .is) ∙ change .application k (v .f) (v .a) in
             let i = x .exact (v .f) (v .head) in
             let j = y .exact (v .a) a in
-            let n : m ≡ o + length (bytes 0 0 (encode (g k (v .f)))) = omega (arith, encode-length (g k (v .f))) in
-            let b = written-then (bytes 0 0 []) (encode (g k (v .f))) out p q o (o + 4) e (x .bytes (v .f) (v .head)) refl in
-            rw u (omega arith, written-then (bytes 0 0 (encode (g k (v .f)))) (encode (g k (v .a))) out q r o m b (y .bytes (v .a) a) n)
+            let n : m ≡ o + length (recordBytes 0 0 (encode (g k (v .f)))) = omega (arith, encode-length (g k (v .f))) in
+            let b = written-then (recordBytes 0 0 []) (encode (g k (v .f))) out p q o (o + 4) e (x .bytes (v .f) (v .head)) refl in
+            rw u (
+              omega arith,
+              written-then (recordBytes 0 0 (encode (g k (v .f)))) (encode (g k (v .a))) out q r o m b
+                  (y .bytes (v .a) a) n,
+            )
 
-    pub wrote-abstraction : (p q : List ℕ) (next end : ℕ) → getD l at 0 ≡ 1 → p ≡ sets out o (bytes 1 0 [])
+    pub wrote-abstraction : (p q : List ℕ) (next end : ℕ) → getD l at 0 ≡ 1 → p ≡ sets out o (recordBytes 1 0 [])
         → Wrote g l (at + 4) (k + 1) p (o + 4) q next end → Wrote g l at k out o q next end
     wrote-abstraction p q next end z e x = record {
       ends = ends-lam l at next z (x .ends);
@@ -117,7 +121,11 @@ module _ (g : ℕ → Term → Term) (change : Change g) (l : List ℕ) (at k : 
             let u : g k t ≡ lam (g (k + 1) (v .b)) =
             ap (g k) (v .is) ∙ change .abstraction k (v .b) ∙ ap (λ (j : ℕ). lam (g j (v .b))) (sym (add-one k)) in
             let i = x .exact (v .b) (v .body) in
-            rw u (omega arith, written-then (bytes 1 0 []) (encode (g (k + 1) (v .b))) out p q o (o + 4) e (x .bytes (v .b) (v .body)) refl)
+            rw u (
+              omega arith,
+              written-then (recordBytes 1 0 []) (encode (g (k + 1) (v .b))) out p q o (o + 4) e
+                  (x .bytes (v .b) (v .body)) refl,
+            )
 
     pub wrote-local : (p : List ℕ) (n end : ℕ) (u : Term) → Whole l at → getD l at 0 ≡ 2 → n ≡ numberAt l at → u ≡ g k (loc n)
         → p ≡ sets out o (encode u) → end ≡ o + 4 * size u → Wrote g l at k out o p (at + 4) end
@@ -189,13 +197,13 @@ module _ (g : ℕ → Term → Term) (change : Change g) (l : List ℕ) (k : ℕ
 
   -- what was written
   module _ (out : List ℕ) (o : ℕ) where
-    pub wrote-parts : (p q r : List ℕ) (h m next end : ℕ) → getD l 0 0 ≡ 0 → p ≡ sets out o (bytes 0 0 [])
+    pub wrote-parts : (p q r : List ℕ) (h m next end : ℕ) → getD l 0 0 ≡ 0 → p ≡ sets out o (recordBytes 0 0 [])
         → Wrote g (slice l 4) 0 k p (o + 4) q h m → Wrote g (slice l (4 + h)) 0 k q m r next end → Wrote g l 0 k out o r (4 + h + next) end
     wrote-parts p q r h m next end z e x y =
         wrote-application g change l 0 k out o p q r (4 + h) m (4 + h + next) end z e (slice-wrote g l 4 k p (o + 4) q h m x)
         (slice-wrote g l (4 + h) k q m r next end y)
 
-    pub wrote-body : (p q : List ℕ) (next end : ℕ) → getD l 0 0 ≡ 1 → p ≡ sets out o (bytes 1 0 [])
+    pub wrote-body : (p q : List ℕ) (next end : ℕ) → getD l 0 0 ≡ 1 → p ≡ sets out o (recordBytes 1 0 [])
         → Wrote g (slice l 4) 0 (k + 1) p (o + 4) q next end → Wrote g l 0 k out o q (4 + next) end
     wrote-body p q next end z e x =
         wrote-abstraction g change l 0 k out o p q (4 + next) end z e (slice-wrote g l 4 (k + 1) p (o + 4) q next end x)
@@ -209,36 +217,33 @@ module _ (g : ℕ → Term → Term) (change : Change g) (l : List ℕ) (k : ℕ
         b ∙ ap (sets out o) (part-bytes l 0 4 t w (omega (arith, leaf-size l 0 t w (z .no-application) (z .no-abstraction)))))
 
 -- a local that is shifted
-pub shift-fits : (n d c : ℕ) → NumbersFit (shift d c (loc n)) → c ≤ n → n + d < constants
-shift-fits n d c f h = rw (le-ltb n c h) at f
+pub shift-low-fits : (n d c : ℕ) → NumbersFit (shift d c (loc n)) → n < c → (loc n ≡ shift d c (loc n)) × (n < numbers)
+shift-low-fits n d c f h = let e = shift-low d c n h in (sym e, subst NumbersFit e f)
 
-pub shift-low : (n d c : ℕ) → NumbersFit (shift d c (loc n)) → n < c → (loc n ≡ shift d c (loc n)) × (n < constants)
-shift-low n d c f h = let e : shift d c (loc n) ≡ loc n = rw (lt-ltb n c h) in (sym e, subst NumbersFit e f)
-
-pub shift-high : (n d c : ℕ) → NumbersFit (shift d c (loc n)) → c ≤ n → (loc (n + d) ≡ shift d c (loc n)) × (n + d < constants)
-shift-high n d c f h = let e : shift d c (loc n) ≡ loc (n + d) = rw (le-ltb n c h) in (sym e, subst NumbersFit e f)
+pub shift-high-fits : (n d c : ℕ) → NumbersFit (shift d c (loc n)) → c ≤ n → (loc (n + d) ≡ shift d c (loc n)) × (n + d < numbers)
+shift-high-fits n d c f h = let e = shift-high d c n h in (sym e, subst NumbersFit e f)
 
 -- a substitution's parts
 module _ (b : List ℕ) (k : ℕ) (e out : List ℕ) (o : ℕ) (x : Substitution b k e out o) where
   module _ (p : List ℕ) (n : length p ≡ length out) where
-    from : (l : List ℕ) (i m : ℕ) → Source (substituteFor (x .argument)) l 0 i (length p) m → Substitution l i e p m
-    from l i m s = record { argument = x .argument; table = x .table; few = x .few; source = s }
+    substitution-from : (l : List ℕ) (i m : ℕ) → Source (substituteFor (x .argument)) l 0 i (length p) m → Substitution l i e p m
+    substitution-from l i m s = record { argument = x .argument; table = x .table; few = x .few; source = s }
 
     pub substitution-head : getD b 0 0 ≡ 0 → Substitution (slice b 4) k e p (o + 4)
     substitution-head z =
-        from (slice b 4) k (o + 4)
+        substitution-from (slice b 4) k (o + 4)
         (source-head (substituteFor (x .argument)) (replaces (x .argument)) b k (length out) o (x .source) (length p) n z)
 
     pub substitution-body : getD b 0 0 ≡ 1 → Substitution (slice b 4) (k + 1) e p (o + 4)
     substitution-body z =
-        from (slice b 4) (k + 1) (o + 4)
+        substitution-from (slice b 4) (k + 1) (o + 4)
         (source-body (substituteFor (x .argument)) (replaces (x .argument)) b k (length out) o (x .source) (length p) n z)
 
     pub substitution-argument : (q r : List ℕ) (h m : ℕ) → getD b 0 0 ≡ 0
         → ((t : Term) → e ≡ encode t → Wrote (substituteFor t) (slice b 4) 0 k q (o + 4) r h m)
         → Substitution (slice b (4 + h)) k e p m
     substitution-argument q r h m z w =
-        from (slice b (4 + h)) k m
+        substitution-from (slice b (4 + h)) k m
         (source-argument (substituteFor (x .argument)) (replaces (x .argument)) b k (length out) o (x .source) (length p) n q r h m z
         (w (x .argument) (x .table)))
 

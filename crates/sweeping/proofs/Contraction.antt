@@ -10,10 +10,11 @@ use lib.Dec.{T, eqb}
 use lib.ListN.{length, getD}
 use lib.Seq.{sets}
 use borrow.Author.Tests.{ne-eqb, eq-eqb}
-use Rattle.terms.specs.Figures.{constants, sweptRecords}
+use Rattle.terms.specs.Figures.{numbers, sweptRecords}
 use Rattle.terms.specs.Term.{Term, app, lam, loc, con, var, size, Closed, uses, substitute, unshift, isAbstraction, isInnermost, isEta}
 use Rattle.terms.specs.Sweep.{contract, headOf}
-use Rattle.terms.specs.Table.{bytes, encode}
+use Rattle.terms.specs.Table.{recordBytes, encode}
+use Rattle.terms.proofs.Tests.{not-both}
 use Rattle.terms.proofs.Shift.{shift-unshift, size-shift}
 use Rattle.terms.proofs.Substitute.{substitute-unused, size-pos}
 use Rattle.terms.proofs.Sweep.{contract-app}
@@ -41,7 +42,7 @@ unfolding WrittenForm
 form-too-long t out h = (h, refl)
 
 -- few binders, so that the locals' numbers fit
-pub closed-fits : (d : ℕ) (t : Term) → Closed d t → d + size t ≤ constants → NumbersFit t
+pub closed-fits : (d : ℕ) (t : Term) → Closed d t → d + size t ≤ numbers → NumbersFit t
 closed-fits d (app f a) c h = (closed-fits d f (c .0) (omega arith), closed-fits d a (c .1) (omega arith))
 closed-fits d (lam b) c h = closed-fits (suc d) b c (omega arith)
 closed-fits d (loc n) c h = omega (arith, c)
@@ -52,11 +53,11 @@ pub table-length : (l : List ℕ) (t : Term) → l ≡ encode t → length l ≡
 table-length l t e = ap length e ∙ encode-length t
 
 -- an application's record, its head and its argument, written one behind another
-pub application-bytes : (f a out p q r : List ℕ) → p ≡ sets out 0 (bytes 0 0 []) → q ≡ sets p 4 f → r ≡ sets q (4 + length f) a
+pub application-bytes : (f a out p q r : List ℕ) → p ≡ sets out 0 (recordBytes 0 0 []) → q ≡ sets p 4 f → r ≡ sets q (4 + length f) a
     → (x y : Term) → f ≡ encode x → a ≡ encode y → r ≡ sets out 0 (encode (app x y))
 application-bytes f a out p q r u v w x y e g =
-    written-then (bytes 0 0 f) a out q r 0 (4 + length f) (written-then (bytes 0 0 []) f out p q 0 4 u v refl) w (omega arith)
-    ∙ ap₂ (λ (i j : List ℕ). sets out 0 (bytes 0 0 (i ++ j))) e g
+    written-then (recordBytes 0 0 f) a out q r 0 (4 + length f) (written-then (recordBytes 0 0 []) f out p q 0 4 u v refl) w (omega arith)
+    ∙ ap₂ (λ (i j : List ℕ). sets out 0 (recordBytes 0 0 (i ++ j))) e g
 
 -- an application whose head is no abstraction
 not-abstraction : (l : List ℕ) (t : Term) → l ≡ encode t → ¬ (getD l 0 0 ≡ 1) → T (not (isAbstraction t))
@@ -71,7 +72,7 @@ module _ (f a out : List ℕ) (n : ¬ (getD f 0 0 ≡ 1)) where
   applied-too-long h x y e g =
       rw (contract-app x y (not-abstraction f x e n)) (form-too-long (app x y) out (omega (arith, table-length f x e, table-length a y g)))
 
-  pub applied-written : (p q r : List ℕ) → 4 + length f + length a ≤ sweptBytes → p ≡ sets out 0 (bytes 0 0 []) → q ≡ sets p 4 f
+  pub applied-written : (p q r : List ℕ) → 4 + length f + length a ≤ sweptBytes → p ≡ sets out 0 (recordBytes 0 0 []) → q ≡ sets p 4 f
       → r ≡ sets q (4 + length f) a → ContractsApplication f a out (Records ((4 + length f + length a) / 4)) r
   applied-written p q r h u v w x y e g =
       rw (contract-app x y (not-abstraction f x e n))
@@ -172,8 +173,8 @@ module _ (b : List ℕ) (z : getD b 0 0 ≡ 0) where
   pub body-whole : (x : SweptBody b) → Whole (slice b 4) 0
   body-whole x = let v = application b 0 (x .body) (at-start b (x .body) (x .bytes)) z in whole-slice b 4 (whole b 4 (v .f) (v .head))
 
-  pub head-abstraction : getD b 4 0 ≡ 1 → (t : Term) → b ≡ encode t → false ≡ isProper t
-  head-abstraction k t e =
+  pub body-head-abstraction : getD b 4 0 ≡ 1 → (t : Term) → b ≡ encode t → false ≡ isProper t
+  body-head-abstraction k t e =
       let v = application b 0 t (at-start b t e) z in
       rw (v .is, is-abstraction b 4 (v .f) (v .head) k) (and-false (isEta (app (v .f) (v .a))))
 
@@ -181,8 +182,8 @@ module _ (b : List ℕ) (z : getD b 0 0 ≡ 0) where
     argument : (t : Term) (v : Application b 0 t) → Part (slice b (4 + h)) 0 (v .a)
     argument t v = part-slice b (4 + h) (v .a) (argument-part b 0 (4 + h) t (slice-ends b 4 h (u .ends)) v)
 
-    pub argument-whole : (x : SweptBody b) → Whole (slice b (4 + h)) 0
-    argument-whole x =
+    pub body-argument-whole : (x : SweptBody b) → Whole (slice b (4 + h)) 0
+    body-argument-whole x =
         let v = application b 0 (x .body) (at-start b (x .body) (x .bytes)) z in
         whole (slice b (4 + h)) 0 (v .a) (argument (x .body) v)
 
@@ -217,9 +218,6 @@ record Proper (t : Term) : Type 0 where
   moved : (e : Term) → contract (lam t) ≡ substitute 0 e m
   smaller : size (contract (lam t)) + 2 ≡ size t
 
-not-both : {A : Type 0} → true ≡ false → A
-not-both e = absurd (subst T e tt)
-
 proper : (t : Term) → isProper t ≡ true → Proper t
 proper t o = go (abstracted t)
   where
@@ -232,7 +230,7 @@ proper t o = go (abstracted t)
           moved = q;
           smaller = omega (arith, ap size w, ap size e, ap size (shift-unshift 0 m u), size-shift 1 0 (unshift 1 0 m));
         }
-    go (stays p w) = not-both (sym o ∙ p)
+    go (stays p w) = not-both (isProper t) o p
 
 module _ (b : List ℕ) (r : Bool) (test : (t : Term) → b ≡ encode t → r ≡ isProper t) where
   module _ (yes : r ≡ true) where
@@ -279,9 +277,9 @@ module _ (b : List ℕ) (r : Bool) (test : (t : Term) → b ≡ encode t → r �
     pub abstracted-too-long : (out : List ℕ) → sweptBytes < 4 + length b → ContractsAbstraction b out TooLong out
     abstracted-too-long out h t e = rw (kept t e) (form-too-long (lam t) out (omega (arith, table-length b t e)))
 
-    pub abstracted-written : (out p q : List ℕ) → 4 + length b ≤ sweptBytes → p ≡ sets out 0 (bytes 1 0 []) → q ≡ sets p 4 b
+    pub abstracted-written : (out p q : List ℕ) → 4 + length b ≤ sweptBytes → p ≡ sets out 0 (recordBytes 1 0 []) → q ≡ sets p 4 b
         → ContractsAbstraction b out (Records ((4 + length b) / 4)) q
     abstracted-written out p q h u v t e =
         rw (kept t e)
         (form-written (lam t) out q ((4 + length b) / 4) (omega (arith, table-length b t e)) (omega arith)
-        (written-then (bytes 1 0 []) b out p q 0 4 u v refl ∙ ap (λ (l : List ℕ). sets out 0 (bytes 1 0 l)) e))
+        (written-then (recordBytes 1 0 []) b out p q 0 4 u v refl ∙ ap (λ (l : List ℕ). sets out 0 (recordBytes 1 0 l)) e))

@@ -10,7 +10,7 @@ use lib.Dec.{T, eqb}
 use lib.ListN.{length, getD, take, drop}
 use lib.Seq.{sets, length-sets}
 use borrow.Author.Tests.{eq-eqb, eqb-true}
-use Rattle.terms.specs.Figures.{constants, sweptRecords}
+use Rattle.terms.specs.Figures.{numbers, sweptRecords}
 use Rattle.terms.specs.Term.{Term, app, lam, loc, con, var, size, Closed, Normal, Occurs, Value}
 use Rattle.terms.specs.Sweep.{sweep, largest, fill}
 use Rattle.terms.specs.Table.{encode}
@@ -20,7 +20,7 @@ use Rattle.terms.proofs.Locals.{closed-sweep}
 use Rattle.terms.proofs.Table.{encode-length}
 use Rattle.terms.proofs.Substitute.{size-pos}
 use Rattle.records.specs.Record.{numberAt}
-use Rattle.records.proofs.Parts.{kind-at, number-at, at-start, leaf-size, application-of, abstraction-of}
+use Rattle.records.proofs.Parts.{kind-at, variable-at, at-start, leaf-size, application-of, abstraction-of}
 use Rattle.assignments.specs.Entries.{Given, Gives}
 use Rattle.assignments.specs.declared.Entry.{Entry}
 use Rattle.sweeping.specs.declared.Length.{Length}
@@ -76,7 +76,7 @@ gives-parts l s a z t φ q g =
 
 -- the parts of what is ready
 module _ (l m s : List ℕ) (a : List Entry) (x : Sweepable l s a) where
-  ready : (t : Term) (d : ℕ) → m ≡ encode t → d + size t + sweptRecords ≤ constants → Closed d t → Gives s a (x .φ) t → Sweepable m s a
+  ready : (t : Term) (d : ℕ) → m ≡ encode t → d + size t + sweptRecords ≤ numbers → Closed d t → Gives s a (x .φ) t → Sweepable m s a
   ready t d e h c g = record {
     tree = t;
     bytes = e;
@@ -166,13 +166,13 @@ module _ (s : List ℕ) (a : List Entry) (out : List ℕ) where
       → (t : Term) (φ : ℕ → Term) → m ≡ encode t → Gives s a φ t → SweptTable (fill φ t) p n
   results m p r n w e h t φ q g = swept-table (fill φ t) out p r n (w t φ q g) e h
 
-  pub result-few : (m p : List ℕ) (r : Length) (n : ℕ) → WritesSwept m s a out r p → r ≡ Records n → length out ≡ sweptBytes
+  pub sweepable-few : (m p : List ℕ) (r : Length) (n : ℕ) → WritesSwept m s a out r p → r ≡ Records n → length out ≡ sweptBytes
       → Sweepable m s a → n ≤ sweptRecords
-  result-few m p r n w e h x = results m p r n w e h (x .tree) (x .φ) (x .bytes) (x .gives) .few
+  sweepable-few m p r n w e h x = results m p r n w e h (x .tree) (x .φ) (x .bytes) (x .gives) .few
 
-  pub result-within : (m p : List ℕ) (r : Length) (n : ℕ) → WritesSwept m s a out r p → r ≡ Records n → length out ≡ sweptBytes
+  pub sweepable-within : (m p : List ℕ) (r : Length) (n : ℕ) → WritesSwept m s a out r p → r ≡ Records n → length out ≡ sweptBytes
       → Sweepable m s a → n * 4 ≤ length p
-  result-within m p r n w e h x = results m p r n w e h (x .tree) (x .φ) (x .bytes) (x .gives) .within
+  sweepable-within m p r n w e h x = results m p r n w e h (x .tree) (x .φ) (x .bytes) (x .gives) .within
 
 -- an application
 module _ (l s : List ℕ) (a : List Entry) (z : getD l 0 0 ≡ 0) (m : List ℕ) (head : (f g : Term) → l ≡ encode (app f g) → m ≡ encode f)
@@ -192,20 +192,20 @@ module _ (l s : List ℕ) (a : List Entry) (z : getD l 0 0 ≡ 0) (m : List ℕ)
         rw (v .is) (long (fill φ (app (v .f) (v .a))) out (omega arith))
 
     module _ (n k : ℕ) (e : r ≡ Records n) (d : o ≡ Records k) (h : length u ≡ sweptBytes) (i : length c ≡ sweptBytes) where
-      both : (t : Term) (φ : ℕ → Term) (q : l ≡ encode t) → Gives s a φ t
+      both-swept : (t : Term) (φ : ℕ → Term) (q : l ≡ encode t) → Gives s a φ t
           → SweptTable (fill φ (application-of l t q z .f)) p n × SweptTable (fill φ (application-of l t q z .a)) b k
-      both t φ q g =
+      both-swept t φ q g =
           let v = application-of l t q z in
           let f = gives-parts l s a z t φ q g in (
             results s a u m p r n w e h (v .f) φ (head (v .f) (v .a) (v .bytes)) (f .0),
             results s a c j b o k y d i (v .a) φ (argument (v .f) (v .a) (v .bytes)) (f .1),
           )
 
-      pub parts-applied : Sweepable l s a → SweptParts (take (n * 4 - 0) (drop 0 p)) (take (k * 4 - 0) (drop 0 b))
-      parts-applied x =
+      pub sweepable-parts-swept : Sweepable l s a → SweptParts (take (n * 4 - 0) (drop 0 p)) (take (k * 4 - 0) (drop 0 b))
+      sweepable-parts-swept x =
           let v = application-of l (x .tree) (x .bytes) z in
-          let f = both (x .tree) (x .φ) (x .bytes) (x .gives) .0 in
-          let g = both (x .tree) (x .φ) (x .bytes) (x .gives) .1 in
+          let f = both-swept (x .tree) (x .φ) (x .bytes) (x .gives) .0 in
+          let g = both-swept (x .tree) (x .φ) (x .bytes) (x .gives) .1 in
           record {
             head = sweep (fill (x .φ) (v .f));
             argument = sweep (fill (x .φ) (v .a));
@@ -225,8 +225,8 @@ module _ (l s : List ℕ) (a : List Entry) (z : getD l 0 0 ≡ 0) (m : List ℕ)
           → ContractsApplication (take (n * 4 - 0) (drop 0 p)) (take (k * 4 - 0) (drop 0 b)) out q after → WritesSwept l s a out q after
       sweeps-application out q after x t φ g y =
           let v = application-of l t g z in
-          let f = both t φ g y .0 in
-          let f₁ = both t φ g y .1 in
+          let f = both-swept t φ g y .0 in
+          let f₁ = both-swept t φ g y .1 in
           let w₁ = x (sweep (fill φ (v .f))) (sweep (fill φ (v .a))) (f .bytes) (f₁ .bytes) in
           rw (v .is) (whole-swept (fill φ (app (v .f) (v .a))) (sweep (fill φ (app (v .f) (v .a)))) out q after refl
           (λ h. omega (arith, f .all, f₁ .all)) (omega arith) w₁)
@@ -241,15 +241,15 @@ module _ (l s : List ℕ) (a : List Entry) (z : getD l 0 0 ≡ 1) (m : List ℕ)
       rw (v .is) (long (fill φ (lam (v .b))) out (omega arith))
 
   module _ (n : ℕ) (e : r ≡ Records n) (h : length u ≡ sweptBytes) where
-    one : (t : Term) (φ : ℕ → Term) (q : l ≡ encode t) → Gives s a φ t → SweptTable (fill φ (abstraction-of l t q z .b)) p n
-    one t φ q g =
+    body-swept : (t : Term) (φ : ℕ → Term) (q : l ≡ encode t) → Gives s a φ t → SweptTable (fill φ (abstraction-of l t q z .b)) p n
+    body-swept t φ q g =
         let v = abstraction-of l t q z in
         results s a u m p r n w e h (v .b) φ (body (v .b) (v .bytes)) (subst (Gives s a φ) (v .is) g)
 
-    pub part-abstracted : Sweepable l s a → SweptBody (take (n * 4 - 0) (drop 0 p))
-    part-abstracted x =
+    pub sweepable-body-swept : Sweepable l s a → SweptBody (take (n * 4 - 0) (drop 0 p))
+    sweepable-body-swept x =
         let v = abstraction-of l (x .tree) (x .bytes) z in
-        let f = one (x .tree) (x .φ) (x .bytes) (x .gives) in
+        let f = body-swept (x .tree) (x .φ) (x .bytes) (x .gives) in
         record {
           body = sweep (fill (x .φ) (v .b));
           bytes = f .bytes;
@@ -265,7 +265,7 @@ module _ (l s : List ℕ) (a : List Entry) (z : getD l 0 0 ≡ 1) (m : List ℕ)
         → WritesSwept l s a out q after
     sweeps-abstraction out q after x t φ g y =
         let v = abstraction-of l t g z in
-        let f = one t φ g y in
+        let f = body-swept t φ g y in
         rw (v .is) (whole-swept (fill φ (lam (v .b))) (sweep (fill φ (lam (v .b)))) out q after refl
         (λ h. omega (arith, f .all)) (omega arith) (x (sweep (fill φ (v .b))) (f .bytes)))
 
@@ -275,29 +275,27 @@ swept-normal t out r after n w =
     whole-swept t t out r after (sweep-normal t n) (λ h. omega (arith, largest-normal t n)) (omega (arith, largest-normal t n)) w
 
 module _ (l s : List ℕ) (a : List Entry) where
-  variable-at : (i : ℕ) (t : Term) → l ≡ encode t → getD l 0 0 ≡ 4 → i ≡ numberAt l 0 → t ≡ var i
-  variable-at i (var n) e k q = ap var (sym (q ∙ number-at l 0 (var n) (at-start l (var n) e)))
-  variable-at i (app f b) e k q = absurd (omega (arith, kind-at l 0 (app f b) (at-start l (app f b) e)))
-  variable-at i (lam b) e k q = absurd (omega (arith, kind-at l 0 (lam b) (at-start l (lam b) e)))
-  variable-at i (loc n) e k q = absurd (omega (arith, kind-at l 0 (loc n) (at-start l (loc n) e)))
-  variable-at i (con n) e k q = absurd (omega (arith, kind-at l 0 (con n) (at-start l (con n) e)))
-
   given : (i : ℕ) (t : Term) (φ : ℕ → Term) → t ≡ var i → Gives s a φ t → Given s a i (φ i)
   given i t φ e g = let h : Gives s a φ (var i) = subst (Gives s a φ) e g in h i refl
 
   pub ready-value : (i : ℕ) → Sweepable l s a → getD l 0 0 ≡ 4 → i ≡ numberAt l 0 → HasValue s a i
-  ready-value i x k q = record { value = x .φ i; given = given i (x .tree) (x .φ) (variable-at i (x .tree) (x .bytes) k q) (x .gives) }
+  ready-value i x k q = record {
+    value = x .φ i;
+    given = given i (x .tree) (x .φ)
+        (variable-at l 0 i (x .tree) (at-start l (x .tree) (x .bytes)) k q) (x .gives);
+  }
 
   pub sweeps-variable : (i : ℕ) (out : List ℕ) (r : Length) (after : List ℕ) → getD l 0 0 ≡ 4 → i ≡ numberAt l 0
       → ((v : Term) → Given s a i v → WrittenForm v out r after) → WritesSwept l s a out r after
   sweeps-variable i out r after k q w t φ e g =
-      let v = variable-at i t e k q in
+      let v = variable-at l 0 i t (at-start l t e) k q in
       let h = given i t φ v g in
       rw v (swept-normal (φ i) out r after (h .value .1) (w (φ i) h))
 
   module _ (n : ¬ (getD l 0 0 ≡ 0)) (m : ¬ (getD l 0 0 ≡ 1)) where
-    pub leaf-length : Sweepable l s a → length l ≡ 4
-    leaf-length x = omega (arith, table-length l (x .tree) (x .bytes), leaf-size l 0 (x .tree) (at-start l (x .tree) (x .bytes)) n m)
+    pub sweepable-leaf-length : Sweepable l s a → length l ≡ 4
+    sweepable-leaf-length x =
+        omega (arith, table-length l (x .tree) (x .bytes), leaf-size l 0 (x .tree) (at-start l (x .tree) (x .bytes)) n m)
 
     pub sweeps-leaf : (out after : List ℕ) → ¬ (getD l 0 0 ≡ 4) → after ≡ sets out 0 l → WritesSwept l s a out (Records 1) after
     sweeps-leaf out after k w = go

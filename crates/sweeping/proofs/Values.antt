@@ -27,8 +27,9 @@ pub record ValueBytes (s : List ℕ) (x : Span) (v : Term) : Type 0 where
   pub exact : x .count ≡ size v
   pub bytes : take (4 * x .count) (drop (4 * x .first) s) ≡ encode v
 
-pub held : (s : List ℕ) (a : List Entry) (i : ℕ) (v : Term) → Given s a i v → (x : Span) → getD a i Open ≡ Assigned x → ValueBytes s x v
-held s a i v g x e =
+pub given-bytes : (s : List ℕ) (a : List Entry) (i : ℕ) (v : Term) → Given s a i v → (x : Span) → getD a i Open ≡ Assigned x
+    → ValueBytes s x v
+given-bytes s a i v g x e =
     let q : g .span ≡ x = cc (g .is) in
     subst (λ (y : Span). ValueBytes s y v) q (record {
       most = omega (arith, g .most);

@@ -3,12 +3,13 @@
 // It goes bottom-up through the parts of a table. The swept form of each part is written into an array of its own, and a redex is
 // contracted once, its size being known before anything is written. The crate promises that what it writes is the swept form of the pattern
 // with the assigned values filled in, and that it says "too long" exactly if the swept form of some part is above 256 records, also where
-// that part is then thrown away. It rests on `records` for single records and parts, on `substitution` for the contraction of a redex, and
+// that part is then dropped. It rests on `records` for single records and parts, on `substitution` for the contraction of a redex, and
 // on `assignments` for the entries.
 
 use assignments::Entry;
 use records::Kind;
 use records::RECORD;
+use records::SWEPT_RECORDS;
 use records::VARIABLES;
 ghost use mathlib.Core.Path.{_≡_};
 ghost use mathlib.Core.Bool.{not, _&&_};
@@ -20,8 +21,8 @@ ghost use Rattle.assignments.specs.Entries.{Given};
 ghost use Rattle.sweeping.specs.Swept.{WrittenForm, SweptParts, ContractsApplication, SweptBody, ContractsAbstraction, HasValue};
 ghost use Rattle.sweeping.specs.Swept.{Sweepable, Fillable, WritesSwept};
 
-// The bytes of a swept form of 256 records, the longest that is written.
-pub const SWEPT_BYTES: usize = 1024;
+// The bytes of the longest swept form that is written.
+pub const SWEPT_BYTES: usize = RECORD * SWEPT_RECORDS;
 
 // The records of a swept form, or that it has too many.
 pub enum Length {
@@ -29,53 +30,53 @@ pub enum Length {
     TooLong,
 }
 
-// Contracts the application of f to a, both swept, where f is an abstraction.
-fn contract_redex(f: &[u8], a: &[u8], out: &mut [u8; SWEPT_BYTES]) -> Length
-    requires { ⌜ SweptParts (now f) (now a) × (getD (now f) 0 0 ≡ abstractionKind) ⌝ }
-    ensures { λ r. ⌜ ContractsApplication (now (f .entry)) (now (a .entry)) (now (out .entry)) r (now (out .exit)) ⌝ }
+// Contracts the application of a head, which is an abstraction, to an argument, both swept.
+fn contract_redex(head: &[u8], argument: &[u8], out: &mut [u8; SWEPT_BYTES]) -> Length
+    requires { ⌜ SweptParts (now head) (now argument) × (getD (now head) 0 0 ≡ abstractionKind) ⌝ }
+    ensures { λ r. ⌜ ContractsApplication (now (head .entry)) (now (argument .entry)) (now (out .entry)) r (now (out .exit)) ⌝ }
 {
-    let body = &f[RECORD..];
+    let body = &head[RECORD..];
     let uses = substitution::count_uses(body, 0);
     // each use is one record of the body, and all of the argument's records take its place
-    let bytes = f.len() - RECORD + uses.count * (a.len() - RECORD);
+    let bytes = head.len() - RECORD + uses.count * (argument.len() - RECORD);
     if bytes > SWEPT_BYTES {
         return Length::TooLong;
     }
-    substitution::substitute_into(body, 0, a, out, 0);
+    substitution::substitute_into(body, 0, argument, out, 0);
     Length::Records(bytes / RECORD)
 }
 
-// Contracts the application of f to a, both swept.
-pub fn contract_application(f: &[u8], a: &[u8], out: &mut [u8; SWEPT_BYTES]) -> Length
-    requires { ⌜ SweptParts (now f) (now a) ⌝ }
-    ensures { λ r. ⌜ ContractsApplication (now (f .entry)) (now (a .entry)) (now (out .entry)) r (now (out .exit)) ⌝ }
+// Contracts the application of a head to an argument, both swept.
+pub fn contract_application(head: &[u8], argument: &[u8], out: &mut [u8; SWEPT_BYTES]) -> Length
+    requires { ⌜ SweptParts (now head) (now argument) ⌝ }
+    ensures { λ r. ⌜ ContractsApplication (now (head .entry)) (now (argument .entry)) (now (out .entry)) r (now (out .exit)) ⌝ }
 {
-    if f[0] == Kind::ABSTRACTION.code {
-        return contract_redex(f, a, out);
+    if head[0] == Kind::ABSTRACTION.code {
+        return contract_redex(head, argument, out);
     }
-    let n = RECORD + f.len() + a.len();
+    let n = RECORD + head.len() + argument.len();
     if n > SWEPT_BYTES {
         return Length::TooLong;
     }
     records::put_record(out, 0, Kind::APPLICATION, 0);
-    copying::copy_into(f, out, RECORD);
-    copying::copy_into(a, out, RECORD + f.len());
+    copying::copy_into(head, out, RECORD);
+    copying::copy_into(argument, out, RECORD + head.len());
     Length::Records(n / RECORD)
 }
 
-// Whether the abstraction over b contracts: b is `M #0`, and M doesn't use that local and isn't itself an abstraction.
-fn contracts(b: &[u8]) -> bool
-    requires { ⌜ SweptBody (now b) ⌝ }
-    ensures { λ r. ⌜ ((t : Term) → now (b .entry) ≡ encode t → r ≡ (isEta t && not (isAbstraction (headOf t)))) ⌝ }
+// Whether the abstraction over the body contracts: the body is `M #0`, and M doesn't use that local and isn't itself an abstraction.
+fn contracts(body: &[u8]) -> bool
+    requires { ⌜ SweptBody (now body) ⌝ }
+    ensures { λ r. ⌜ ((t : Term) → now (body .entry) ≡ encode t → r ≡ (isEta t && not (isAbstraction (headOf t)))) ⌝ }
 {
-    if b[0] != Kind::APPLICATION.code {
+    if body[0] != Kind::APPLICATION.code {
         return false;
     }
-    if b[RECORD] == Kind::ABSTRACTION.code {
+    if body[RECORD] == Kind::ABSTRACTION.code {
         return false;
     }
-    let uses = substitution::count_uses(&b[RECORD..], 0);
-    let argument = &b[RECORD + uses.length..];
+    let uses = substitution::count_uses(&body[RECORD..], 0);
+    let argument = &body[RECORD + uses.length..];
     if argument[0] != Kind::LOCAL.code {
         return false;
     }
@@ -85,36 +86,37 @@ fn contracts(b: &[u8]) -> bool
     uses.count == 0
 }
 
-// Contracts the abstraction over b, which is swept.
-pub fn contract_abstraction(b: &[u8], out: &mut [u8; SWEPT_BYTES]) -> Length
-    requires { ⌜ SweptBody (now b) ⌝ }
-    ensures { λ r. ⌜ ContractsAbstraction (now (b .entry)) (now (out .entry)) r (now (out .exit)) ⌝ }
+// Contracts the abstraction over a body, which is swept.
+pub fn contract_abstraction(body: &[u8], out: &mut [u8; SWEPT_BYTES]) -> Length
+    requires { ⌜ SweptBody (now body) ⌝ }
+    ensures { λ r. ⌜ ContractsAbstraction (now (body .entry)) (now (out .entry)) r (now (out .exit)) ⌝ }
 {
-    if contracts(b) {
+    if contracts(body) {
         // M doesn't use the local, so nothing is put for it, whatever is given here: M moves out
-        let m = substitution::substitute_into(&b[RECORD..], 0, b, out, 0);
+        let m = substitution::substitute_into(&body[RECORD..], 0, body, out, 0);
         return Length::Records(m.end / RECORD);
     }
-    let n = RECORD + b.len();
+    let n = RECORD + body.len();
     if n > SWEPT_BYTES {
         return Length::TooLong;
     }
     records::put_record(out, 0, Kind::ABSTRACTION, 0);
-    copying::copy_into(b, out, RECORD);
+    copying::copy_into(body, out, RECORD);
     Length::Records(n / RECORD)
 }
 
-// Writes the value of variable i, which is normal and so its own swept form.
+// Writes the value of a variable, which is normal and so its own swept form.
 fn write_value(
-    i: usize,
+    variable: usize,
     values: &[u8],
     entries: [Entry; VARIABLES],
     out: &mut [u8; SWEPT_BYTES],
 ) -> Length
-    requires { ⌜ HasValue (now values) entries i ⌝ }
-    ensures { λ r. ⌜ ((v : Term) → Given (now (values .entry)) entries i v → WrittenForm v (now (out .entry)) r (now (out .exit))) ⌝ }
+    requires { ⌜ HasValue (now values) entries variable ⌝ }
+    ensures { λ r. ⌜ ((v : Term) → Given (now (values .entry)) entries variable v
+        → WrittenForm v (now (out .entry)) r (now (out .exit))) ⌝ }
 {
-    let e = entries[i];
+    let e = entries[variable];
     match e {
         // never so: a variable that occurs is assigned
         Entry::Open => Length::TooLong,

@@ -24,8 +24,8 @@ module _ {A : Type 0} where
   distinct-append (x ∷ l) m h k f =
       (λ p. ⊎-elim (h .0) (f x (inl refl)) (in-append x l m p), distinct-append l m (h .1) k (λ y p q. f y (inr p) q))
 
-pub one : {X : Type 0} {x y : X} → In x (y ∷ []) → x ≡ y
-one (inl p) = p
+pub in-one : {X : Type 0} {x y : X} → In x (y ∷ []) → x ≡ y
+in-one (inl p) = p
 
 abbrev pub dec-⊎ : {A B : Type 0} → Dec A → Dec B → Dec (A ⊎ B)
 dec-⊎ (yes a) b = yes (inl a)

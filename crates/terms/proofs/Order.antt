@@ -4,7 +4,7 @@ use mathlib.Core.Path.{_≡_, refl, sym, ap, ap₂, _∙_, subst}
 use mathlib.Core.Option.{Option, none, some}
 use mathlib.Core.List.{List, [], _∷_}
 use mathlib.Core.Logic.{_⊎_, inl, inr, ⊎-elim}
-use Prim.Native.Nat.{ℕ, suc, _≤_, _<_}
+use Prim.Native.Nat.{ℕ, _+_, _≤_, _<_}
 use native.Mathlib.Omega.{arith}
 use native.Mathlib.Decide.{decLt}
 use lib.Dec.{lit<}
@@ -187,18 +187,27 @@ rising-same (l ∷ ls) (m ∷ ms) u v f g =
     ap₂ _∷_ e (rising-same ls ms (u .1) (v .1) (λ x p. same-tail l m x ls ms u e p (f x (inr p)))
     (λ x p. same-tail m l x ms ls v (sym e) p (g x (inr p))))
 
--- lines that are found, none twice, are no more than all
-without : (l : Line) (ms : List Line) → In l ms
-    → (rs : List Line) × (length ms ≡ suc (length rs)) × ((x : Line) → In x ms → (x ≡ l) ⊎ In x rs)
-without l (m ∷ ms) (inl p) = (ms, refl, λ x q. ⊎-elim (λ e. inl (e ∙ sym p)) inr q)
-without l (m ∷ ms) (inr p) =
-    let r = without l ms p in
-    (m ∷ r .0, ap suc (r .1), λ x q. ⊎-elim (λ e. inr (inl e)) (λ e. ⊎-elim inl (λ z. inr (inr z)) (r .2 x e)) q)
+-- lines that are found, none twice, come to no more than all, by any measure that adds up
+module _ (weight : Line → ℕ) (total : List Line → ℕ) (start : total [] ≡ 0)
+    (next : (l : Line) (ls : List Line) → total (l ∷ ls) ≡ weight l + total ls) where
+  without : (l : Line) (ms : List Line) → In l ms
+      → (rs : List Line) × (total ms ≡ weight l + total rs) × ((x : Line) → In x ms → (x ≡ l) ⊎ In x rs)
+  without l (m ∷ ms) (inl p) =
+      (ms, next m ms ∙ ap (λ (k : Line). weight k + total ms) (sym p), λ x q. ⊎-elim (λ e. inl (e ∙ sym p)) inr q)
+  without l (m ∷ ms) (inr p) =
+      let r = without l ms p in (
+        m ∷ r .0,
+        omega (arith, r .1, next m ms, next m (r .0)),
+        λ x q. ⊎-elim (λ e. inr (inl e)) (λ e. ⊎-elim inl (λ z. inr (inr z)) (r .2 x e)) q,
+      )
+
+  pub found-total : (ls ms : List Line) → Distinct ls → ((x : Line) → In x ls → In x ms) → total ls ≤ total ms
+  found-total [] ms h f = omega (arith, start)
+  found-total (l ∷ ls) ms h f =
+      let r = without l ms (f l (inl refl)) in
+      let g : (x : Line) → In x ls → In x (r .0) =
+      λ x p. ⊎-elim (λ e. absurd (h .0 (subst (λ y. In y ls) e p))) (λ z. z) (r .2 x (f x (inr p))) in
+      omega (arith, r .1, next l ls, found-total ls (r .0) (h .1) g)
 
 pub found-length : (ls ms : List Line) → Distinct ls → ((x : Line) → In x ls → In x ms) → length ls ≤ length ms
-found-length [] ms h f = omega arith
-found-length (l ∷ ls) ms h f =
-    let r = without l ms (f l (inl refl)) in
-    let g : (x : Line) → In x ls → In x (r .0) =
-    λ x p. ⊎-elim (λ e. absurd (h .0 (subst (λ y. In y ls) e p))) (λ z. z) (r .2 x (f x (inr p))) in
-    omega (arith, r .1, found-length ls (r .0) (h .1) g)
+found-length = found-total (λ _. 1) length refl (λ l ls. omega arith)

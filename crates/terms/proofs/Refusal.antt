@@ -33,6 +33,14 @@ pub passed-both : (rows more : List Row) → Passed rows → Passed more → Pas
 passed-both [] more h p = p
 passed-both (r ∷ rows) more h p = (h .0, passed-both rows more (h .1) p)
 
+pub passed-first : (rows more : List Row) → Passed (rows ++ more) → Passed rows
+passed-first [] more h = tt
+passed-first (r ∷ rows) more h = (h .0, passed-first rows more (h .1))
+
+pub passed-later : (rows more : List Row) → Passed (rows ++ more) → Passed more
+passed-later [] more h = h
+passed-later (r ∷ rows) more h = passed-later rows more (h .1)
+
 -- a value is known from its place
 pub stored-one : (l s : List ℕ) (i : ℕ) (v w : Term) → Stored l s i v → Stored l s i w → v ≡ w
 stored-one l s i v w x y = encode-one v w (sym (x .bytes) ∙ y .bytes)

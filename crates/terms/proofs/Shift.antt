@@ -8,6 +8,13 @@ use borrow.Author.Tests.{ne-eqb, lt-ltb, le-ltb, eqb-false}
 use Rattle.terms.specs.Term.{Term, app, lam, loc, con, var, Normal, size, shift, unshift, uses, isEta, isAbstraction, isInnermost}
 use Rattle.terms.proofs.Tests.{by-ltb, eqb-same, or-false}
 
+-- a local below the shifted ones, and one among them
+pub shift-low : (d c n : ℕ) → n < c → shift d c (loc n) ≡ loc n
+shift-low d c n l = rw (lt-ltb n c l)
+
+pub shift-high : (d c n : ℕ) → c ≤ n → shift d c (loc n) ≡ loc (n + d)
+shift-high d c n l = rw (le-ltb n c l)
+
 pub uses-shift : (j d c : ℕ) (t : Term) → j < c → uses j (shift d c t) ≡ uses j t
 uses-shift j d c (app f a) h = ap₂ _||_ (uses-shift j d c f h) (uses-shift j d c a h)
 uses-shift j d c (lam b) h = uses-shift (suc j) d (suc c) b (omega arith)

@@ -12,8 +12,8 @@ use lib.Dec.{ltb}
 use lib.ListN.{length, getD, drop, length-append}
 use borrow.Author.Tests.{ltb-true}
 use Rattle.terms.specs.Term.{Term, app, lam, loc, con, var, size, Below}
-use Rattle.terms.specs.Table.{bytes, preorder, encode, goodRecords}
-use Rattle.terms.specs.Listing.{Lexicographic, records}
+use Rattle.terms.specs.Table.{recordBytes, preorder, encode, goodRecords}
+use Rattle.terms.specs.Listing.{Lexicographic, kindsAndNumbers}
 use Rattle.terms.proofs.Tests.{and-split}
 
 -- the parts of two equal terms
@@ -111,24 +111,24 @@ pair-lossless = record {
   inj = λ k m n l r s e. (ap (λ x. getD x 0 0) e, ap (λ x. getD x 1 0) e, ap (drop 2) e);
 }
 
-pub records-inj : (s t : Term) → records s ≡ records t → s ≡ t
+pub records-inj : (s t : Term) → kindsAndNumbers s ≡ kindsAndNumbers t → s ≡ t
 records-inj s t p = preorder-one pair pair-lossless s t p
 
 -- a number is known from its two bytes
 pub word-inj : (n l : ℕ) → n / 256 ≡ l / 256 → n % 256 ≡ l % 256 → n ≡ l
 word-inj n l h g = sym (div-add-mod' n 256) ∙ ap₂ (λ x y. x * 256 + y) h g ∙ div-add-mod' l 256
 
-bytes-lossless : Lossless bytes
+bytes-lossless : Lossless recordBytes
 bytes-lossless = record {
   more = λ k n r s. refl;
   inj = λ k m n l r s e. (ap (λ x. getD x 0 0) e, word-inj n l (ap (λ x. getD x 2 0) e) (ap (λ x. getD x 3 0) e), ap (drop 4) e);
 }
 
 pub encode-inj : (s t : Term) (r q : List ℕ) → encode s ++ r ≡ encode t ++ q → (s ≡ t) × (r ≡ q)
-encode-inj s t r q p = preorder-inj bytes bytes-lossless s t r q p
+encode-inj s t r q p = preorder-inj recordBytes bytes-lossless s t r q p
 
 pub encode-one : (s t : Term) → encode s ≡ encode t → s ≡ t
-encode-one s t p = preorder-one bytes bytes-lossless s t p
+encode-one s t p = preorder-one recordBytes bytes-lossless s t p
 
 pub encode-length : (t : Term) → length (encode t) ≡ 4 * size t
 encode-length (app f a) = omega (arith, length-append (encode f) (encode a), encode-length f, encode-length a)
@@ -173,16 +173,23 @@ word-less n k A h = go (decLt (n / 256) (k / 256))
     go (no p) = inr (omega arith, inl (omega arith))
 
 to-bytes : (l m : List (ℕ × ℕ)) → Lexicographic _<_ (written pair l) (written pair m)
-    → Lexicographic _<_ (written bytes l) (written bytes m)
+    → Lexicographic _<_ (written recordBytes l) (written recordBytes m)
 to-bytes [] [] h = h
 to-bytes [] (s ∷ m) h = tt
 to-bytes (r ∷ l) [] h = h
 to-bytes (r ∷ l) (s ∷ m) (inl h) = inl h
 to-bytes (r ∷ l) (s ∷ m) (inr (e, inl h)) =
-    inr (e, inr (refl, word-less (r .1) (s .1) ((r .1 % 256 ≡ s .1 % 256) × Lexicographic _<_ (written bytes l) (written bytes m)) h))
+    inr (
+      e,
+      inr (
+        refl,
+        word-less (r .1) (s .1) ((r .1 % 256 ≡ s .1 % 256) × Lexicographic _<_ (written recordBytes l)
+            (written recordBytes m)) h,
+      ),
+    )
 to-bytes (r ∷ l) (s ∷ m) (inr (e, inr (f, h))) = inr (e, inr (refl, inr (ap (_/ 256) f, inr (ap (_% 256) f, to-bytes l m h))))
 
-from-bytes : (l m : List (ℕ × ℕ)) → Lexicographic _<_ (written bytes l) (written bytes m)
+from-bytes : (l m : List (ℕ × ℕ)) → Lexicographic _<_ (written recordBytes l) (written recordBytes m)
     → Lexicographic _<_ (written pair l) (written pair m)
 from-bytes [] [] h = h
 from-bytes [] (s ∷ m) h = tt
@@ -194,12 +201,12 @@ from-bytes (r ∷ l) (s ∷ m) (inr (e, inr (z, inr (f, inl h)))) = inr (e, inl 
 from-bytes (r ∷ l) (s ∷ m) (inr (e, inr (z, inr (f, inr (g, h))))) = inr (e, inr (word-inj (r .1) (s .1) f g, from-bytes l m h))
 
 -- "by kind and then number, which is the order of their bytes"
-pub order-bytes : (v w : Term) → Lexicographic _<_ (records v) (records w) ↔ Lexicographic _<_ (encode v) (encode w)
+pub order-bytes : (v w : Term) → Lexicographic _<_ (kindsAndNumbers v) (kindsAndNumbers w) ↔ Lexicographic _<_ (encode v) (encode w)
 order-bytes v w =
     let pv = preorder-items pair pair-lossless v in
     let pw = preorder-items pair pair-lossless w in
-    let bv = preorder-items bytes bytes-lossless v in
-    let bw = preorder-items bytes bytes-lossless w in (
+    let bv = preorder-items recordBytes bytes-lossless v in
+    let bw = preorder-items recordBytes bytes-lossless w in (
       λ h. rw (bv, bw) (to-bytes (items v) (items w) (rw (pv, pw) at h)),
       λ h. rw (pv, pw) (from-bytes (items v) (items w) (rw (bv, bw) at h)),
     )

@@ -1,5 +1,5 @@
 -- Case splits on a test, and equations between tests. Each goes by cases on the test's value. Assumes nothing.
-use mathlib.Core.Path.{_≡_, refl, sym, subst}
+use mathlib.Core.Path.{_≡_, refl, sym, _∙_, subst}
 use mathlib.Core.Bool.{Bool, true, false, not, _&&_, _||_}
 use mathlib.Core.Logic.{_⊎_, inl, inr}
 use Prim.Native.Nat.{ℕ, _≤_, _<_}
@@ -24,6 +24,10 @@ module _ {ℓ} (P : Bool → Type ℓ) (a b : ℕ) where
 
 pub eqb-same : (a b c d : ℕ) → (a ≡ b → c ≡ d) → (c ≡ d → a ≡ b) → eqb a b ≡ eqb c d
 eqb-same a b c d f g = by-eqb (λ t. t ≡ eqb c d) a b (λ p. sym (eq-eqb c d (f p))) (λ n. sym (ne-eqb c d (λ q. n (g q))))
+
+-- no test says both
+pub not-both : {A : Type 0} (b : Bool) → b ≡ true → b ≡ false → A
+not-both b p q = absurd (subst T (sym p ∙ q) tt)
 
 pub false-of : (b : Bool) → T (not b) → b ≡ false
 false-of true h = absurd h

@@ -1,7 +1,7 @@
 -- Assignments and matches, as document 01's section "The sweep" has them.
 --   Assignment     a list of entries, one per variable: `none` is open, `some v` is assigned
 --   entry a i      variable i's entry
---   values a i     what filling puts for variable i: its value, or the variable itself where it is open
+--   valuation a i  what filling puts for variable i: its value, or the variable itself where it is open
 --   Assigns S a    a assigns values, and only to variables of S
 --   Entries n a    a has n entries, each open or assigned a value
 --   Complete p a   every variable of p is assigned
@@ -25,17 +25,17 @@ abbrev pub valueOr : Term → Option Term → Term
 valueOr u none = u
 valueOr u (some v) = v
 
-abbrev pub values : Assignment → ℕ → Term
-values a i = valueOr (var i) (entry a i)
+abbrev pub valuation : Assignment → ℕ → Term
+valuation a i = valueOr (var i) (entry a i)
 
-abbrev pub Assigned : Type 0 → Option Term → Type 0
-Assigned A none = Unit {0}
-Assigned A (some v) = A × Value v
+abbrev pub AssignsAt : Type 0 → Option Term → Type 0
+AssignsAt A none = Unit {0}
+AssignsAt A (some v) = A × Value v
 
 -- "A line assigns only variables of the pattern."
 abbrev pub Assigns : (ℕ → Type 0) → Assignment → Type 0
 Assigns S [] = Unit {0}
-Assigns S (o ∷ a) = Assigned (S 0) o × Assigns (λ i. S (suc i)) a
+Assigns S (o ∷ a) = AssignsAt (S 0) o × Assigns (λ i. S (suc i)) a
 
 abbrev pub Entries : ℕ → Assignment → Type 0
 Entries n a = (length a ≡ n) × Assigns (λ i. Unit {0}) a
@@ -46,4 +46,4 @@ Complete p a = (i : ℕ) → Occurs i p → (v : Term) × (entry a i ≡ some v)
 
 -- "It is a match if the filled pattern sweeps to the recipe."
 abbrev pub Match : ℕ → Term → Term → Assignment → Type 0
-Match n p t a = Entries n a × Complete p a × (sweep (fill (values a) p) ≡ t)
+Match n p t a = Entries n a × Complete p a × (sweep (fill (valuation a) p) ≡ t)

@@ -1,7 +1,7 @@
 -- The order of lines and the full listing, as document 01's section "Lines and values" has them. Line is the document's word.
 --   In x l           x is a member of l
 --   Line             "A line is here an assignment, with no first records."
---   records t        the records of t in turn, each a kind and a number
+--   kindsAndNumbers t   the records of t in turn, each a kind and a number
 --   Lexicographic R  the first difference decides, by R
 --   rank o           what decides an entry's place: open or assigned, then the records
 --   Less l m         line l comes before line m
@@ -35,13 +35,13 @@ abbrev pub Line : Type 0
 Line = Assignment
 
 -- "record by record, by kind and then number"
-abbrev pub records : Term → List ℕ
-records t = preorder (λ k n rest. k ∷ n ∷ rest) t
+abbrev pub kindsAndNumbers : Term → List ℕ
+kindsAndNumbers t = preorder (λ k n rest. k ∷ n ∷ rest) t
 
 -- "Open comes before assigned."
 abbrev pub rank : Option Term → List ℕ
 rank none = 0 ∷ []
-rank (some v) = 1 ∷ records v
+rank (some v) = 1 ∷ kindsAndNumbers v
 
 abbrev pub Before : Option Term → Option Term → Type 0
 Before o q = Lexicographic _<_ (rank o) (rank q)

@@ -2,12 +2,12 @@
 --   Row              a refusal number, and its cause
 --   Refused rows k   "Each is given when its cause holds and no earlier one does": k is the number of the first row whose cause holds
 --   Passed rows      no row's cause holds
---   pattern l        the rows 1 to 3 of a table for a pattern or a right side
---   recipe l         the rows 4 to 7 of a table for a recipe
---   listTables, assignmentTables, outputTable   the rows 8 of the tables that an operation is lent
+--   patternRows l    the rows 1 to 3 of a table for a pattern or a right side
+--   recipeRows l     the rows 4 to 7 of a table for a recipe
+--   listTableRows, assignmentTableRows, outputTableRows   the rows 8 of the tables that an operation is lent
 --   Filled p l s t   the pattern's table p, filled from the line l and the value table s, is the term t
 --   Matches p l s r  the filled pattern sweeps to the term of the recipe's table r
---   listing, assignment, swept, output, unmatched   the rows 9 and 10, 11, 12, 13 and 14
+--   listingRows, assignmentRows, sweptFormRows, outputRows, unmatchedRows   the rows 9 and 10, 11, 12, 13 and 14
 use mathlib.Core.Path.{_≡_}
 use mathlib.Core.Bool.{false}
 use mathlib.Core.List.{List, [], _∷_}
@@ -40,15 +40,15 @@ BadLength most l = (length l ≡ 0) ⊎ ((4 * most < length l) ⊎ ¬ (length l 
 abbrev pub NoTerm : List ℕ → Type 0
 NoTerm l = (t : Term) → ¬ IsTable l t
 
-abbrev pub pattern : List ℕ → List Row
-pattern l = (1, BadLength patternRecords l) ∷ (2, goodRecords variables l ≡ false) ∷ (3, NoTerm l) ∷ []
+abbrev pub patternRows : List ℕ → List Row
+patternRows l = (1, BadLength patternRecords l) ∷ (2, goodRecords variables l ≡ false) ∷ (3, NoTerm l) ∷ []
 
 -- "Recipe not normal", for a table of at most so many records
-abbrev pub recipeRows : ℕ → List ℕ → List Row
-recipeRows most l = (4, BadLength most l) ∷ (5, goodRecords 0 l ≡ false) ∷ (6, NoTerm l) ∷ (7, (t : Term) → IsTable l t → ¬ Normal t) ∷ []
+abbrev pub normalRows : ℕ → List ℕ → List Row
+normalRows most l = (4, BadLength most l) ∷ (5, goodRecords 0 l ≡ false) ∷ (6, NoTerm l) ∷ (7, (t : Term) → IsTable l t → ¬ Normal t) ∷ []
 
-abbrev pub recipe : List ℕ → List Row
-recipe l = recipeRows recipeRecords l
+abbrev pub recipeRows : List ℕ → List Row
+recipeRows l = normalRows recipeRecords l
 
 -- "no multiple of 32 or above 65,536 bytes", "no multiple of 4 or above 65,536": a table of places of so many bytes
 abbrev pub BadTable : ℕ → List ℕ → Type 0
@@ -63,18 +63,18 @@ abbrev pub BadArea : List ℕ → Type 0
 BadArea l = ¬ (length l ≡ tableBytes)
 
 -- the tables that list is lent, those that an assignment comes in, and an output
-abbrev pub listTables : List ℕ → List ℕ → List ℕ → List Row
-listTables lines values area = (8, BadTable (4 * variables) lines) ∷ (8, BadTable 4 values) ∷ (8, BadArea area) ∷ []
+abbrev pub listTableRows : List ℕ → List ℕ → List ℕ → List Row
+listTableRows lines values area = (8, BadTable (4 * variables) lines) ∷ (8, BadTable 4 values) ∷ (8, BadArea area) ∷ []
 
-abbrev pub assignmentTables : List ℕ → List ℕ → List ℕ → List Row
-assignmentTables line values area = (8, BadLine line) ∷ (8, BadTable 4 values) ∷ (8, BadArea area) ∷ []
+abbrev pub assignmentTableRows : List ℕ → List ℕ → List ℕ → List Row
+assignmentTableRows line values area = (8, BadLine line) ∷ (8, BadTable 4 values) ∷ (8, BadArea area) ∷ []
 
-abbrev pub outputTable : List ℕ → List Row
-outputTable output = (8, BadTable 4 output) ∷ []
+abbrev pub outputTableRows : List ℕ → List Row
+outputTableRows output = (8, BadTable 4 output) ∷ []
 
 -- "the full listing needs more lines than are lent"; "Lines suffice, the values need more records than lent"
-abbrev pub listing : ℕ → ℕ → List Line → List Row
-listing lines records ls = (9, lines < length ls) ∷ (10, records < valuesRecords ls) ∷ []
+abbrev pub listingRows : ℕ → ℕ → List Line → List Row
+listingRows lines records ls = (9, lines < length ls) ∷ (10, records < valuesRecords ls) ∷ []
 
 -- the term that a pattern's table p becomes, filled from a line l and a value table s
 pub record Filled (p l s : List ℕ) (t : Term) : Type 0 where
@@ -90,20 +90,20 @@ OccursIn p i = (t : Term) × IsTable p t × Occurs i t
 
 -- "A variable that occurs is open or has a count of 0, or its value runs past its table, is above 160 records, not one tree, not closed,
 -- not normal, or holds a bad record or a variable", for the variables of S
-abbrev pub assignment : (ℕ → Type 0) → List ℕ → List ℕ → List Row
-assignment S l s = (11, (i : ℕ) × S i × ((v : Term) → ¬ Stored l s i v)) ∷ []
+abbrev pub assignmentRows : (ℕ → Type 0) → List ℕ → List ℕ → List Row
+assignmentRows S l s = (11, (i : ℕ) × S i × ((v : Term) → ¬ Stored l s i v)) ∷ []
 
 -- "The swept form of some part of the filled pattern is above 256 records"
-abbrev pub swept : List ℕ → List ℕ → List ℕ → List Row
-swept p l s = (12, (t : Term) × Filled p l s t × (sweptRecords < largest t)) ∷ []
+abbrev pub sweptFormRows : List ℕ → List ℕ → List ℕ → List Row
+sweptFormRows p l s = (12, (t : Term) × Filled p l s t × (sweptRecords < largest t)) ∷ []
 
 -- "Output table shorter than the swept form"
-abbrev pub output : List ℕ → List ℕ → List ℕ → List ℕ → List Row
-output p l s o = (13, (t : Term) × Filled p l s t × (length o < 4 * size (sweep t))) ∷ []
+abbrev pub outputRows : List ℕ → List ℕ → List ℕ → List ℕ → List Row
+outputRows p l s o = (13, (t : Term) × Filled p l s t × (length o < 4 * size (sweep t))) ∷ []
 
 -- "Rewrite: the assignment isn't a match of left", for the recipe's table r
 abbrev pub Matches : List ℕ → List ℕ → List ℕ → List ℕ → Type 0
 Matches p l s r = (t : Term) × Filled p l s t × IsTable r (sweep t)
 
-abbrev pub unmatched : List ℕ → List ℕ → List ℕ → List ℕ → List Row
-unmatched p l s r = (14, ¬ Matches p l s r) ∷ []
+abbrev pub unmatchedRows : List ℕ → List ℕ → List ℕ → List ℕ → List Row
+unmatchedRows p l s r = (14, ¬ Matches p l s r) ∷ []

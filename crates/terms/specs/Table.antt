@@ -1,6 +1,6 @@
 -- Records and tables, as document 01's section "Records and terms" has them. Record and table are the document's words.
 --   applicationKind, abstractionKind, localKind, constantKind, variableKind   the numbers of the five kinds
---   bytes k n rest    the four bytes of a record of kind k and number n, and then rest
+--   recordBytes k n rest   the four bytes of a record of kind k and number n, and then rest
 --   recordOf k z h l  the kind and the number of the record with these four bytes, if they are one
 --   allowed v r       a record's rule, where v variables are allowed
 --   goodRecords v l   the table l is whole records, each allowed
@@ -32,8 +32,8 @@ abbrev pub variableKind : ℕ
 variableKind = 4
 
 -- "A term is a table of 4-byte records, no header: kind, a zero byte, and a 16-bit number, high byte first."
-abbrev pub bytes : ℕ → ℕ → List ℕ → List ℕ
-bytes k n rest = k ∷ 0 ∷ (n / 256) ∷ (n % 256) ∷ rest
+abbrev pub recordBytes : ℕ → ℕ → List ℕ → List ℕ
+recordBytes k n rest = k ∷ 0 ∷ (n / 256) ∷ (n % 256) ∷ rest
 
 abbrev pub recordOf : ℕ → ℕ → ℕ → ℕ → Option (ℕ × ℕ)
 recordOf k z h l = cond (eqb z 0) (some (k, h * 256 + l)) none
@@ -62,7 +62,7 @@ preorder w (con n) = w constantKind n []
 preorder w (var n) = w variableKind n []
 
 abbrev pub encode : Term → List ℕ
-encode t = preorder bytes t
+encode t = preorder recordBytes t
 
 -- "A term uses its whole table as one tree and every local has its binder."
 abbrev pub IsTable : List ℕ → Term → Type 0

@@ -4,9 +4,10 @@
 // ends, and that a recipe's length is within its room. It rests on `rewriting` for the swept forms, on `test_draw`, which draws terms, and
 // on `test_matches`, which makes assignments.
 
-use assignments::LINE;
 use notation::put;
 use notation::within;
+use records::LINE;
+use records::RECIPE_RECORDS;
 use records::RECORD;
 use records::TABLE_BYTES;
 use records::VARIABLES;
@@ -20,13 +21,15 @@ use test_scan::agreement::value_at;
 use test_scan::scan::variables;
 ghost use lib.ListN.{length};
 ghost use mathlib.Core.Path.{_≡_};
+ghost use Prim.Native.Nat.{_*_};
 ghost use Rattle.io.specs.Counts.{Counts};
+ghost use Rattle.terms.specs.Figures.{recipeRecords};
 
 // Room for the entries of the enumerated terms.
 pub const ENTRIES: usize = 4096;
 
 // Room for a pattern or a recipe.
-pub const SHORT: usize = 384;
+pub const SHORT: usize = RECORD * RECIPE_RECORDS;
 
 // Room for a random recipe: of a longer one, a random pattern with all variables can have more lines than there is room for.
 pub const RANDOM_RECIPE: usize = 48;
@@ -41,7 +44,7 @@ const FOUR_RECORDS: usize = 52;
 
 // Each large array is from a function of its own: a proof then has its length, and no literal to compute with.
 pub fn short() -> [u8; SHORT]
-    ensures { λ r. ⌜ 384 ≡ length r ⌝ }
+    ensures { λ r. ⌜ 4 * recipeRecords ≡ length r ⌝ }
 {
     [0; SHORT]
 }
@@ -173,7 +176,8 @@ pub fn put_recipe(
 
 fn size(shape: usize, seed: &mut u64) -> usize {
     if shape == test_draw::generate::ALL {
-        return 17 + draw(seed, 5);
+        // as many variables as there are have one application fewer
+        return 2 * VARIABLES + 1 + draw(seed, 5);
     }
     3 + draw(seed, 8)
 }

@@ -6,7 +6,7 @@
 // line must rise above the one before, have its values where document 01 puts them, and match however its open variables are filled; the
 // bytes behind stay and the work area is zero. The enumeration doesn't use the search. The program prints what it compared and how many of
 // each outcome. It promises that it is safe and that it ends; `matcher` promises the rest. It rests on `notation` to read the cases, on
-// `test_cases` to draw random ones, and on `test_trials` to try them.
+// `test_pool` for the terms, on `test_trials` to try an example, and on `test_groups` for random cases.
 //
 // A case is one line of fields, each ended by `;` or the line:
 //     NAME; list; PATTERN; RECIPE; COUNT; REFUSAL
@@ -27,13 +27,11 @@ use notation::say;
 use notation::say_heading;
 use notation::within;
 use records::RECORD;
-use test_cases::RANDOM_RECIPE;
-use test_cases::draw_pattern;
-use test_cases::draw_terms;
 use test_cases::entry_room;
 use test_cases::example_terms;
-use test_cases::put_recipe;
 use test_cases::short;
+use test_groups::try_group;
+use test_totals::NUMBERS;
 use test_totals::SIZE;
 use test_totals::add_all;
 use test_totals::say_example;
@@ -44,7 +42,7 @@ use test_trials::try_case;
 
 // The number of the refusal that is expected, or 0.
 fn refusal_in(case: &[u8]) -> usize {
-    bytes_in(field(case, 5), 0) % 16
+    bytes_in(field(case, 5), 0) % NUMBERS
 }
 
 // Tries an example, and gives the count.
@@ -67,44 +65,12 @@ fn run_example(case: &[u8], entries: &[u8], values: &[u8], all: &mut [u64; SIZE]
     add_all(all, &totals);
 }
 
-// Tries a pattern with a random recipe.
-fn try_recipe(
-    pattern: &[u8],
-    terms: &[u8],
-    entries: &[u8],
-    values: &[u8],
-    seed: &mut u64,
-    totals: &mut [u64; SIZE],
-) {
-    let mut r = [0u8; RANDOM_RECIPE];
-    let end = put_recipe(pattern, terms, entries, values, seed, &mut r);
-    try_case(pattern, &r[..end], terms, values, totals);
-}
-
-fn run_random(
-    shape: usize,
-    seed: &mut u64,
-    entries: &[u8],
-    values: &[u8],
-    totals: &mut [u64; SIZE],
-) {
-    let mut p = short();
-    let mut t = entry_room();
-    let pattern = draw_pattern(shape, seed, &mut p);
-    let terms = draw_terms(pattern, entries, seed, &mut t);
-    try_recipe(pattern, terms, entries, values, seed, totals);
-}
-
 fn run_group(case: &[u8], entries: &[u8], values: &[u8], all: &mut [u64; SIZE]) {
     let mut totals = [0u64; SIZE];
     let shape = bytes_in(field(case, 2), 0);
-    let mut seed = bytes_in(field(case, 3), 0) as u64;
+    let seed = bytes_in(field(case, 3), 0) as u64;
     let cases = bytes_in(field(case, 4), 0);
-    let mut i = 0;
-    while i < cases {
-        run_random(shape, &mut seed, entries, values, &mut totals);
-        i += 1;
-    }
+    try_group(shape, seed, cases, entries, values, &mut totals);
     say(field(case, 0));
     say_group(&totals);
     add_all(all, &totals);
@@ -139,7 +105,7 @@ fn run_all(cases: &[u8], entries: &[u8], values: &[u8], all: &mut [u64; SIZE]) {
 // Fills the part of the value table that list is not lent, and gives the bytes of the entries.
 fn fill_pool(values: &mut [u8], entries: &mut [u8]) -> usize {
     let lent = within(test_tables::LENT, values);
-    test_draw::pool::fill(&mut values[lent..], entries, test_tables::LENT / RECORD)
+    test_pool::fill(&mut values[lent..], entries, test_tables::LENT / RECORD)
 }
 
 fn run_with(entries: &[u8], values: &[u8]) {

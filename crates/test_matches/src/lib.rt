@@ -2,12 +2,14 @@
 //
 // Every assignment of the pattern's variables to given terms must be a match for both or for neither, and agree with exactly one line or
 // with none; every line must match however its open variables are filled, and be before the next. It promises that it is safe and ends. A
-// disagreement is counted. It rests on `rewriting`, which is tried, on `test_scan`, which reads the lines, and on `test_totals`.
+// disagreement is counted. It rests on `rewriting`, which is tried, on `test_scan`, which reads the lines, on `test_tables` for
+// their order, and on `test_totals`.
 
-use assignments::LINE;
 use notation::put_number;
 use notation::within;
+use records::LINE;
 use records::RECORD;
+use records::SWEPT_RECORDS;
 use records::TABLE_BYTES;
 use records::VARIABLES;
 use rewriting::CheckAnswer;
@@ -26,7 +28,7 @@ use test_totals::tally;
 use test_totals::tally_if;
 
 // The most bytes of a swept form.
-const SWEPT: usize = 1024;
+const SWEPT: usize = RECORD * SWEPT_RECORDS;
 
 // Fillings of each line that has an open entry.
 const FILLINGS: usize = 4;

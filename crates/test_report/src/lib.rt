@@ -2,13 +2,13 @@
 //
 // It promises that it is safe and ends, and how long the tables are. It rests on `notation`, and on `refusals` for a refusal's number.
 
-use assignments::LINE;
 use libc::STDOUT_FILENO;
 use notation::field;
 use notation::find;
 use notation::is_all;
 use notation::say;
 use notation::within;
+use records::LINE;
 use records::RECORD;
 use records::TABLE_BYTES;
 use refusals::Refusal;

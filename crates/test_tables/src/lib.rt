@@ -3,9 +3,9 @@
 // It promises that it is safe and ends, and how long the tables are. It rests on `test_scan`, which reads what was written, on `refusals`
 // for a refusal's number, and on `test_totals`.
 
-use assignments::LINE;
 use notation::is_all;
 use notation::within;
+use records::LINE;
 use records::RECORD;
 use records::TABLE_BYTES;
 use records::VARIABLES;
@@ -15,6 +15,7 @@ use test_scan::agreement::laid_out;
 use test_scan::agreement::line_at;
 use test_scan::scan::is_normal;
 use test_scan::scan::variables;
+use test_totals::NUMBERS;
 use test_totals::SIZE;
 use test_totals::add;
 use test_totals::tally;
@@ -105,7 +106,7 @@ pub fn tally_refusal(
     totals: &mut [u64; SIZE],
 ) {
     let number = refusals::number_of(c);
-    add(totals, test_totals::REFUSED + (number % 16) as usize, 1);
+    add(totals, test_totals::REFUSED + number as usize % NUMBERS, 1);
     tally_if(totals, test_totals::BEHIND, !is_all(lines, MARK));
     tally_if(
         totals,

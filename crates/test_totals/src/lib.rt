@@ -1,6 +1,6 @@
 // What the trials count, and how it is printed. The file of the examples names these totals by their numbers.
 //
-// It promises that it is safe and ends. It rests on `notation` alone.
+// It promises that it is safe and ends. It rests on `notation`, and on the kit's `io` to print numbers.
 
 use libc::STDOUT_FILENO;
 use notation::say;
@@ -22,8 +22,10 @@ pub const FILLINGS: usize = 6;
 
 pub const TOO_LONG: usize = 7;
 
-// Refusals of list by number, 1 to 15; 0 is for none.
+// Refusals of list by number, of which there are fewer than `NUMBERS`; 0 is for none.
 pub const REFUSED: usize = 8;
+
+pub const NUMBERS: usize = 16;
 
 // What the patterns had.
 pub const WITH_BETA: usize = 24;
@@ -153,7 +155,7 @@ pub fn say_example(totals: &[u64; SIZE], refusal: usize) {
 
 // Counts a count of lines, or a refusal, that is not the one expected.
 pub fn tally_expected(count: usize, expected: usize, refusal: usize, totals: &mut [u64; SIZE]) {
-    let refused = total(totals, REFUSED + refusal % 16);
+    let refused = total(totals, REFUSED + refusal % NUMBERS);
     tally_if(totals, NUMBER, count != expected);
     tally_if(totals, NUMBER, refused != 1);
 }

@@ -1,7 +1,8 @@
 // One pattern and one recipe tried: its listing set against all assignments over enumerated values, and what came of it counted.
 //
 // It promises that it is safe and ends. A disagreement is counted, and the program prints the counts. It rests on `matcher`, which is
-// tried, on `test_matches`, which tries each line and each assignment, and on `test_scan`, which reads what was written.
+// tried, on `test_matches`, which tries each line and each assignment, and on `test_tables`, which lends the tables and tries their
+// layout.
 
 use enumeration::ListAnswer;
 use notation::is_all;

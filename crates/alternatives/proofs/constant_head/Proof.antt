@@ -2,7 +2,7 @@
 -- target; it has the target's locals. Assumes nothing.
 use native.Mathlib.Omega.{arith}
 use Rattle.alternatives.proofs.Alternatives.{constant-lacking, raises, raised, raised-within, constant-pushes, constant-pushed}
-use Rattle.arguments.proofs.Applications.{target-place}
+use Rattle.arguments.proofs.Applications.{application-target-within}
 use borrow.Author.Needs.{needs}
 use Rattle.alternatives.proofs.constant_head.Statement.{statement}
 use Rattle.alternatives.proofs.constant_head.Tie as tie
@@ -14,10 +14,10 @@ goal-at-requires : tie.Need-goal-at-requires
 goal-at-requires c κs = search needs
 
 sub-shift-into : tie.Need-sub-shift-into
-sub-shift-into c = search (needs, target-place)
+sub-shift-into c = search (needs, application-target-within)
 
 part-shift-into-start : tie.Need-part-shift-into-start
-part-shift-into-start c = search (needs, target-place)
+part-shift-into-start c = search (needs, application-target-within)
 
 part-shift-into-end : tie.Need-part-shift-into-end
 part-shift-into-end c = search needs

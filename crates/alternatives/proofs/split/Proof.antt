@@ -1,8 +1,8 @@
 -- `alternatives::split` meets its contract. Two goals are written at the top, for the two parts of the target. Assumes nothing.
 use native.Mathlib.Omega.{arith}
 use Rattle.records.proofs.Parts.{whole-head}
-use Rattle.arguments.proofs.Applications.{stored-bounds, live, died, fits-match}
-use Rattle.alternatives.proofs.Alternatives.{no-parts, parts-pushed}
+use Rattle.arguments.proofs.Applications.{stored-bounds, branch-next, branch-failed, fits-match}
+use Rattle.alternatives.proofs.Alternatives.{no-parts, way-parts-pushed}
 use borrow.Author.Needs.{needs}
 use Rattle.alternatives.proofs.split.Statement.{statement}
 use Rattle.alternatives.proofs.split.Tie as tie
@@ -24,7 +24,7 @@ same-length : tie.Need-same-length
 same-length c = search needs
 
 returns : tie.Need-returns
-returns c = search (needs, died, no-parts)
+returns c = search (needs, branch-failed, no-parts)
 
 add-end-at : tie.Need-add-end-at
 add-end-at c = search needs
@@ -118,7 +118,7 @@ returns-2 c =
     let else1 : tie.Else1 = search in
     let goal-at : tie.After-goal-at = search in
     let start : tie.Start = search in
-    search (needs, live, parts-pushed)
+    search (needs, branch-next, way-parts-pushed)
 
 pub split-spec : {M : Type 1} → statement M
 split-spec =

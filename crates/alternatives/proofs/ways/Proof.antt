@@ -1,8 +1,8 @@
 -- `alternatives::ways` meets its contract. The end of the target tells how many records it has, and the end of the head where the
 -- argument begins, whose skeleton is a skeleton in every state that stands there. Assumes nothing.
 use Rattle.arguments.proofs.Applications.{stored-bounds}
-use Rattle.alternatives.proofs.Alternatives.{argument-walkable, argument-source, locals, counted}
-use Rattle.arguments.proofs.Applications.{head-place, target-place, argument-place, argument-whole-slice}
+use Rattle.alternatives.proofs.Alternatives.{argument-walkable, argument-source, head-locals, ways-counted}
+use Rattle.arguments.proofs.Applications.{head-place, application-target-within, application-argument-within, argument-whole-slice}
 use Rattle.alternatives.proofs.Alternatives.{depths-room}
 use borrow.Author.Needs.{needs}
 use Rattle.alternatives.proofs.ways.Statement.{statement}
@@ -26,10 +26,10 @@ end-at-requires-2 c κs =
     stored-bounds _ _ _ _ (start .pre) _ (goal-at .goal-at .ensures .0) .head
 
 sub-part : tie.Need-sub-part
-sub-part c = search (needs, argument-place)
+sub-part c = search (needs, application-argument-within)
 
 part-part-start : tie.Need-part-part-start
-part-part-start c = search (needs, argument-place)
+part-part-start c = search (needs, application-argument-within)
 
 part-part-end : tie.Need-part-part-end
 part-part-end c = search needs
@@ -57,22 +57,22 @@ part-lacks-local-end : tie.Need-part-lacks-local-end
 part-lacks-local-end c = search needs
 
 sub-lacks-local-2 : tie.Need-sub-lacks-local-2
-sub-lacks-local-2 c = search (needs, target-place)
+sub-lacks-local-2 c = search (needs, application-target-within)
 
 part-lacks-local-start-2 : tie.Need-part-lacks-local-start-2
-part-lacks-local-start-2 c = search (needs, target-place)
+part-lacks-local-start-2 c = search (needs, application-target-within)
 
 part-lacks-local-end-2 : tie.Need-part-lacks-local-end-2
 part-lacks-local-end-2 c = search needs
 
 lacks-local-requires : tie.Need-lacks-local-requires
-lacks-local-requires c κs = search (needs, locals)
+lacks-local-requires c κs = search (needs, head-locals)
 
 sub-depths-into : tie.Need-sub-depths-into
-sub-depths-into c = search (needs, target-place)
+sub-depths-into c = search (needs, application-target-within)
 
 part-depths-into-start : tie.Need-part-depths-into-start
-part-depths-into-start c = search (needs, target-place)
+part-depths-into-start c = search (needs, application-target-within)
 
 part-depths-into-end : tie.Need-part-depths-into-end
 part-depths-into-end c = search needs
@@ -90,7 +90,7 @@ add-t32 : tie.Need-add-t32
 add-t32 c = search needs
 
 returns : tie.Need-returns
-returns c = search (needs, counted)
+returns c = search (needs, ways-counted)
 
 pub ways-spec : {M : Type 1} → statement M
 ways-spec =

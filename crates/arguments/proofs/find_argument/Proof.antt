@@ -3,11 +3,11 @@
 use mathlib.Core.Path.{_∙_}
 use borrow.Author.Tests.{not-true}
 use native.Mathlib.Omega.{arith}
-use Rattle.arguments.proofs.Applications.{head-place, argument-place, argument-whole-slice}
+use Rattle.arguments.proofs.Applications.{head-place, application-argument-within, argument-whole-slice}
 use Rattle.arguments.proofs.Applications.{argument-ends}
-use Rattle.arguments.proofs.Arguments.{places, depth, few-records, part-place, part-whole-slice, unlike, no-argument}
-use Rattle.arguments.proofs.Arguments.{ending, looks, top-whole, target-within, top-within}
-use Rattle.arguments.proofs.Arguments.{comparable, unfitting, again, lacking, argument-room, found}
+use Rattle.arguments.proofs.Arguments.{places, depth, few-records, target-part-within, part-whole-slice, unlike, no-argument}
+use Rattle.arguments.proofs.Arguments.{ending, looks, top-whole, pushed-target-within, top-within}
+use Rattle.arguments.proofs.Arguments.{comparable, unfitting, again, lacking, argument-room, argument-found}
 use Rattle.deciding.proofs.Refutations.{skeleton-comparable}
 use borrow.Author.Needs.{needs}
 use Rattle.arguments.proofs.find_argument.Statement.{statement}
@@ -27,10 +27,10 @@ goal-at-requires : tie.Need-goal-at-requires
 goal-at-requires c κs = search needs
 
 sub-heads-agree : tie.Need-sub-heads-agree
-sub-heads-agree c = search (needs, argument-place, argument-ends)
+sub-heads-agree c = search (needs, application-argument-within, argument-ends)
 
 part-heads-agree-start : tie.Need-part-heads-agree-start
-part-heads-agree-start c = search (needs, argument-place, argument-ends)
+part-heads-agree-start c = search (needs, application-argument-within, argument-ends)
 
 part-heads-agree-end : tie.Need-part-heads-agree-end
 part-heads-agree-end c = search needs
@@ -39,19 +39,19 @@ mul-heads-agree : tie.Need-mul-heads-agree
 mul-heads-agree c =
     let goal-at : tie.After-goal-at = search in
     let start : tie.Start = search in
-    omega (arith, part-place _ _ _ _ (start .pre .0) _ (goal-at .goal-at .ensures .0) _ _ (start .pre .1) (start .pre .2))
+    omega (arith, target-part-within _ _ _ _ (start .pre .0) _ (goal-at .goal-at .ensures .0) _ _ (start .pre .1) (start .pre .2))
 
 add-heads-agree : tie.Need-add-heads-agree
 add-heads-agree c =
     let goal-at : tie.After-goal-at = search in
     let start : tie.Start = search in
-    omega (arith, part-place _ _ _ _ (start .pre .0) _ (goal-at .goal-at .ensures .0) _ _ (start .pre .1) (start .pre .2))
+    omega (arith, target-part-within _ _ _ _ (start .pre .0) _ (goal-at .goal-at .ensures .0) _ _ (start .pre .1) (start .pre .2))
 
 sub-heads-agree-2 : tie.Need-sub-heads-agree-2
-sub-heads-agree-2 c = search (needs, part-place)
+sub-heads-agree-2 c = search (needs, target-part-within)
 
 part-heads-agree-start-2 : tie.Need-part-heads-agree-start-2
-part-heads-agree-start-2 c = search (needs, part-place)
+part-heads-agree-start-2 c = search (needs, target-part-within)
 
 part-heads-agree-end-2 : tie.Need-part-heads-agree-end-2
 part-heads-agree-end-2 c = search needs
@@ -135,10 +135,10 @@ returns-3 c =
     (placed .placed .given .1) _ (start .pre .1) _ (c .before .may-be .ensures) (not-true _ (c .if3 .taken))
 
 sub-occurs-before : tie.Need-sub-occurs-before
-sub-occurs-before c = search (needs, target-within)
+sub-occurs-before c = search (needs, pushed-target-within)
 
 part-occurs-before-start : tie.Need-part-occurs-before-start
-part-occurs-before-start c = search (needs, target-within)
+part-occurs-before-start c = search (needs, pushed-target-within)
 
 part-occurs-before-end : tie.Need-part-occurs-before-end
 part-occurs-before-end c = search needs
@@ -182,12 +182,12 @@ part-misses-local-end c = search needs
 sub-misses-local-2 : tie.Need-sub-misses-local-2
 sub-misses-local-2 c =
     let placed : tie.After-placed = search in
-    search (needs, target-within)
+    search (needs, pushed-target-within)
 
 part-misses-local-start-2 : tie.Need-part-misses-local-start-2
 part-misses-local-start-2 c =
     let placed : tie.After-placed = search in
-    search (needs, target-within)
+    search (needs, pushed-target-within)
 
 part-misses-local-end-2 : tie.Need-part-misses-local-end-2
 part-misses-local-end-2 c = search needs
@@ -248,7 +248,7 @@ returns-6 c =
     let goal-at = stored-before placed in
     let start : tie.Start = search in
     let place-argument = place-before placed in
-    found _ _ _ _ (start .pre .0) _ (goal-at .goal-at .ensures .0) _ _ _ _
+    argument-found _ _ _ _ (start .pre .0) _ (goal-at .goal-at .ensures .0) _ _ _ _
     (place-argument .place-argument .ensures) (placed .placed .given .1) _ _ _ _
     (argument-ends _ _ _ _ (start .pre .0) _ (goal-at .goal-at .ensures .0) _ (start .pre .1)) (occurs-before .occurs-before .ensures)
     (else4 .if4 .left) (push-argument .push-argument .ensures)

@@ -1,7 +1,7 @@
 -- `arguments::place_argument` meets its contract. A part that can be moved out of the binders above it is written at the top; no
 -- other one is an argument. Assumes nothing.
 use native.Mathlib.Omega.{arith}
-use Rattle.arguments.proofs.Arguments.{lowers, stuck, part-within, moved-end, copied-room, placed}
+use Rattle.arguments.proofs.Arguments.{lowers, stuck, argument-part-within, moved-end, copied-room, placed}
 use borrow.Author.Needs.{needs}
 use Rattle.arguments.proofs.place_argument.Statement.{statement}
 use Rattle.arguments.proofs.place_argument.Tie as tie
@@ -13,10 +13,10 @@ add-part : tie.Need-add-part
 add-part c = search needs
 
 sub-lower-into : tie.Need-sub-lower-into
-sub-lower-into c = search (needs, part-within)
+sub-lower-into c = search (needs, argument-part-within)
 
 part-lower-into-start : tie.Need-part-lower-into-start
-part-lower-into-start c = search (needs, part-within)
+part-lower-into-start c = search (needs, argument-part-within)
 
 part-lower-into-end : tie.Need-part-lower-into-end
 part-lower-into-end c = search needs

@@ -1,7 +1,7 @@
 -- `arguments::push_argument` meets its contract: two goals are written, one behind the other. Assumes nothing.
 use native.Mathlib.Omega.{arith}
 use Rattle.arguments.proofs.Applications.{fits-as}
-use Rattle.arguments.proofs.Arguments.{pushed}
+use Rattle.arguments.proofs.Arguments.{argument-pushed}
 use borrow.Author.Needs.{needs}
 use Rattle.arguments.proofs.push_argument.Statement.{statement}
 use Rattle.arguments.proofs.push_argument.Tie as tie
@@ -43,7 +43,7 @@ same-length : tie.Need-same-length
 same-length c = search needs
 
 returns : tie.Need-returns
-returns c = search (needs, pushed)
+returns c = search (needs, argument-pushed)
 
 pub push-argument-spec : {M : Type 1} → statement M
 push-argument-spec =

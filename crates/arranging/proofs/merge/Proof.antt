@@ -3,7 +3,7 @@
 use Prim.Native.Nat.{_+_, _-_}
 use native.Mathlib.Omega.{arith}
 use lib.ListN.{length}
-use Rattle.arranging.proofs.Merging.{MergingOn, going-on, going-end}
+use Rattle.arranging.proofs.Merging.{MergingOn, going-on, merging-end}
 use borrow.Author.Needs.{needs}
 use Rattle.arranging.proofs.merge.Statement.{statement}
 use Rattle.arranging.proofs.merge.Tie as tie
@@ -36,7 +36,7 @@ same-length : tie.Need-same-length Inv-loop μ-loop
 same-length c = search needs
 
 returns : tie.Need-returns Inv-loop μ-loop
-returns c = search (needs, going-end)
+returns c = search (needs, merging-end)
 
 pub merge-spec : {M : Type 1} → statement M
 merge-spec =

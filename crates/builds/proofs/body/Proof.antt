@@ -3,7 +3,7 @@
 use native.Mathlib.Omega.{arith}
 use borrow.Author.Tests.{not-true, not-false}
 use Rattle.builds.proofs.Building.{choosing, end-within, bodied, choices-within, used-chosen, unused, body-tree, pushes, eta}
-use Rattle.builds.proofs.Building.{stored-pushed, target-within, argument-within}
+use Rattle.builds.proofs.Building.{stored-pushed, build-target-within, build-argument-within}
 use borrow.Author.Needs.{needs}
 use Rattle.builds.proofs.body.Statement.{statement}
 use Rattle.builds.proofs.body.Tie as tie
@@ -12,19 +12,19 @@ goal-at-requires : tie.Need-goal-at-requires
 goal-at-requires c κs = search needs
 
 sub-body-into : tie.Need-sub-body-into
-sub-body-into c = search (needs, target-within)
+sub-body-into c = search (needs, build-target-within)
 
 part-body-into-start : tie.Need-part-body-into-start
-part-body-into-start c = search (needs, target-within)
+part-body-into-start c = search (needs, build-target-within)
 
 part-body-into-end : tie.Need-part-body-into-end
 part-body-into-end c = search needs
 
 sub-body-into-2 : tie.Need-sub-body-into-2
-sub-body-into-2 c = search (needs, argument-within)
+sub-body-into-2 c = search (needs, build-argument-within)
 
 part-body-into-start-2 : tie.Need-part-body-into-start-2
-part-body-into-start-2 c = search (needs, argument-within)
+part-body-into-start-2 c = search (needs, build-argument-within)
 
 part-body-into-end-2 : tie.Need-part-body-into-end-2
 part-body-into-end-2 c = search needs

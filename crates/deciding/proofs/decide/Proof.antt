@@ -2,7 +2,7 @@
 -- targets; else it may refuse the goal. Each way out is one law. Assumes nothing.
 use native.Mathlib.Omega.{arith}
 use borrow.Author.Tests.{not-false}
-use Rattle.deciding.proofs.Decisions.{part-place, walkable, decided-open, comparing, decided-dead, decided-live}
+use Rattle.deciding.proofs.Decisions.{deferred-part-within, walkable, undecided, deferred-comparing, known-failed, known-next}
 use Rattle.deciding.proofs.Refutations.{part-source, skeleton-tree, judges, decided-refused, exact-form}
 use borrow.Author.Needs.{needs}
 use Rattle.deciding.proofs.decide.Statement.{statement}
@@ -12,10 +12,10 @@ goal-at-requires : tie.Need-goal-at-requires
 goal-at-requires c κs = search needs
 
 sub-part : tie.Need-sub-part
-sub-part c = search (needs, part-place)
+sub-part c = search (needs, deferred-part-within)
 
 part-part-start : tie.Need-part-part-start
-part-part-start c = search (needs, part-place)
+part-part-start c = search (needs, deferred-part-within)
 
 part-part-end : tie.Need-part-part-end
 part-part-end c = search needs
@@ -54,7 +54,7 @@ is-possible-requires : tie.Need-is-possible-requires
 is-possible-requires c κs = search (needs, judges)
 
 returns : tie.Need-returns
-returns c = decided-open _ _ _ _
+returns c = undecided _ _ _ _
 
 returns-2 : tie.Need-returns-2
 returns-2 c = search (needs, decided-refused)
@@ -75,7 +75,7 @@ is-met-requires c κs =
     let skeleton-of : tie.After-skeleton-of = search in
     let goal-at : tie.After-goal-at = search in
     let start : tie.Start = search in
-    comparing _ _ _ _ (start .pre .0) (start .pre .1) _ (goal-at .goal-at .ensures .0) _
+    deferred-comparing _ _ _ _ (start .pre .0) (start .pre .1) _ (goal-at .goal-at .ensures .0) _
     (exact-form _ _ _ _ (start .pre .0) (start .pre .1) _ (goal-at .goal-at .ensures .0) _ _ (skeleton-of .skeleton-of .ensures)
     (is-exact .is-exact .result) (not-false _ (else1 .if1 .left)) (is-exact .is-exact .ensures))
 
@@ -90,7 +90,7 @@ returns-3 c =
     let skeleton-of : tie.After-skeleton-of = search in
     let goal-at : tie.After-goal-at = search in
     let start : tie.Start = search in
-    decided-live _ _ _ _ (start .pre .0) (start .pre .1) _ (goal-at .goal-at .ensures .0) _
+    known-next _ _ _ _ (start .pre .0) (start .pre .1) _ (goal-at .goal-at .ensures .0) _
     (exact-form _ _ _ _ (start .pre .0) (start .pre .1) _ (goal-at .goal-at .ensures .0) _ _ (skeleton-of .skeleton-of .ensures)
     (is-exact .is-exact .result) (not-false _ (else1 .if1 .left)) (is-exact .is-exact .ensures)) _ (is-met .is-met .ensures)
     (c .before .if3 .taken)
@@ -103,7 +103,7 @@ returns-4 c =
     let skeleton-of : tie.After-skeleton-of = search in
     let goal-at : tie.After-goal-at = search in
     let start : tie.Start = search in
-    decided-dead _ _ _ _ (start .pre .0) (start .pre .1) _ (goal-at .goal-at .ensures .0) _
+    known-failed _ _ _ _ (start .pre .0) (start .pre .1) _ (goal-at .goal-at .ensures .0) _
     (exact-form _ _ _ _ (start .pre .0) (start .pre .1) _ (goal-at .goal-at .ensures .0) _ _ (skeleton-of .skeleton-of .ensures)
     (is-exact .is-exact .result) (not-false _ (else1 .if1 .left)) (is-exact .is-exact .ensures)) _ (is-met .is-met .ensures)
     (c .if3 .left)

@@ -1,6 +1,6 @@
 -- `deciding::is_met` meets its contract. Tables are equal exactly if their terms are, and what solves a goal to build is asked of the parts
 -- that stand in the work area. Assumes nothing.
-use Rattle.deciding.proofs.Decisions.{compared-match, argument-within, solving-swept, compared-build}
+use Rattle.deciding.proofs.Decisions.{compared-match, deferred-argument-within, solving-swept, compared-build}
 use borrow.Author.Needs.{needs}
 use Rattle.deciding.proofs.is_met.Statement.{statement}
 use Rattle.deciding.proofs.is_met.Tie as tie
@@ -24,10 +24,10 @@ returns : tie.Need-returns
 returns c = search (needs, compared-match)
 
 sub-is-solved : tie.Need-sub-is-solved
-sub-is-solved c = search (needs, argument-within)
+sub-is-solved c = search (needs, deferred-argument-within)
 
 part-is-solved-start : tie.Need-part-is-solved-start
-part-is-solved-start c = search (needs, argument-within)
+part-is-solved-start c = search (needs, deferred-argument-within)
 
 part-is-solved-end : tie.Need-part-is-solved-end
 part-is-solved-end c = search needs

@@ -1,15 +1,16 @@
 -- `deciding::is_possible` meets its contract: each way out is one law of goals that a skeleton refuses, by the goal's kind and the
 -- skeleton's first record. Assumes nothing.
-use Rattle.deciding.proofs.Refutations.{target-place, argument-place, possible, possible-match, possible-other, possible-build}
+use Rattle.deciding.proofs.Refutations.{judged-target-within, judged-argument-within, possible, possible-match, possible-other}
+use Rattle.deciding.proofs.Refutations.{possible-build}
 use borrow.Author.Needs.{needs}
 use Rattle.deciding.proofs.is_possible.Statement.{statement}
 use Rattle.deciding.proofs.is_possible.Tie as tie
 
 sub-target : tie.Need-sub-target
-sub-target c = search (needs, target-place)
+sub-target c = search (needs, judged-target-within)
 
 part-target-start : tie.Need-part-target-start
-part-target-start c = search (needs, target-place)
+part-target-start c = search (needs, judged-target-within)
 
 part-target-end : tie.Need-part-target-end
 part-target-end c = search needs
@@ -33,10 +34,10 @@ returns-3 : tie.Need-returns-3
 returns-3 c = search (needs, possible-other)
 
 sub-may-build : tie.Need-sub-may-build
-sub-may-build c = search (needs, argument-place)
+sub-may-build c = search (needs, judged-argument-within)
 
 part-may-build-start : tie.Need-part-may-build-start
-part-may-build-start c = search (needs, argument-place)
+part-may-build-start c = search (needs, judged-argument-within)
 
 part-may-build-end : tie.Need-part-may-build-end
 part-may-build-end c = search needs

@@ -12,10 +12,12 @@ number-of-requires : tie.Need-number-of-requires
 number-of-requires c κs = search needs
 
 cast-number : tie.Need-cast-number
-cast-number c = fits-records _ (omega (arith, c .number-of .ensures, number-few (c .before .args .c)))
+cast-number c = fits-records _ (omega (arith, c .number-of .ensures, number-few (c .before .args .refusal)))
 
 sub-result : tie.Need-sub-result
-sub-result c = subst (SFits w64) (sym (minus-number (c .before .args .c) _ (c .number-of .ensures))) (fits-refusal (c .before .args .c))
+sub-result c =
+    subst (SFits w64) (sym (minus-number (c .before .args .refusal) _ (c .number-of .ensures)))
+    (fits-refusal (c .before .args .refusal))
 
 returns : tie.Need-returns
 returns c = search (needs, handed-on, minus-number, fits-refusal)

@@ -8,8 +8,8 @@ use borrow.Author.Needs.{needs}
 use Rattle.listing.proofs.write_entry.Statement.{statement}
 use Rattle.listing.proofs.write_entry.Tie as tie
 
-enum-known-e : tie.Need-enum-known-e
-enum-known-e c = search needs
+enum-known-entry : tie.Need-enum-known-entry
+enum-known-entry c = search needs
 
 enum-told : tie.Need-enum-told
 enum-told c = search needs
@@ -37,32 +37,32 @@ add-put-word-2 c = search needs
 
 put-word-requires-4 : tie.Need-put-word-requires-4
 put-word-requires-4 c κs =
-    let e : tie.After-e = search in
+    let entry : tie.After-entry = search in
     let start : tie.Start = search in
-    let h = assigned-entry _ _ _ _ (start .pre .stands) (e .e .given .1) in
+    let h = assigned-entry _ _ _ _ (start .pre .stands) (entry .entry .given .1) in
     search needs
 
 value-of-requires : tie.Need-value-of-requires
 value-of-requires c κs =
-    let e : tie.After-e = search in
+    let entry : tie.After-entry = search in
     let start : tie.Start = search in
-    assigned-entry _ _ _ _ (start .pre .stands) (e .e .given .1) .within
+    assigned-entry _ _ _ _ (start .pre .stands) (entry .entry .given .1) .within
 
 mul-copy-into : tie.Need-mul-copy-into
 mul-copy-into c = search needs
 
 copy-into-requires : tie.Need-copy-into-requires
 copy-into-requires c κs =
-    let e : tie.After-e = search in
+    let entry : tie.After-entry = search in
     let start : tie.Start = search in
-    let h = assigned-entry _ _ _ _ (start .pre .stands) (e .e .given .1) in
+    let h = assigned-entry _ _ _ _ (start .pre .stands) (entry .entry .given .1) in
     omega (arith, ap length (c .before .value-of .ensures) ∙ ap length (h .bytes) ∙ entry-values-length (start .pre .entry))
 
 add-result : tie.Need-add-result
 add-result c =
-    let e : tie.After-e = search in
+    let entry : tie.After-entry = search in
     let start : tie.Start = search in
-    let h = assigned-entry _ _ _ _ (start .pre .stands) (e .e .given .1) in
+    let h = assigned-entry _ _ _ _ (start .pre .stands) (entry .entry .given .1) in
     search needs
 
 same-length-2 : tie.Need-same-length-2
@@ -78,7 +78,7 @@ pub write-entry-spec : {M : Type 1} → statement M
 write-entry-spec =
     tie.close
     (tie.spec
-    enum-known-e
+    enum-known-entry
     enum-told
     put-word-requires
     add-put-word

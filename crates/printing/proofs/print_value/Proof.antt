@@ -1,7 +1,7 @@
 -- `printing::print_value` is safe and ends. A value has no more records than the value table, so its printed line has room.
 -- Assumes nothing.
 use lib.Seq.{length-take-le}
-use Rattle.printing.proofs.Rooms.{value-fits}
+use Rattle.printing.proofs.Rooms.{value-room}
 use borrow.Author.Needs.{needs}
 use Rattle.printing.proofs.print_value.Statement.{statement}
 use Rattle.printing.proofs.print_value.Tie as tie
@@ -10,7 +10,7 @@ value-of-requires : tie.Need-value-of-requires
 value-of-requires c κs = search needs
 
 put-entry-requires : tie.Need-put-entry-requires
-put-entry-requires c κs = search (needs, value-fits)
+put-entry-requires c κs = search (needs, value-room)
 
 slice-reshare-prefix-say : tie.Need-slice-reshare-prefix-say
 slice-reshare-prefix-say c = search needs

@@ -18,7 +18,7 @@ same-length : tie.Need-same-length
 same-length c = search needs
 
 returns : tie.Need-returns
-returns c = (puts _ _ _ _ _ (c .args .b ∷ []) refl (omega arith) refl, refl)
+returns c = (puts _ _ _ _ _ (c .args .byte ∷ []) refl (omega arith) refl, refl)
 
 pub put-spec : {M : Type 1} → statement M
 put-spec = tie.close (tie.spec slice-write-out add-result same-length returns)

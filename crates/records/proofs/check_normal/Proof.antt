@@ -45,7 +45,7 @@ returns-4 c =
     let shared-slice-known : tie.After-shared-slice-known = search in
     let start : tie.Start = search in
     let x = checked _ _ _ _ _ (check-table .check-table .ensures) (enum-told4 .enum-told4 .given .1) in
-    normal-right (start .args .most) (start .args .s .now) (λ i. omega (arith, shared-slice-known .shared-slice-known .given i)) x
+    normal-right (start .args .most) (start .args .table .now) (λ i. omega (arith, shared-slice-known .shared-slice-known .given i)) x
     (λ t e. says (Normal t) _ _ (c .before .is-normal .ensures t e) (c .if1 .taken))
 
 returns-5 : tie.Need-returns-5
@@ -54,7 +54,8 @@ returns-5 c =
     let check-table : tie.After-check-table = search in
     let start : tie.Start = search in
     let x = checked _ _ _ _ _ (check-table .check-table .ensures) (enum-told4 .enum-told4 .given .1) in
-    normal-not (start .args .most) (start .args .s .now) x (λ t e. says (Normal t) _ _ (c .before .is-normal .ensures t e) (c .if1 .left))
+    normal-not (start .args .most) (start .args .table .now) x
+    (λ t e. says (Normal t) _ _ (c .before .is-normal .ensures t e) (c .if1 .left))
 
 pub check-normal-spec : {M : Type 1} → statement M
 check-normal-spec =

@@ -4,7 +4,7 @@ use native.Mathlib.Omega.{arith}
 use borrow.Author.Tests.{not-true, not-false}
 use Rattle.records.specs.Checks.{OneTerm}
 use Rattle.records.proofs.Tests.{says}
-use Rattle.records.proofs.Checks.{found-length, found-most, found-record, found-term, found-none}
+use Rattle.records.proofs.Checks.{length-checked, found-most, found-record, found-term, found-none}
 use borrow.Author.Needs.{needs}
 use Rattle.records.proofs.check_table.Statement.{statement}
 use Rattle.records.proofs.check_table.Tie as tie
@@ -13,7 +13,7 @@ is-bad-length-requires : tie.Need-is-bad-length-requires
 is-bad-length-requires c κs = search needs
 
 returns : tie.Need-returns
-returns c = search (needs, found-length)
+returns c = search (needs, length-checked)
 
 good-records-requires : tie.Need-good-records-requires
 good-records-requires c κs = search needs
@@ -31,7 +31,7 @@ is-one-term-requires c κs =
       record { allowed = start .args .variables; good = sym (c .before .good-records .ensures) ∙ not-false _ (c .if2 .left) },
       omega (
         arith,
-        found-most (start .args .most) (start .args .s .now) (is-bad-length .is-bad-length .result)
+        found-most (start .args .most) (start .args .table .now) (is-bad-length .is-bad-length .result)
             (is-bad-length .is-bad-length .ensures) (else1 .if1 .left),
       ),
     )
@@ -45,7 +45,7 @@ returns-3 c =
     let start : tie.Start = search in
     found-term _ _ (is-bad-length .is-bad-length .result) (is-bad-length .is-bad-length .ensures) (else1 .if1 .left) _
     (sym (good-records .good-records .ensures) ∙ not-false _ (else2 .if2 .left))
-    (says (OneTerm (start .args .s .now)) _ _ (c .before .is-one-term .ensures) (c .if3 .taken))
+    (says (OneTerm (start .args .table .now)) _ _ (c .before .is-one-term .ensures) (c .if3 .taken))
 
 returns-4 : tie.Need-returns-4
 returns-4 c =
@@ -56,7 +56,7 @@ returns-4 c =
     let start : tie.Start = search in
     found-none _ _ (is-bad-length .is-bad-length .result) (is-bad-length .is-bad-length .ensures) (else1 .if1 .left) _
     (sym (good-records .good-records .ensures) ∙ not-false _ (else2 .if2 .left))
-    (says (OneTerm (start .args .s .now)) _ _ (c .before .is-one-term .ensures) (c .if3 .left))
+    (says (OneTerm (start .args .table .now)) _ _ (c .before .is-one-term .ensures) (c .if3 .left))
 
 pub check-table-spec : {M : Type 1} → statement M
 check-table-spec =

@@ -11,7 +11,7 @@ returns-2 : tie.Need-returns-2
 returns-2 c = inr (inr (c .if2 .taken))
 
 returns-3 : tie.Need-returns-3
-returns-3 c = length-last (c .before .before .args .most) (c .before .before .args .s .now) (c .before .if1 .left) (c .if2 .left)
+returns-3 c = length-last (c .before .before .args .most) (c .before .before .args .table .now) (c .before .if1 .left) (c .if2 .left)
 
 pub is-bad-length-spec : {M : Type 1} → statement M
 is-bad-length-spec = tie.close (tie.spec returns returns-2 returns-3)

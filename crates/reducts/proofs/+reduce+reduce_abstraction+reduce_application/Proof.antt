@@ -4,9 +4,9 @@ use Prim.Native.Nat.{_+_, _*_}
 use lib.ListN.{length}
 use native.Mathlib.Omega.{arith}
 use Rattle.reducts.proofs.Reducts.{reduct-too-long, reducible-head, reducible-argument, reducible-body}
-use Rattle.reducts.proofs.Reducts.{result-few}
-use Rattle.reducts.proofs.Reducts.{result-within, result-fills, parts-applicable, reduces-application, reduces-abstraction}
-use Rattle.reducts.proofs.Reducts.{leaf-length, reduces-leaf}
+use Rattle.reducts.proofs.Reducts.{reduct-few}
+use Rattle.reducts.proofs.Reducts.{reduct-within, result-fills, parts-applicable, reduces-application, reduces-abstraction}
+use Rattle.reducts.proofs.Reducts.{reducible-leaf-length, reduces-leaf}
 use borrow.Author.Needs.{needs}
 use Prim.Native.Nat.{ℕ, _<_}
 use borrow.Fn.Kinds.{In, Out}
@@ -106,7 +106,7 @@ reduce-copy-into-requires : (t : ℕ) → reduce-in t reduce-lts.Need-copy-into-
 reduce-copy-into-requires t c κs =
     let else1 : reduce-in t reduce-lts.Else1 = search in
     let start : reduce-in t reduce-lts.Start = search in
-    omega (arith, leaf-length _ (else1 .if1 .left) (c .before .if2 .left) (start .pre .1))
+    omega (arith, reducible-leaf-length _ (else1 .if1 .left) (c .before .if2 .left) (start .pre .1))
 
 reduce-returns-3 : (t : ℕ) → reduce-in t reduce-lts.Need-returns-3
 reduce-returns-3 t c = search (needs, reduces-leaf)
@@ -150,7 +150,7 @@ reduce-abstraction-mul-n t c =
     let start : reduce-abstraction-in t reduce-abstraction-lts.Start = search in
     omega (
       arith,
-      result-few _ _ _ _ _ (reduce-point .reduce .ensures) (c .before .reduced .given .1) (omega arith)
+      reduct-few _ _ _ _ _ (reduce-point .reduce .ensures) (c .before .reduced .given .1) (omega arith)
           (reducible-body _ _ (start .pre .1 .0) (start .pre .1 .1) (body-of .body-of .ensures .1)),
     )
 
@@ -167,7 +167,7 @@ reduce-abstraction-part-copy-into-start : (t : ℕ) → reduce-abstraction-in t 
 reduce-abstraction-part-copy-into-start t c = search needs
 
 reduce-abstraction-part-copy-into-end : (t : ℕ) → reduce-abstraction-in t reduce-abstraction-lts.Need-part-copy-into-end
-reduce-abstraction-part-copy-into-end t c = search (needs, result-within, reducible-body)
+reduce-abstraction-part-copy-into-end t c = search (needs, reduct-within, reducible-body)
 
 reduce-abstraction-copy-into-requires : (t : ℕ) → reduce-abstraction-in t reduce-abstraction-lts.Need-copy-into-requires
 reduce-abstraction-copy-into-requires t c κs =
@@ -179,7 +179,7 @@ reduce-abstraction-copy-into-requires t c κs =
     omega (
       arith,
       else1 .if1 .left,
-      result-few _ _ _ _ _ (reduce-point .reduce .ensures) (reduced .reduced .given .1) (omega arith)
+      reduct-few _ _ _ _ _ (reduce-point .reduce .ensures) (reduced .reduced .given .1) (omega arith)
           (reducible-body _ _ (start .pre .1 .0) (start .pre .1 .1) (body-of .body-of .ensures .1)),
       result-fills _ _ _ _ _
           (reduce-point .reduce .ensures) (reduced .reduced .given .1) (omega arith)
@@ -194,7 +194,7 @@ reduce-abstraction-add-t21 t c =
     let start : reduce-abstraction-in t reduce-abstraction-lts.Start = search in
     omega (
       arith,
-      result-few _ _ _ _ _ (reduce-point .reduce .ensures) (reduced .reduced .given .1) (omega arith)
+      reduct-few _ _ _ _ _ (reduce-point .reduce .ensures) (reduced .reduced .given .1) (omega arith)
           (reducible-body _ _ (start .pre .1 .0) (start .pre .1 .1) (body-of .body-of .ensures .1)),
     )
 
@@ -256,7 +256,7 @@ reduce-application-mul-n t c =
     let start : reduce-application-in t reduce-application-lts.Start = search in
     omega (
       arith,
-      result-few _ _ _ _ _ (reduce-point .reduce .ensures) (first .first .given .1) (omega arith)
+      reduct-few _ _ _ _ _ (reduce-point .reduce .ensures) (first .first .given .1) (omega arith)
           (reducible-head _ _ (start .pre .1 .0) (start .pre .1 .1) (head-of .head-of .ensures .1)),
     )
 
@@ -267,7 +267,7 @@ reduce-application-mul-m t c =
     let start : reduce-application-in t reduce-application-lts.Start = search in
     omega (
       arith,
-      result-few _ _ _ _ _ (reduce2 .reduce2 .ensures) (c .before .second .given .1) (omega arith)
+      reduct-few _ _ _ _ _ (reduce2 .reduce2 .ensures) (c .before .second .given .1) (omega arith)
           (reducible-argument _ _ (start .pre .1 .0) (start .pre .1 .1) (argument-of .argument-of .ensures .1)),
     )
 
@@ -278,7 +278,7 @@ reduce-application-part-apply-start : (t : ℕ) → reduce-application-in t redu
 reduce-application-part-apply-start t c = search needs
 
 reduce-application-part-apply-end : (t : ℕ) → reduce-application-in t reduce-application-lts.Need-part-apply-end
-reduce-application-part-apply-end t c = search (needs, result-within, reducible-head)
+reduce-application-part-apply-end t c = search (needs, reduct-within, reducible-head)
 
 reduce-application-sub-apply-2 : (t : ℕ) → reduce-application-in t reduce-application-lts.Need-sub-apply-2
 reduce-application-sub-apply-2 t c = search needs
@@ -287,7 +287,7 @@ reduce-application-part-apply-start-2 : (t : ℕ) → reduce-application-in t re
 reduce-application-part-apply-start-2 t c = search needs
 
 reduce-application-part-apply-end-2 : (t : ℕ) → reduce-application-in t reduce-application-lts.Need-part-apply-end-2
-reduce-application-part-apply-end-2 t c = search (needs, result-within, reducible-argument)
+reduce-application-part-apply-end-2 t c = search (needs, reduct-within, reducible-argument)
 
 reduce-application-apply-requires : (t : ℕ) → reduce-application-in t reduce-application-lts.Need-apply-requires
 reduce-application-apply-requires t c κs = search (needs, parts-applicable)

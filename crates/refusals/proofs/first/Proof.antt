@@ -4,8 +4,8 @@ use borrow.Author.Needs.{needs}
 use Rattle.refusals.proofs.first.Statement.{statement}
 use Rattle.refusals.proofs.first.Tie as tie
 
-enum-known-a : tie.Need-enum-known-a
-enum-known-a c = search needs
+enum-known-earlier : tie.Need-enum-known-earlier
+enum-known-earlier c = search needs
 
 enum-told : tie.Need-enum-told
 enum-told c = search needs
@@ -17,4 +17,4 @@ returns-2 : tie.Need-returns-2
 returns-2 c = search needs
 
 pub first-spec : {M : Type 1} → statement M
-first-spec = tie.close (tie.spec enum-known-a enum-told returns returns-2)
+first-spec = tie.close (tie.spec enum-known-earlier enum-told returns returns-2)

@@ -13,7 +13,7 @@ rem-result : tie.Need-rem-result
 rem-result c = search needs
 
 returns-2 : tie.Need-returns-2
-returns-2 c = says-bad (c .before .args .place) (c .before .args .s .now) _ (λ h. omega arith) refl
+returns-2 c = says-bad (c .before .args .place) (c .before .args .table .now) _ (λ h. omega arith) refl
 
 pub is-bad-table-spec : {M : Type 1} → statement M
 is-bad-table-spec = tie.close (tie.spec returns rem-result returns-2)

@@ -1,6 +1,6 @@
 -- `refusals::judge_recipe` meets its contract: each finding of the check is a row of the recipe's. Assumes nothing.
 use mathlib.Core.Path.{ap}
-use Rattle.terms.specs.Refusal.{recipe}
+use Rattle.terms.specs.Refusal.{recipeRows}
 use Rattle.records.specs.Checks.{Recipe, recipeRefusal}
 use Rattle.refusals.specs.declared.Refusal.{Refusal}
 use Rattle.refusals.proofs.Judging.{check-right, check-refused}
@@ -30,35 +30,36 @@ returns : tie.Need-returns
 returns c =
     let check-recipe : tie.After-check-recipe = search in
     let start : tie.Start = search in
-    check-refused (recipe (start .args .s .now)) (Recipe (start .args .s .now)) _ (check-recipe .check-recipe .ensures)
+    check-refused (recipeRows (start .args .recipe .now)) (Recipe (start .args .recipe .now)) _ (check-recipe .check-recipe .ensures)
     Refusal.RecipeLength (ap recipeRefusal (c .enum-told .given .1))
 
 returns-2 : tie.Need-returns-2
 returns-2 c =
     let check-recipe : tie.After-check-recipe = search in
     let start : tie.Start = search in
-    check-refused (recipe (start .args .s .now)) (Recipe (start .args .s .now)) _ (check-recipe .check-recipe .ensures)
+    check-refused (recipeRows (start .args .recipe .now)) (Recipe (start .args .recipe .now)) _ (check-recipe .check-recipe .ensures)
     Refusal.RecipeRecord (ap recipeRefusal (c .enum-told2 .given .1))
 
 returns-3 : tie.Need-returns-3
 returns-3 c =
     let check-recipe : tie.After-check-recipe = search in
     let start : tie.Start = search in
-    check-refused (recipe (start .args .s .now)) (Recipe (start .args .s .now)) _ (check-recipe .check-recipe .ensures) Refusal.RecipeTerm
+    check-refused (recipeRows (start .args .recipe .now)) (Recipe (start .args .recipe .now)) _
+    (check-recipe .check-recipe .ensures) Refusal.RecipeTerm
     (ap recipeRefusal (c .enum-told3 .given .1))
 
 returns-4 : tie.Need-returns-4
 returns-4 c =
     let check-recipe : tie.After-check-recipe = search in
     let start : tie.Start = search in
-    check-refused (recipe (start .args .s .now)) (Recipe (start .args .s .now)) _ (check-recipe .check-recipe .ensures)
+    check-refused (recipeRows (start .args .recipe .now)) (Recipe (start .args .recipe .now)) _ (check-recipe .check-recipe .ensures)
     Refusal.RecipeRedex (ap recipeRefusal (c .enum-told4 .given .1))
 
 returns-5 : tie.Need-returns-5
 returns-5 c =
     let check-recipe : tie.After-check-recipe = search in
     let start : tie.Start = search in
-    check-right (recipe (start .args .s .now)) (Recipe (start .args .s .now)) _ (check-recipe .check-recipe .ensures)
+    check-right (recipeRows (start .args .recipe .now)) (Recipe (start .args .recipe .now)) _ (check-recipe .check-recipe .ensures)
     (ap recipeRefusal (c .enum-told5 .given .1))
 
 pub judge-recipe-spec : {M : Type 1} → statement M

@@ -10,13 +10,13 @@ is-bad-table-requires : tie.Need-is-bad-table-requires
 is-bad-table-requires c κs = search needs
 
 returns : tie.Need-returns
-returns c = bad-table (c .before .before .before .args .place) (c .before .before .before .args .s .now)
-    (says (BadTable (c .before .before .before .args .place) (c .before .before .before .args .s .now)) _ _
+returns c = bad-table (c .before .before .before .args .place) (c .before .before .before .args .table .now)
+    (says (BadTable (c .before .before .before .args .place) (c .before .before .before .args .table .now)) _ _
     (c .before .is-bad-table .ensures) (c .if1 .taken))
 
 returns-2 : tie.Need-returns-2
-returns-2 c = good-table (c .before .before .before .args .place) (c .before .before .before .args .s .now)
-    (says (BadTable (c .before .before .before .args .place) (c .before .before .before .args .s .now)) _ _
+returns-2 c = good-table (c .before .before .before .args .place) (c .before .before .before .args .table .now)
+    (says (BadTable (c .before .before .before .args .place) (c .before .before .before .args .table .now)) _ _
     (c .before .is-bad-table .ensures) (c .if1 .left))
 
 pub judge-table-spec : {M : Type 1} → statement M

@@ -3,7 +3,7 @@
 use lib.ListN.{length}
 use Rattle.records.proofs.Slices.{head-slice}
 use Rattle.shifting.proofs.Slices.{shorter}
-use Rattle.shifting.proofs.Tests.{rigid-application, rigid-local, rigid-other}
+use Rattle.shifting.proofs.Tests.{rigid-application-part, rigid-local, rigid-other}
 use borrow.Author.Needs.{needs}
 use Prim.Native.Nat.{ℕ, _<_}
 use borrow.Fn.Kinds.{In, Out}
@@ -50,7 +50,7 @@ is-rigid-is-rigid-requires : (t : ℕ) → is-rigid-in t is-rigid-lts.Need-is-ri
 is-rigid-is-rigid-requires t c κs = (search (needs, shorter), search (needs, head-slice))
 
 is-rigid-returns : (t : ℕ) → is-rigid-in t is-rigid-lts.Need-returns
-is-rigid-returns t c = search (needs, rigid-application)
+is-rigid-returns t c = search (needs, rigid-application-part)
 
 is-rigid-returns-2 : (t : ℕ) → is-rigid-in t is-rigid-lts.Need-returns-2
 is-rigid-returns-2 t c = rigid-local _ (c .if2 .taken)

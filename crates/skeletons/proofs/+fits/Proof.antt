@@ -3,9 +3,10 @@
 use lib.ListN.{length}
 use native.Mathlib.Omega.{arith}
 use Rattle.shifting.proofs.Slices.{shorter, shorter-behind}
-use Rattle.skeletons.proofs.Comparison.{compared-near, compared-kinds, compares-head, compared-stop, compares-argument}
-use Rattle.skeletons.proofs.Comparison.{heads-passed, compared-app, compares-body, compared-lam}
-use Rattle.skeletons.proofs.Comparison.{compared-same, compared-other}
+use Rattle.skeletons.proofs.Comparison.{skeleton-compared-near, skeleton-compared-kinds, skeleton-compares-head}
+use Rattle.skeletons.proofs.Comparison.{skeleton-compared-stop, skeleton-compares-argument}
+use Rattle.skeletons.proofs.Comparison.{heads-passed, skeleton-compared-app, skeleton-compares-body, skeleton-compared-lam}
+use Rattle.skeletons.proofs.Comparison.{compared-same, skeleton-compared-other}
 use borrow.Author.Needs.{needs}
 use Prim.Native.Nat.{ℕ, _+_, _≤_, _<_}
 use borrow.Fn.Kinds.{In, Out}
@@ -65,7 +66,7 @@ fits-shared-slice-read-if2 : (t : ℕ) → fits-in t fits-lts.Need-shared-slice-
 fits-shared-slice-read-if2 t c = search needs
 
 fits-returns-2 : (t : ℕ) → fits-in t fits-lts.Need-returns-2
-fits-returns-2 t c = search (needs, compared-kinds)
+fits-returns-2 t c = search (needs, skeleton-compared-kinds)
 
 fits-sub-fits : (t : ℕ) → fits-in t fits-lts.Need-sub-fits
 fits-sub-fits t c = search needs
@@ -86,7 +87,7 @@ fits-part-fits-end-2 : (t : ℕ) → fits-in t fits-lts.Need-part-fits-end-2
 fits-part-fits-end-2 t c = search needs
 
 fits-fits-requires : (t : ℕ) → fits-in t fits-lts.Need-fits-requires
-fits-fits-requires t c κs = (search (needs, shorter), search (needs, compares-head))
+fits-fits-requires t c κs = (search (needs, shorter), search (needs, skeleton-compares-head))
 
 fits-enum-known-head : (t : ℕ) → fits-in t fits-lts.Need-enum-known-head
 fits-enum-known-head t c = search needs
@@ -95,7 +96,7 @@ fits-enum-told : (t : ℕ) → fits-in t fits-lts.Need-enum-told
 fits-enum-told t c = search needs
 
 fits-returns-3 : (t : ℕ) → fits-in t fits-lts.Need-returns-3
-fits-returns-3 t c = search (needs, compared-stop)
+fits-returns-3 t c = search (needs, skeleton-compared-stop)
 
 fits-add-n : (t : ℕ) → fits-in t fits-lts.Need-add-n
 fits-add-n t c =
@@ -134,13 +135,13 @@ fits-part-fits-end-4 : (t : ℕ) → fits-in t fits-lts.Need-part-fits-end-4
 fits-part-fits-end-4 t c = search needs
 
 fits-fits-requires-2 : (t : ℕ) → fits-in t fits-lts.Need-fits-requires-2
-fits-fits-requires-2 t c κs = (search (needs, shorter-behind), search (needs, compares-argument))
+fits-fits-requires-2 t c κs = (search (needs, shorter-behind), search (needs, skeleton-compares-argument))
 
 fits-both-further-requires : (t : ℕ) → fits-in t fits-lts.Need-both-further-requires
-fits-both-further-requires t c κs = search (needs, compared-near)
+fits-both-further-requires t c κs = search (needs, skeleton-compared-near)
 
 fits-returns-4 : (t : ℕ) → fits-in t fits-lts.Need-returns-4
-fits-returns-4 t c = search (needs, compared-app)
+fits-returns-4 t c = search (needs, skeleton-compared-app)
 
 fits-sub-fits-5 : (t : ℕ) → fits-in t fits-lts.Need-sub-fits-5
 fits-sub-fits-5 t c = search needs
@@ -161,13 +162,13 @@ fits-part-fits-end-6 : (t : ℕ) → fits-in t fits-lts.Need-part-fits-end-6
 fits-part-fits-end-6 t c = search needs
 
 fits-fits-requires-3 : (t : ℕ) → fits-in t fits-lts.Need-fits-requires-3
-fits-fits-requires-3 t c κs = (search (needs, shorter), search (needs, compares-body))
+fits-fits-requires-3 t c κs = (search (needs, shorter), search (needs, skeleton-compares-body))
 
 fits-both-further-requires-2 : (t : ℕ) → fits-in t fits-lts.Need-both-further-requires-2
-fits-both-further-requires-2 t c κs = search (needs, compared-near)
+fits-both-further-requires-2 t c κs = search (needs, skeleton-compared-near)
 
 fits-returns-5 : (t : ℕ) → fits-in t fits-lts.Need-returns-5
-fits-returns-5 t c = search (needs, compared-lam)
+fits-returns-5 t c = search (needs, skeleton-compared-lam)
 
 fits-number-at-requires : (t : ℕ) → fits-in t fits-lts.Need-number-at-requires
 fits-number-at-requires t c κs = search needs
@@ -179,7 +180,7 @@ fits-returns-6 : (t : ℕ) → fits-in t fits-lts.Need-returns-6
 fits-returns-6 t c = search (needs, compared-same)
 
 fits-returns-7 : (t : ℕ) → fits-in t fits-lts.Need-returns-7
-fits-returns-7 t c = search (needs, compared-other)
+fits-returns-7 t c = search (needs, skeleton-compared-other)
 
 pub +fits-spec : {M : Type 1} → statement M
 +fits-spec = close μ-fits λ t. fits-lts.spec (

@@ -3,9 +3,10 @@
 use Prim.Native.Nat.{_+_, _*_}
 use lib.ListN.{length}
 use native.Mathlib.Omega.{arith}
-use Rattle.skeletons.proofs.Writing.{input-head, input-argument, input-body, result-within}
-use Rattle.skeletons.proofs.Writing.{head-no-hole, parts-applied, skeleton-application, part-abstracted, skeleton-abstraction}
-use Rattle.skeletons.proofs.Writing.{variable-known, skeleton-variable, leaf-length, skeleton-leaf}
+use Rattle.skeletons.proofs.Writing.{input-head, input-argument, input-body, skeleton-within}
+use Rattle.skeletons.proofs.Writing.{head-no-hole, skeleton-parts-swept, skeleton-application, skeleton-body-swept}
+use Rattle.skeletons.proofs.Writing.{skeleton-abstraction}
+use Rattle.skeletons.proofs.Writing.{variable-known, skeleton-variable, skeleton-leaf-length, skeleton-leaf}
 use borrow.Author.Needs.{needs}
 use Prim.Native.Nat.{ℕ, _<_}
 use borrow.Fn.Kinds.{In, Out}
@@ -123,7 +124,7 @@ skeleton-copy-into-requires t c κs =
     let else2 : skeleton-in t skeleton-lts.Else2 = search in
     let else1 : skeleton-in t skeleton-lts.Else1 = search in
     let start : skeleton-in t skeleton-lts.Start = search in
-    omega (arith, leaf-length _ _ _ (else1 .if1 .left) (else2 .if2 .left) (start .pre .1))
+    omega (arith, skeleton-leaf-length _ _ _ (else1 .if1 .left) (else2 .if2 .left) (start .pre .1))
 
 skeleton-returns-4 : (t : ℕ) → skeleton-in t skeleton-lts.Need-returns-4
 skeleton-returns-4 t c = search (needs, skeleton-leaf)
@@ -158,10 +159,10 @@ skeleton-abstraction-part-abstract-over-start : (t : ℕ) → skeleton-abstracti
 skeleton-abstraction-part-abstract-over-start t c = search needs
 
 skeleton-abstraction-part-abstract-over-end : (t : ℕ) → skeleton-abstraction-in t skeleton-abstraction-lts.Need-part-abstract-over-end
-skeleton-abstraction-part-abstract-over-end t c = search (needs, result-within, input-body)
+skeleton-abstraction-part-abstract-over-end t c = search (needs, skeleton-within, input-body)
 
 skeleton-abstraction-abstract-over-requires : (t : ℕ) → skeleton-abstraction-in t skeleton-abstraction-lts.Need-abstract-over-requires
-skeleton-abstraction-abstract-over-requires t c κs = search (needs, part-abstracted)
+skeleton-abstraction-abstract-over-requires t c κs = search (needs, skeleton-body-swept)
 
 skeleton-abstraction-returns : (t : ℕ) → skeleton-abstraction-in t skeleton-abstraction-lts.Need-returns
 skeleton-abstraction-returns t c = search (needs, skeleton-abstraction)
@@ -218,7 +219,7 @@ skeleton-application-part-apply-start : (t : ℕ) → skeleton-application-in t 
 skeleton-application-part-apply-start t c = search needs
 
 skeleton-application-part-apply-end : (t : ℕ) → skeleton-application-in t skeleton-application-lts.Need-part-apply-end
-skeleton-application-part-apply-end t c = search (needs, result-within, input-head)
+skeleton-application-part-apply-end t c = search (needs, skeleton-within, input-head)
 
 skeleton-application-sub-apply-2 : (t : ℕ) → skeleton-application-in t skeleton-application-lts.Need-sub-apply-2
 skeleton-application-sub-apply-2 t c = search needs
@@ -227,10 +228,10 @@ skeleton-application-part-apply-start-2 : (t : ℕ) → skeleton-application-in 
 skeleton-application-part-apply-start-2 t c = search needs
 
 skeleton-application-part-apply-end-2 : (t : ℕ) → skeleton-application-in t skeleton-application-lts.Need-part-apply-end-2
-skeleton-application-part-apply-end-2 t c = search (needs, result-within, input-argument)
+skeleton-application-part-apply-end-2 t c = search (needs, skeleton-within, input-argument)
 
 skeleton-application-apply-requires : (t : ℕ) → skeleton-application-in t skeleton-application-lts.Need-apply-requires
-skeleton-application-apply-requires t c κs = search (needs, parts-applied, head-no-hole)
+skeleton-application-apply-requires t c κs = search (needs, skeleton-parts-swept, head-no-hole)
 
 skeleton-application-returns-2 : (t : ℕ) → skeleton-application-in t skeleton-application-lts.Need-returns-2
 skeleton-application-returns-2 t c = search (needs, skeleton-application)

@@ -2,7 +2,7 @@
 -- nothing.
 use native.Mathlib.Omega.{arith}
 use Rattle.records.proofs.Slices.{whole-slice, slice-length}
-use Rattle.skeletons.proofs.Tests.{unsure-hole, sure-other, head-whole, unsure-argument, sure-argument, sure-outer}
+use Rattle.skeletons.proofs.Tests.{unsure-hole, sure-other, tree-head-whole, unsure-argument, sure-argument, sure-outer}
 use Rattle.skeletons.proofs.Tests.{sure-exact, unsure-inexact}
 use borrow.Author.Needs.{needs}
 use Rattle.skeletons.proofs.is_unsure.Statement.{statement}
@@ -60,7 +60,7 @@ part-exact-part-end c = search needs
 exact-part-requires : tie.Need-exact-part-requires
 exact-part-requires c κs =
     let start : tie.Start = search in
-    (search (needs, whole-slice, head-whole), omega (arith, slice-length (start .args .b .now) 4))
+    (search (needs, whole-slice, tree-head-whole), omega (arith, slice-length (start .args .body .now) 4))
 
 enum-told : tie.Need-enum-told
 enum-told c = search needs

@@ -1,12 +1,12 @@
 -- `skeletons::may_build` meets its contract: the skeleton is applied to the argument's term, and what it gives is compared with the target.
 -- By the laws of an applied skeleton. Assumes nothing.
-use Rattle.skeletons.proofs.Applying.{argument-whole, skeleton-applied, built-within, built-comparable, built-answer}
+use Rattle.skeletons.proofs.Applying.{applied-argument-whole, skeleton-applied, built-within, built-comparable, built-answer}
 use borrow.Author.Needs.{needs}
 use Rattle.skeletons.proofs.may_build.Statement.{statement}
 use Rattle.skeletons.proofs.may_build.Tie as tie
 
 end-at-requires : tie.Need-end-at-requires
-end-at-requires c κs = search (needs, argument-whole)
+end-at-requires c κs = search (needs, applied-argument-whole)
 
 sub-apply : tie.Need-sub-apply
 sub-apply c = search needs

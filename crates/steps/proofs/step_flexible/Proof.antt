@@ -1,6 +1,6 @@
 -- `steps::step_flexible` meets its contract. A local that the part lacks rules out every assignment; else the goal moves as it is
 -- to those deferred. Assumes nothing.
-use Rattle.steps.proofs.Descents.{locals, flexible-missed, deferred-as-is}
+use Rattle.steps.proofs.Descents.{step-locals, flexible-missed, deferred-as-is}
 use borrow.Author.Needs.{needs}
 use Rattle.steps.proofs.step_flexible.Statement.{statement}
 use Rattle.steps.proofs.step_flexible.Tie as tie
@@ -24,7 +24,7 @@ part-lacks-local-end-2 : tie.Need-part-lacks-local-end-2
 part-lacks-local-end-2 c = search needs
 
 lacks-local-requires : tie.Need-lacks-local-requires
-lacks-local-requires c κs = search (needs, locals)
+lacks-local-requires c κs = search (needs, step-locals)
 
 same-length : tie.Need-same-length
 same-length c = search needs

@@ -1,6 +1,6 @@
 -- `steps::step_rigid` meets its contract. The head sweeps to no abstraction, so that the target is an application and its parts are
 -- the targets of the two goals. Assumes nothing.
-use Rattle.steps.proofs.Descents.{head-whole, target-head-whole, rigid-missed, parts-pushed}
+use Rattle.steps.proofs.Descents.{application-head-whole, target-head-whole, rigid-missed, step-parts-pushed}
 use borrow.Author.Needs.{needs}
 use Rattle.steps.proofs.step_rigid.Statement.{statement}
 use Rattle.steps.proofs.step_rigid.Tie as tie
@@ -15,7 +15,7 @@ add-end-at : tie.Need-add-end-at
 add-end-at c = search needs
 
 end-at-requires : tie.Need-end-at-requires
-end-at-requires c κs = search (needs, head-whole)
+end-at-requires c κs = search (needs, application-head-whole)
 
 add-end-at-2 : tie.Need-add-end-at-2
 add-end-at-2 c = search needs
@@ -45,7 +45,7 @@ same-length : tie.Need-same-length
 same-length c = search needs
 
 returns-2 : tie.Need-returns-2
-returns-2 c = search (needs, parts-pushed)
+returns-2 c = search (needs, step-parts-pushed)
 
 pub step-rigid-spec : {M : Type 1} → statement M
 step-rigid-spec =

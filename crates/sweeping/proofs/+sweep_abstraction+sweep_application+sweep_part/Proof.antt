@@ -3,9 +3,10 @@
 use Prim.Native.Nat.{_+_, _*_}
 use lib.ListN.{length}
 use native.Mathlib.Omega.{arith}
-use Rattle.sweeping.proofs.Sweeps.{ready-head, ready-argument, ready-body, ready-value, result-few, result-within}
-use Rattle.sweeping.proofs.Sweeps.{head-long, argument-long, parts-applied, sweeps-application, body-long, part-abstracted}
-use Rattle.sweeping.proofs.Sweeps.{sweeps-abstraction, sweeps-variable, leaf-length, sweeps-leaf}
+use Rattle.sweeping.proofs.Sweeps.{ready-head, ready-argument, ready-body, ready-value, sweepable-few, sweepable-within}
+use Rattle.sweeping.proofs.Sweeps.{head-long, argument-long, sweepable-parts-swept, sweeps-application, body-long}
+use Rattle.sweeping.proofs.Sweeps.{sweepable-body-swept}
+use Rattle.sweeping.proofs.Sweeps.{sweeps-abstraction, sweeps-variable, sweepable-leaf-length, sweeps-leaf}
 use borrow.Author.Needs.{needs}
 use Prim.Native.Nat.{ℕ, _<_}
 use borrow.Fn.Kinds.{In, Out}
@@ -116,7 +117,7 @@ sweep-abstraction-mul-n t c =
     let start : sweep-abstraction-in t sweep-abstraction-lts.Start = search in
     omega (
       arith,
-      result-few _ _ _ _ _ _ _ (sweep-part-point .sweep-part .ensures) (c .before .swept .given .1) (omega arith)
+      sweepable-few _ _ _ _ _ _ _ (sweep-part-point .sweep-part .ensures) (c .before .swept .given .1) (omega arith)
           (ready-body _ _ _ _ (start .pre .1 .0) (start .pre .1 .1) (body-of .body-of .ensures .1)),
     )
 
@@ -128,10 +129,10 @@ sweep-abstraction-part-contract-abstraction-start : (t : ℕ)
 sweep-abstraction-part-contract-abstraction-start t c = search needs
 
 sweep-abstraction-part-contract-abstraction-end : (t : ℕ) → sweep-abstraction-in t sweep-abstraction-lts.Need-part-contract-abstraction-end
-sweep-abstraction-part-contract-abstraction-end t c = search (needs, result-within, ready-body)
+sweep-abstraction-part-contract-abstraction-end t c = search (needs, sweepable-within, ready-body)
 
 sweep-abstraction-contract-abstraction-requires : (t : ℕ) → sweep-abstraction-in t sweep-abstraction-lts.Need-contract-abstraction-requires
-sweep-abstraction-contract-abstraction-requires t c κs = search (needs, part-abstracted)
+sweep-abstraction-contract-abstraction-requires t c κs = search (needs, sweepable-body-swept)
 
 sweep-abstraction-returns-2 : (t : ℕ) → sweep-abstraction-in t sweep-abstraction-lts.Need-returns-2
 sweep-abstraction-returns-2 t c = search (needs, sweeps-abstraction)
@@ -190,7 +191,7 @@ sweep-application-mul-n t c =
     let start : sweep-application-in t sweep-application-lts.Start = search in
     omega (
       arith,
-      result-few _ _ _ _ _ _ _ (sweep-part-point .sweep-part .ensures) (first .first .given .1) (omega arith)
+      sweepable-few _ _ _ _ _ _ _ (sweep-part-point .sweep-part .ensures) (first .first .given .1) (omega arith)
           (ready-head _ _ _ _ (start .pre .1 .0) (start .pre .1 .1) (head-of .head-of .ensures .1)),
     )
 
@@ -201,7 +202,7 @@ sweep-application-mul-m t c =
     let start : sweep-application-in t sweep-application-lts.Start = search in
     omega (
       arith,
-      result-few _ _ _ _ _ _ _ (sweep-part2 .sweep-part2 .ensures) (c .before .second .given .1) (omega arith)
+      sweepable-few _ _ _ _ _ _ _ (sweep-part2 .sweep-part2 .ensures) (c .before .second .given .1) (omega arith)
           (ready-argument _ _ _ _ (start .pre .1 .0) (start .pre .1 .1) (argument-of .argument-of .ensures .1)),
     )
 
@@ -213,7 +214,7 @@ sweep-application-part-contract-application-start : (t : ℕ)
 sweep-application-part-contract-application-start t c = search needs
 
 sweep-application-part-contract-application-end : (t : ℕ) → sweep-application-in t sweep-application-lts.Need-part-contract-application-end
-sweep-application-part-contract-application-end t c = search (needs, result-within, ready-head)
+sweep-application-part-contract-application-end t c = search (needs, sweepable-within, ready-head)
 
 sweep-application-sub-contract-application-2 : (t : ℕ) → sweep-application-in t sweep-application-lts.Need-sub-contract-application-2
 sweep-application-sub-contract-application-2 t c = search needs
@@ -224,10 +225,10 @@ sweep-application-part-contract-application-start-2 t c = search needs
 
 sweep-application-part-contract-application-end-2 : (t : ℕ)
     → sweep-application-in t sweep-application-lts.Need-part-contract-application-end-2
-sweep-application-part-contract-application-end-2 t c = search (needs, result-within, ready-argument)
+sweep-application-part-contract-application-end-2 t c = search (needs, sweepable-within, ready-argument)
 
 sweep-application-contract-application-requires : (t : ℕ) → sweep-application-in t sweep-application-lts.Need-contract-application-requires
-sweep-application-contract-application-requires t c κs = search (needs, parts-applied)
+sweep-application-contract-application-requires t c κs = search (needs, sweepable-parts-swept)
 
 sweep-application-returns-3 : (t : ℕ) → sweep-application-in t sweep-application-lts.Need-returns-3
 sweep-application-returns-3 t c = search (needs, sweeps-application)
@@ -278,7 +279,7 @@ sweep-part-copy-into-requires t c κs =
     let else2 : sweep-part-in t sweep-part-lts.Else2 = search in
     let else1 : sweep-part-in t sweep-part-lts.Else1 = search in
     let start : sweep-part-in t sweep-part-lts.Start = search in
-    omega (arith, leaf-length _ _ _ (else1 .if1 .left) (else2 .if2 .left) (start .pre .1))
+    omega (arith, sweepable-leaf-length _ _ _ (else1 .if1 .left) (else2 .if2 .left) (start .pre .1))
 
 sweep-part-returns-4 : (t : ℕ) → sweep-part-in t sweep-part-lts.Need-returns-4
 sweep-part-returns-4 t c = search (needs, sweeps-leaf)

@@ -1,7 +1,7 @@
 -- `sweeping::contracts` meets its contract: each test is one of the conditions of the sweep's second rule. Assumes nothing.
 use native.Mathlib.Omega.{arith}
 use Rattle.records.proofs.Slices.{slice-length}
-use Rattle.sweeping.proofs.Contraction.{no-application, body-whole, argument-whole, head-abstraction, argument-no-local}
+use Rattle.sweeping.proofs.Contraction.{no-application, body-whole, body-argument-whole, body-head-abstraction, argument-no-local}
 use Rattle.sweeping.proofs.Contraction.{argument-outer, counted-uses}
 use borrow.Author.Needs.{needs}
 use Rattle.sweeping.proofs.contracts.Statement.{statement}
@@ -16,11 +16,11 @@ returns c = no-application _ (c .if1 .taken)
 shared-slice-read-if2 : tie.Need-shared-slice-read-if2
 shared-slice-read-if2 c =
     let start : tie.Start = search in
-    let n = slice-length (start .args .b .now) 4 in
+    let n = slice-length (start .args .body .now) 4 in
     omega (arith, body-whole _ (c .before .if1 .left) (start .pre) .least)
 
 returns-2 : tie.Need-returns-2
-returns-2 c = search (needs, head-abstraction)
+returns-2 c = search (needs, body-head-abstraction)
 
 sub-count-uses : tie.Need-sub-count-uses
 sub-count-uses c = search needs
@@ -34,7 +34,7 @@ part-count-uses-end c = search needs
 count-uses-requires : tie.Need-count-uses-requires
 count-uses-requires c κs =
     let start : tie.Start = search in
-    let n = slice-length (start .args .b .now) 4 in
+    let n = slice-length (start .args .body .now) 4 in
     search (needs, body-whole)
 
 add-argument : tie.Need-add-argument
@@ -54,7 +54,7 @@ shared-slice-read-if3 c =
     let count-uses : tie.After-count-uses = search in
     let else1 : tie.Else1 = search in
     let start : tie.Start = search in
-    omega (arith, argument-whole _ (else1 .if1 .left) _ _ (count-uses .count-uses .ensures) (start .pre) .least)
+    omega (arith, body-argument-whole _ (else1 .if1 .left) _ _ (count-uses .count-uses .ensures) (start .pre) .least)
 
 returns-3 : tie.Need-returns-3
 returns-3 c = search (needs, argument-no-local)
@@ -64,7 +64,7 @@ number-at-requires c κs =
     let count-uses : tie.After-count-uses = search in
     let else1 : tie.Else1 = search in
     let start : tie.Start = search in
-    omega (arith, argument-whole _ (else1 .if1 .left) _ _ (count-uses .count-uses .ensures) (start .pre) .least)
+    omega (arith, body-argument-whole _ (else1 .if1 .left) _ _ (count-uses .count-uses .ensures) (start .pre) .least)
 
 returns-4 : tie.Need-returns-4
 returns-4 c = search (needs, argument-outer)

@@ -3,7 +3,7 @@ use mathlib.Core.Path.{ap, _∙_}
 use Rattle.terms.proofs.Table.{encode-length}
 use native.Mathlib.Omega.{arith}
 use lib.ListN.{length}
-use Rattle.sweeping.proofs.Values.{held, open-not, given-below, value-written}
+use Rattle.sweeping.proofs.Values.{given-bytes, open-not, given-below, value-written}
 use borrow.Author.Needs.{needs}
 use Rattle.sweeping.proofs.write_value.Statement.{statement}
 use Rattle.sweeping.proofs.write_value.Tie as tie
@@ -23,20 +23,20 @@ enum-known-e c = search needs
 value-of-requires : tie.Need-value-of-requires
 value-of-requires c κs =
     let start : tie.Start = search in
-    held _ _ _ _ (start .pre .given) _ (c .before .e2 .given .1) .within
+    given-bytes _ _ _ _ (start .pre .given) _ (c .before .e2 .given .1) .within
 
 copy-into-requires : tie.Need-copy-into-requires
 copy-into-requires c κs =
     let e2 : tie.After-e2 = search in
     let start : tie.Start = search in
-    let h = held _ _ _ _ (start .pre .given) _ (e2 .e2 .given .1) in
+    let h = given-bytes _ _ _ _ (start .pre .given) _ (e2 .e2 .given .1) in
     omega (arith, h .most, h .exact, ap length (c .before .value-of .ensures) ∙ ap length (h .bytes) ∙ encode-length (start .pre .value))
 
 returns : tie.Need-returns
 returns c = λ v g. open-not _ _ _ _ g (c .enum-told .given .1)
 
 returns-2 : tie.Need-returns-2
-returns-2 c = search (needs, value-written, held)
+returns-2 c = search (needs, value-written, given-bytes)
 
 pub write-value-spec : {M : Type 1} → statement M
 write-value-spec =

@@ -1,7 +1,6 @@
 -- `joins::pairs::find_pair` meets its contract. The loop's invariant: the constants are none of the pairs passed, each of which stands for
 -- one local; the measure is how many pairs are left. Assumes nothing.
-use native.Mathlib.Omega.{arith}
-use Rattle.joins.proofs.Spines.{PairPassed, passed-first, passed-pair, passed-next, passed-all}
+use Rattle.joins.proofs.Spines.{PairPassed, pairs-passed-first, passed-pair, passed-next, pairs-passed}
 use borrow.Author.Needs.{needs}
 use Rattle.joins.proofs.pairs.find_pair.Statement.{statement}
 use Rattle.joins.proofs.pairs.find_pair.Tie as tie
@@ -13,7 +12,7 @@ abbrev μ-loop : tie.MeasureT-loop
 μ-loop p q m n d k₀ k = k
 
 loop-holds : tie.Need-loop-holds Inv-loop μ-loop
-loop-holds c = passed-first _ _ _ _ _
+loop-holds c = pairs-passed-first _ _ _ _ _
 
 mul-is-pair : tie.Need-mul-is-pair Inv-loop μ-loop
 mul-is-pair c = search needs
@@ -49,7 +48,7 @@ loop-again : tie.Need-loop-again Inv-loop μ-loop
 loop-again c = search (needs, passed-next)
 
 returns-2 : tie.Need-returns-2 Inv-loop μ-loop
-returns-2 c = search (needs, passed-all)
+returns-2 c = search (needs, pairs-passed)
 
 pub find-pair-spec : {M : Type 1} → statement M
 find-pair-spec =

@@ -1,7 +1,7 @@
 -- `ordering::order::cheapest` meets its contract. What it answers is the first goal or what the list behind it comes to; the measure is the
 -- first goal's place, as the next one's is lower. Assumes nothing.
 use native.Mathlib.Omega.{arith}
-use Rattle.ordering.proofs.Ordering.{ranks-weighs, ranks-next, ranks-here, ranks-further}
+use Rattle.ordering.proofs.Ordering.{ranks-costs, ranks-next, ranks-here, ranks-further}
 use Prim.Native.Nat.{ℕ, _<_}
 use borrow.Fn.Kinds.{In, Out}
 use borrow.Fn.PlainCycle.{Measures, is, falls, and}
@@ -35,7 +35,7 @@ cheapest-in t X = X (
 ) (cheapest-at t) cheapest.Post
 
 cheapest-cost-requires : (t : ℕ) → cheapest-in t cheapest-lts.Need-cost-requires
-cheapest-cost-requires t c κs = ranks-weighs (c .before .before .pre .1)
+cheapest-cost-requires t c κs = ranks-costs (c .before .before .pre .1)
 
 cheapest-goal-at-requires : (t : ℕ) → cheapest-in t cheapest-lts.Need-goal-at-requires
 cheapest-goal-at-requires t c κs = c .before .before .before .pre .1 .within

@@ -1,9 +1,10 @@
 -- `ordering::repeated::force` meets its contract. The value that comes to both targets is the only one, so that one goal for it has the
 -- assignments of the two, whose room it takes. Assumes nothing.
 use native.Mathlib.Omega.{arith}
-use Rattle.ordering.proofs.Forcing.{ready-listed, found, decided-open, first-room, second-room, first-target, second-target}
-use Rattle.ordering.proofs.Forcing.{forced-joins, decided-failed, target-within, forced-encloses, forced-drops, forced-drops-two}
-use Rattle.ordering.proofs.Forcing.{forced-room, forced-whole, forced-fits, decided-next}
+use Rattle.ordering.proofs.Forcing.{ready-listed, found-twice, forced-open, first-room, second-room, first-target, second-target}
+use Rattle.ordering.proofs.Forcing.{forced-joins, forced-failed, forced-target-within, forced-encloses, forced-drops}
+use Rattle.ordering.proofs.Forcing.{forced-drops-two}
+use Rattle.ordering.proofs.Forcing.{forced-room, forced-whole, forced-fits, forced-next}
 use borrow.Author.Needs.{needs}
 use Rattle.ordering.proofs.repeated.force.Statement.{statement}
 use Rattle.ordering.proofs.repeated.force.Tie as tie
@@ -21,13 +22,13 @@ same-length : tie.Need-same-length
 same-length c = search needs
 
 returns : tie.Need-returns
-returns c = search (needs, decided-open)
+returns c = search (needs, forced-open)
 
 goal-at-requires : tie.Need-goal-at-requires
-goal-at-requires c κs = search (needs, first-room, found)
+goal-at-requires c κs = search (needs, first-room, found-twice)
 
 goal-at-requires-2 : tie.Need-goal-at-requires-2
-goal-at-requires-2 c κs = search (needs, second-room, found)
+goal-at-requires-2 c κs = search (needs, second-room, found-twice)
 
 sub-join-into : tie.Need-sub-join-into
 sub-join-into c =
@@ -35,7 +36,7 @@ sub-join-into c =
     let search-point : tie.After-search = search in
     let find-first : tie.After-find-first = search in
     let start : tie.Start = search in
-    first-target (start .pre .0) (found _ _ _ _ _ (search-point .search .given .1) (find-first .find-first .ensures))
+    first-target (start .pre .0) (found-twice _ _ _ _ _ (search-point .search .given .1) (find-first .find-first .ensures))
     (goal-at .goal-at .ensures .0)
 
 part-join-into-start : tie.Need-part-join-into-start
@@ -44,7 +45,7 @@ part-join-into-start c =
     let search-point : tie.After-search = search in
     let find-first : tie.After-find-first = search in
     let start : tie.Start = search in
-    first-target (start .pre .0) (found _ _ _ _ _ (search-point .search .given .1) (find-first .find-first .ensures))
+    first-target (start .pre .0) (found-twice _ _ _ _ _ (search-point .search .given .1) (find-first .find-first .ensures))
     (goal-at .goal-at .ensures .0)
 
 part-join-into-end : tie.Need-part-join-into-end
@@ -56,7 +57,7 @@ sub-join-into-2 c =
     let search-point : tie.After-search = search in
     let find-first : tie.After-find-first = search in
     let start : tie.Start = search in
-    second-target (start .pre .0) (found _ _ _ _ _ (search-point .search .given .1) (find-first .find-first .ensures))
+    second-target (start .pre .0) (found-twice _ _ _ _ _ (search-point .search .given .1) (find-first .find-first .ensures))
     (goal-at2 .goal-at2 .ensures .0)
 
 part-join-into-start-2 : tie.Need-part-join-into-start-2
@@ -65,7 +66,7 @@ part-join-into-start-2 c =
     let search-point : tie.After-search = search in
     let find-first : tie.After-find-first = search in
     let start : tie.Start = search in
-    second-target (start .pre .0) (found _ _ _ _ _ (search-point .search .given .1) (find-first .find-first .ensures))
+    second-target (start .pre .0) (found-twice _ _ _ _ _ (search-point .search .given .1) (find-first .find-first .ensures))
     (goal-at2 .goal-at2 .ensures .0)
 
 part-join-into-end-2 : tie.Need-part-join-into-end-2
@@ -75,7 +76,7 @@ slice-aggregate-join-into : tie.Need-slice-aggregate-join-into
 slice-aggregate-join-into c = search needs
 
 join-into-requires : tie.Need-join-into-requires
-join-into-requires c κs = search (needs, forced-joins, found)
+join-into-requires c κs = search (needs, forced-joins, found-twice)
 
 enum-known-walk : tie.Need-enum-known-walk
 enum-known-walk c = search needs
@@ -89,7 +90,7 @@ same-length-2 c = search needs
 returns-2 : tie.Need-returns-2
 returns-2 c =
     let search-point : tie.After-search = search in
-    search (needs, decided-failed, found)
+    search (needs, forced-failed, found-twice)
 
 sub-enclose-into : tie.Need-sub-enclose-into
 sub-enclose-into c = search needs
@@ -108,7 +109,7 @@ part-enclose-into-end c =
     let start : tie.Start = search in
     omega (
       arith,
-      target-within (start .pre .0) (found _ _ _ _ _ (search-point .search .given .1) (find-first .find-first .ensures))
+      forced-target-within (start .pre .0) (found-twice _ _ _ _ _ (search-point .search .given .1) (find-first .find-first .ensures))
           (goal-at .goal-at .ensures .0) (goal-at2 .goal-at2 .ensures .0) (join-into .join-into .ensures) (walk .walk .given .1),
     )
 
@@ -121,7 +122,7 @@ enclose-into-requires c κs =
     let search-point : tie.After-search = search in
     let find-first : tie.After-find-first = search in
     let start : tie.Start = search in
-    forced-encloses (start .pre .0) (found _ _ _ _ _ (search-point .search .given .1) (find-first .find-first .ensures))
+    forced-encloses (start .pre .0) (found-twice _ _ _ _ _ (search-point .search .given .1) (find-first .find-first .ensures))
     (goal-at .goal-at .ensures .0) (goal-at2 .goal-at2 .ensures .0) (join-into .join-into .ensures) (walk .walk .given .1) (omega arith)
 
 without-requires : tie.Need-without-requires
@@ -134,7 +135,7 @@ without-requires c κs =
     let search-point : tie.After-search = search in
     let find-first : tie.After-find-first = search in
     let start : tie.Start = search in
-    search (needs, forced-drops, found)
+    search (needs, forced-drops, found-twice)
 
 without-requires-2 : tie.Need-without-requires-2
 without-requires-2 c κs =
@@ -147,7 +148,7 @@ without-requires-2 c κs =
     let search-point : tie.After-search = search in
     let find-first : tie.After-find-first = search in
     let start : tie.Start = search in
-    search (needs, forced-drops-two, found)
+    search (needs, forced-drops-two, found-twice)
 
 match-goal-requires : tie.Need-match-goal-requires
 match-goal-requires c κs = search needs
@@ -166,16 +167,16 @@ put-goal-requires c κs =
     let start : tie.Start = search in (
       omega (
         arith,
-        forced-room (start .pre .0) (found _ _ _ _ _ (search-point .search .given .1) (find-first .find-first .ensures))
+        forced-room (start .pre .0) (found-twice _ _ _ _ _ (search-point .search .given .1) (find-first .find-first .ensures))
             (goal-at .goal-at .ensures .0) (goal-at2 .goal-at2 .ensures .0) (join-into .join-into .ensures)
             (walk .walk .given .1) (omega arith)
             (enclose-into .enclose-into .ensures) (without .without .ensures) (without2 .without2 .ensures),
         forced-whole (start .pre .0)
-            (found _ _ _ _ _ (search-point .search .given .1) (find-first .find-first .ensures)) (goal-at .goal-at .ensures .0)
+            (found-twice _ _ _ _ _ (search-point .search .given .1) (find-first .find-first .ensures)) (goal-at .goal-at .ensures .0)
             (goal-at2 .goal-at2 .ensures .0) (join-into .join-into .ensures) (walk .walk .given .1) (omega arith)
             (enclose-into .enclose-into .ensures) (without .without .ensures) (without2 .without2 .ensures),
       ),
-      forced-fits (start .pre .0) (found _ _ _ _ _ (search-point .search .given .1) (find-first .find-first .ensures))
+      forced-fits (start .pre .0) (found-twice _ _ _ _ _ (search-point .search .given .1) (find-first .find-first .ensures))
           (goal-at .goal-at .ensures .0) (goal-at2 .goal-at2 .ensures .0) (join-into .join-into .ensures)
           (walk .walk .given .1) (omega arith)
           (enclose-into .enclose-into .ensures) (without .without .ensures) (without2 .without2 .ensures) (start .pre .1)
@@ -196,7 +197,7 @@ add-t31 c =
     let start : tie.Start = search in
     omega (
       arith,
-      forced-room (start .pre .0) (found _ _ _ _ _ (search-point .search .given .1) (find-first .find-first .ensures))
+      forced-room (start .pre .0) (found-twice _ _ _ _ _ (search-point .search .given .1) (find-first .find-first .ensures))
           (goal-at .goal-at .ensures .0) (goal-at2 .goal-at2 .ensures .0) (join-into .join-into .ensures)
           (walk .walk .given .1) (omega arith)
           (enclose-into .enclose-into .ensures) (without .without .ensures) (without2 .without2 .ensures),
@@ -219,7 +220,7 @@ returns-3 c =
     let search-point : tie.After-search = search in
     let find-first : tie.After-find-first = search in
     let start : tie.Start = search in
-    decided-next (start .pre .0) (found _ _ _ _ _ (search-point .search .given .1) (find-first .find-first .ensures))
+    forced-next (start .pre .0) (found-twice _ _ _ _ _ (search-point .search .given .1) (find-first .find-first .ensures))
     (goal-at .goal-at .ensures .0) (goal-at2 .goal-at2 .ensures .0) (join-into .join-into .ensures) (walk .walk .given .1) (omega arith)
     (enclose-into .enclose-into .ensures) (without .without .ensures) (without2 .without2 .ensures) (start .pre .1)
     (match-goal .match-goal .ensures) (put-goal .put-goal .ensures)

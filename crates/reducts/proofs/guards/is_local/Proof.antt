@@ -1,5 +1,5 @@
 -- `reducts::guards::is_local` meets its contract, by the record's kind and its number. Assumes nothing.
-use Rattle.reducts.proofs.Arguments.{no-local, same-local}
+use Rattle.reducts.proofs.Arguments.{not-local, same-local}
 use borrow.Author.Needs.{needs}
 use Rattle.reducts.proofs.guards.is_local.Statement.{statement}
 use Rattle.reducts.proofs.guards.is_local.Tie as tie
@@ -8,7 +8,7 @@ shared-slice-read-if1 : tie.Need-shared-slice-read-if1
 shared-slice-read-if1 c = search needs
 
 returns : tie.Need-returns
-returns c = no-local _ _ (c .if1 .taken)
+returns c = not-local _ _ (c .if1 .taken)
 
 number-at-requires : tie.Need-number-at-requires
 number-at-requires c κs = search needs

@@ -1,4 +1,7 @@
-// The closed normal terms up to a number of records over the constants 0 to 2, found by going through all runs of records.
+// All closed normal terms of up to six records over the constants 0 to 2, found by going through all runs of records.
+//
+// It promises that it is safe and ends, and that what is written lies within its tables. It rests on `records` for the kinds and figures,
+// on `notation` for writing records, and on `test_scan` to tell which runs are values.
 
 use notation::put_number;
 use notation::put_record;

@@ -1,11 +1,11 @@
--- `test_draw::pool::fill` is safe and ends. The loop's measure is the number of sizes left.
+-- `test_pool::fill` is safe and ends. The loop's measure is the number of sizes left.
 -- Assumes nothing.
 use Prim.Native.Nat.{_-_}
 use mathlib.Core.Path.{_≡_}
 use lib.ListN.{length}
 use borrow.Author.Needs.{needs}
-use Rattle.test_draw.proofs.pool.fill.Statement.{statement}
-use Rattle.test_draw.proofs.pool.fill.Tie as tie
+use Rattle.test_pool.proofs.fill.Statement.{statement}
+use Rattle.test_pool.proofs.fill.Tie as tie
 
 abbrev Inv-loop : tie.InvT-loop
 Inv-loop terms₀ entries₀ before filled₀ size₀ terms entries filled size =

@@ -7,10 +7,10 @@ use native.Mathlib.Omega.{arith}
 use lib.ListN.{length-set}
 use Rattle.terms.specs.Figures.{valueRecords}
 use Rattle.agenda.specs.Moves.{progress}
-use Rattle.search.proofs.Taken.{stepped-failed, stepped-left, stepped-assign, branched-failed, branched-next, decided-failed}
-use Rattle.search.proofs.Taken.{decided-next, decided-open, planned-failed, planned-next, planned-bodies}
+use Rattle.search.proofs.Taken.{stepped-failed, stepped-left, stepped-assign, branched-failed, branched-next, taken-failed}
+use Rattle.search.proofs.Taken.{taken-next, taken-open, planned-failed, planned-next, planned-bodies}
 use Rattle.search.proofs.Searching.{begins-move, searched-move, searched-failed, finds, searched-found, begins-open, searched-open}
-use Rattle.search.proofs.Searching.{SearchingOn, going-start, begins-going, going-next, going-end, going-stop, searched-last}
+use Rattle.search.proofs.Searching.{SearchingOn, going-start, begins-going, going-next, searching-end, going-stop, searched-last}
 use Rattle.search.proofs.Searching.{searched-stop, choosing-next, searched-both, begins-forwarded, searched-forwarded, begins-kept}
 use Rattle.search.proofs.Searching.{matches-kept, counted-kept, builds-kept, planned-begins, planned-searched}
 use borrow.Author.Needs.{needs}
@@ -19,42 +19,43 @@ use borrow.Fn.Kinds.{In, Out}
 use borrow.Fn.PlainCycle.{Measures, is, falls, and}
 use Rattle.search.proofs.advance.Reads as advance
 use Rattle.search.proofs.advance.Kinds as advance-kinds
-use Rattle.search.proofs.+advance+attempt+attempt_body+bodies+branch+build+cheapest+flexible+postponed+search.Lts-advance
+use Rattle.search.proofs.+advance+attempt+attempt_body+bodies+branch+build+cheapest+flexible+next_deferred+search.Lts-advance
     as advance-lts
 use Rattle.search.proofs.attempt.Reads as attempt
 use Rattle.search.proofs.attempt.Kinds as attempt-kinds
-use Rattle.search.proofs.+advance+attempt+attempt_body+bodies+branch+build+cheapest+flexible+postponed+search.Lts-attempt
+use Rattle.search.proofs.+advance+attempt+attempt_body+bodies+branch+build+cheapest+flexible+next_deferred+search.Lts-attempt
     as attempt-lts
 use Rattle.search.proofs.attempt_body.Reads as attempt-body
 use Rattle.search.proofs.attempt_body.Kinds as attempt-body-kinds
-use Rattle.search.proofs.+advance+attempt+attempt_body+bodies+branch+build+cheapest+flexible+postponed+search.Lts-attempt_body
+use Rattle.search.proofs.+advance+attempt+attempt_body+bodies+branch+build+cheapest+flexible+next_deferred+search.Lts-attempt_body
     as attempt-body-lts
 use Rattle.search.proofs.bodies.Reads as bodies
 use Rattle.search.proofs.bodies.Kinds as bodies-kinds
-use Rattle.search.proofs.+advance+attempt+attempt_body+bodies+branch+build+cheapest+flexible+postponed+search.Lts-bodies
+use Rattle.search.proofs.+advance+attempt+attempt_body+bodies+branch+build+cheapest+flexible+next_deferred+search.Lts-bodies
     as bodies-lts
 use Rattle.search.proofs.branch.Reads as branch
 use Rattle.search.proofs.branch.Kinds as branch-kinds
-use Rattle.search.proofs.+advance+attempt+attempt_body+bodies+branch+build+cheapest+flexible+postponed+search.Lts-branch
+use Rattle.search.proofs.+advance+attempt+attempt_body+bodies+branch+build+cheapest+flexible+next_deferred+search.Lts-branch
     as branch-lts
 use Rattle.search.proofs.build.Reads as build
 use Rattle.search.proofs.build.Kinds as build-kinds
-use Rattle.search.proofs.+advance+attempt+attempt_body+bodies+branch+build+cheapest+flexible+postponed+search.Lts-build as build-lts
+use Rattle.search.proofs.+advance+attempt+attempt_body+bodies+branch+build+cheapest+flexible+next_deferred+search.Lts-build
+    as build-lts
 use Rattle.search.proofs.cheapest.Reads as cheapest
 use Rattle.search.proofs.cheapest.Kinds as cheapest-kinds
-use Rattle.search.proofs.+advance+attempt+attempt_body+bodies+branch+build+cheapest+flexible+postponed+search.Lts-cheapest
+use Rattle.search.proofs.+advance+attempt+attempt_body+bodies+branch+build+cheapest+flexible+next_deferred+search.Lts-cheapest
     as cheapest-lts
 use Rattle.search.proofs.flexible.Reads as flexible
 use Rattle.search.proofs.flexible.Kinds as flexible-kinds
-use Rattle.search.proofs.+advance+attempt+attempt_body+bodies+branch+build+cheapest+flexible+postponed+search.Lts-flexible
+use Rattle.search.proofs.+advance+attempt+attempt_body+bodies+branch+build+cheapest+flexible+next_deferred+search.Lts-flexible
     as flexible-lts
-use Rattle.search.proofs.postponed.Reads as postponed
-use Rattle.search.proofs.postponed.Kinds as postponed-kinds
-use Rattle.search.proofs.+advance+attempt+attempt_body+bodies+branch+build+cheapest+flexible+postponed+search.Lts-postponed
-    as postponed-lts
+use Rattle.search.proofs.next_deferred.Reads as next-deferred
+use Rattle.search.proofs.next_deferred.Kinds as next-deferred-kinds
+use Rattle.search.proofs.+advance+attempt+attempt_body+bodies+branch+build+cheapest+flexible+next_deferred+search.Lts-next_deferred
+    as next-deferred-lts
 use Rattle.search.proofs.search.Reads as search′
 use Rattle.search.proofs.search.Kinds as search-kinds
-use Rattle.search.proofs.+advance+attempt+attempt_body+bodies+branch+build+cheapest+flexible+postponed+search.Lts-search
+use Rattle.search.proofs.+advance+attempt+attempt_body+bodies+branch+build+cheapest+flexible+next_deferred+search.Lts-search
     as search-lts
 use Rattle.alternatives.proofs.way.Reads as way-reads
 use Rattle.alternatives.proofs.ways.Reads as ways-reads
@@ -65,8 +66,8 @@ use Rattle.ordering.proofs.order.bring_forward.Reads as bring-forward-reads
 use Rattle.ordering.proofs.repeated.force.Reads as force-reads
 use Rattle.steps.proofs.step.Reads as step-reads
 use Rattle.listing.proofs.found.Reads as found-reads
-use Rattle.search.proofs.+advance+attempt+attempt_body+bodies+branch+build+cheapest+flexible+postponed+search.{statement}
-use Rattle.search.proofs.+advance+attempt+attempt_body+bodies+branch+build+cheapest+flexible+postponed+search.Tie.{close}
+use Rattle.search.proofs.+advance+attempt+attempt_body+bodies+branch+build+cheapest+flexible+next_deferred+search.{statement}
+use Rattle.search.proofs.+advance+attempt+attempt_body+bodies+branch+build+cheapest+flexible+next_deferred+search.Tie.{close}
 
 abbrev μ-advance : Measures 4 advance-kinds.ps ℕ
 μ-advance κs a = 1000 * progress (a .1 .1 .0) + 899
@@ -92,8 +93,8 @@ abbrev μ-cheapest : Measures 4 cheapest-kinds.ps ℕ
 abbrev μ-flexible : Measures 4 flexible-kinds.ps ℕ
 μ-flexible κs a = 1000 * progress (a .1 .1 .0) + 895
 
-abbrev μ-postponed : Measures 4 postponed-kinds.ps ℕ
-μ-postponed κs a = 1000 * progress (a .1 .1 .0) + 898
+abbrev μ-next-deferred : Measures 4 next-deferred-kinds.ps ℕ
+μ-next-deferred κs a = 1000 * progress (a .1 .1 .0) + 898
 
 abbrev μ-search : Measures 4 search-kinds.ps ℕ
 μ-search κs a = 1000 * progress (a .1 .1 .0) + 900
@@ -154,12 +155,12 @@ abbrev flexible-below : ℕ → In 4 flexible-kinds.ps
 flexible-below t =
     and 4 flexible-kinds.ps (falls 4 flexible-kinds.ps _<_ μ-flexible t) flexible.Pre
 
-abbrev postponed-at : ℕ → In 4 postponed-kinds.ps
-postponed-at t = and 4 postponed-kinds.ps (is 4 postponed-kinds.ps μ-postponed t) postponed.Pre
+abbrev next-deferred-at : ℕ → In 4 next-deferred-kinds.ps
+next-deferred-at t = and 4 next-deferred-kinds.ps (is 4 next-deferred-kinds.ps μ-next-deferred t) next-deferred.Pre
 
-abbrev postponed-below : ℕ → In 4 postponed-kinds.ps
-postponed-below t =
-    and 4 postponed-kinds.ps (falls 4 postponed-kinds.ps _<_ μ-postponed t) postponed.Pre
+abbrev next-deferred-below : ℕ → In 4 next-deferred-kinds.ps
+next-deferred-below t =
+    and 4 next-deferred-kinds.ps (falls 4 next-deferred-kinds.ps _<_ μ-next-deferred t) next-deferred.Pre
 
 abbrev search-at : ℕ → In 4 search-kinds.ps
 search-at t = and 4 search-kinds.ps (is 4 search-kinds.ps μ-search t) search′.Pre
@@ -576,7 +577,7 @@ cheapest-same-length : (t : ℕ) → cheapest-in t cheapest-lts.Need-same-length
 cheapest-same-length t c = search needs
 
 cheapest-returns : (t : ℕ) → cheapest-in t cheapest-lts.Need-returns
-cheapest-returns t c = search (needs, searched-forwarded, searched-failed, decided-failed, begins-forwarded)
+cheapest-returns t c = search (needs, searched-forwarded, searched-failed, taken-failed, begins-forwarded)
 
 cheapest-enum-known-decided : (t : ℕ) → cheapest-in t cheapest-lts.Need-enum-known-decided
 cheapest-enum-known-decided t c = search needs
@@ -588,7 +589,7 @@ cheapest-search-requires t c κs =
     let bring-forward : cheapest-in t cheapest-lts.After-bring-forward = search in
     let start : cheapest-in t cheapest-lts.Start = search in
     let f = bring-forward .bring-forward .ensures in
-    let m = decided-next _ _ _ _ _ _ _ (decide .decide .ensures) _ (decided .decided .given .1) in (
+    let m = taken-next _ _ _ _ _ _ _ (decide .decide .ensures) _ (decided .decided .given .1) in (
       omega (arith, m .falls, f .level),
       begins-move _ _ _ _ _ _ _ _ _ _ _ _ _ m (begins-forwarded _ _ _ _ _ _ _ _ _ _ f (start .pre .1 .0)),
     )
@@ -609,7 +610,7 @@ cheapest-returns-2 t c =
     let decide : cheapest-in t cheapest-lts.After-decide = search in
     let bring-forward : cheapest-in t cheapest-lts.After-bring-forward = search in
     let f = bring-forward .bring-forward .ensures in
-    let m = decided-next _ _ _ _ _ _ _ (decide .decide .ensures) _ (decided .decided .given .1) in
+    let m = taken-next _ _ _ _ _ _ _ (decide .decide .ensures) _ (decided .decided .given .1) in
     searched-forwarded _ _ _ _ _ _ _ _ _ _ f _ _ _ _ (searched-move _ _ _ _ _ _ _ _ _ _ _ _ _ _ _ _ _ m (searched .search .ensures))
 
 cheapest-enum-told-2 : (t : ℕ) → cheapest-in t cheapest-lts.Need-enum-told-2
@@ -622,7 +623,7 @@ cheapest-branch-requires t c κs =
     let bring-forward : cheapest-in t cheapest-lts.After-bring-forward = search in
     let start : cheapest-in t cheapest-lts.Start = search in
     let f = bring-forward .bring-forward .ensures in
-    let e = decided-open _ _ _ _ _ _ _ (decide .decide .ensures) (enum-told2 .enum-told2 .given .1) in (
+    let e = taken-open _ _ _ _ _ _ _ (decide .decide .ensures) (enum-told2 .enum-told2 .given .1) in (
       omega (arith, f .level),
       (begins-open _ _ _ _ _ _ _ _ _ _ e (begins-forwarded _ _ _ _ _ _ _ _ _ _ f (start .pre .1 .0)), f .none-easy, f .some-deferred),
     )
@@ -642,7 +643,7 @@ cheapest-returns-3 t c =
     let decide : cheapest-in t cheapest-lts.After-decide = search in
     let bring-forward : cheapest-in t cheapest-lts.After-bring-forward = search in
     let f = bring-forward .bring-forward .ensures in
-    let e = decided-open _ _ _ _ _ _ _ (decide .decide .ensures) (enum-told2 .enum-told2 .given .1) in
+    let e = taken-open _ _ _ _ _ _ _ (decide .decide .ensures) (enum-told2 .enum-told2 .given .1) in
     search (needs, searched-forwarded, searched-open)
 
 abbrev flexible-Inv-loop : flexible-lts.InvT-loop
@@ -723,76 +724,77 @@ flexible-same-length-6 : (t : ℕ) → flexible-in t flexible-lts.Need-same-leng
 flexible-same-length-6 t c = search needs
 
 flexible-returns-2 : (t : ℕ) → flexible-in t flexible-lts.Need-returns-2
-flexible-returns-2 t c = search (needs, going-end)
+flexible-returns-2 t c = search (needs, searching-end)
 
-abbrev postponed-in : ℕ → (postponed-lts.Claims → In 4 postponed-kinds.ps → Out 4 postponed-kinds.ps postponed-kinds.r → Type 0) → Type 0
-postponed-in t X = X (
+abbrev next-deferred-in :
+    ℕ → (next-deferred-lts.Claims → In 4 next-deferred-kinds.ps → Out 4 next-deferred-kinds.ps next-deferred-kinds.r → Type 0) → Type 0
+next-deferred-in t X = X (
   force-reads.Asked,
   force-reads.Learnt,
   search-below t,
   search′.Post,
   cheapest-below t,
   cheapest.Post,
-) (postponed-at t) postponed.Post
+) (next-deferred-at t) next-deferred.Post
 
-postponed-force-requires : (t : ℕ) → postponed-in t postponed-lts.Need-force-requires
-postponed-force-requires t c κs = search needs
+next-deferred-force-requires : (t : ℕ) → next-deferred-in t next-deferred-lts.Need-force-requires
+next-deferred-force-requires t c κs = search needs
 
-postponed-enum-told : (t : ℕ) → postponed-in t postponed-lts.Need-enum-told
-postponed-enum-told t c = search needs
+next-deferred-enum-told : (t : ℕ) → next-deferred-in t next-deferred-lts.Need-enum-told
+next-deferred-enum-told t c = search needs
 
-postponed-same-length : (t : ℕ) → postponed-in t postponed-lts.Need-same-length
-postponed-same-length t c = search needs
+next-deferred-same-length : (t : ℕ) → next-deferred-in t next-deferred-lts.Need-same-length
+next-deferred-same-length t c = search needs
 
-postponed-returns : (t : ℕ) → postponed-in t postponed-lts.Need-returns
-postponed-returns t c = search (needs, searched-failed, decided-failed)
+next-deferred-returns : (t : ℕ) → next-deferred-in t next-deferred-lts.Need-returns
+next-deferred-returns t c = search (needs, searched-failed, taken-failed)
 
-postponed-enum-known-forced : (t : ℕ) → postponed-in t postponed-lts.Need-enum-known-forced
-postponed-enum-known-forced t c = search needs
+next-deferred-enum-known-forced : (t : ℕ) → next-deferred-in t next-deferred-lts.Need-enum-known-forced
+next-deferred-enum-known-forced t c = search needs
 
-postponed-search-requires : (t : ℕ) → postponed-in t postponed-lts.Need-search-requires
-postponed-search-requires t c κs =
-    let forced : postponed-in t postponed-lts.After-forced = search in
-    let force : postponed-in t postponed-lts.After-force = search in
-    let m = decided-next _ _ _ _ _ _ _ (force .force .ensures) _ (forced .forced .given .1) in
+next-deferred-search-requires : (t : ℕ) → next-deferred-in t next-deferred-lts.Need-search-requires
+next-deferred-search-requires t c κs =
+    let forced : next-deferred-in t next-deferred-lts.After-forced = search in
+    let force : next-deferred-in t next-deferred-lts.After-force = search in
+    let m = taken-next _ _ _ _ _ _ _ (force .force .ensures) _ (forced .forced .given .1) in
     search (needs, begins-move)
 
-postponed-same-length-2 : (t : ℕ) → postponed-in t postponed-lts.Need-same-length-2
-postponed-same-length-2 t c = search needs
+next-deferred-same-length-2 : (t : ℕ) → next-deferred-in t next-deferred-lts.Need-same-length-2
+next-deferred-same-length-2 t c = search needs
 
-postponed-same-length-3 : (t : ℕ) → postponed-in t postponed-lts.Need-same-length-3
-postponed-same-length-3 t c = search needs
+next-deferred-same-length-3 : (t : ℕ) → next-deferred-in t next-deferred-lts.Need-same-length-3
+next-deferred-same-length-3 t c = search needs
 
-postponed-same-length-4 : (t : ℕ) → postponed-in t postponed-lts.Need-same-length-4
-postponed-same-length-4 t c = search needs
+next-deferred-same-length-4 : (t : ℕ) → next-deferred-in t next-deferred-lts.Need-same-length-4
+next-deferred-same-length-4 t c = search needs
 
-postponed-returns-2 : (t : ℕ) → postponed-in t postponed-lts.Need-returns-2
-postponed-returns-2 t c = search (needs, decided-next, searched-move)
+next-deferred-returns-2 : (t : ℕ) → next-deferred-in t next-deferred-lts.Need-returns-2
+next-deferred-returns-2 t c = search (needs, taken-next, searched-move)
 
-postponed-enum-told-2 : (t : ℕ) → postponed-in t postponed-lts.Need-enum-told-2
-postponed-enum-told-2 t c = search needs
+next-deferred-enum-told-2 : (t : ℕ) → next-deferred-in t next-deferred-lts.Need-enum-told-2
+next-deferred-enum-told-2 t c = search needs
 
-postponed-cheapest-requires : (t : ℕ) → postponed-in t postponed-lts.Need-cheapest-requires
-postponed-cheapest-requires t c κs = search (needs, decided-open, begins-open)
+next-deferred-cheapest-requires : (t : ℕ) → next-deferred-in t next-deferred-lts.Need-cheapest-requires
+next-deferred-cheapest-requires t c κs = search (needs, taken-open, begins-open)
 
-postponed-same-length-5 : (t : ℕ) → postponed-in t postponed-lts.Need-same-length-5
-postponed-same-length-5 t c = search needs
+next-deferred-same-length-5 : (t : ℕ) → next-deferred-in t next-deferred-lts.Need-same-length-5
+next-deferred-same-length-5 t c = search needs
 
-postponed-same-length-6 : (t : ℕ) → postponed-in t postponed-lts.Need-same-length-6
-postponed-same-length-6 t c = search needs
+next-deferred-same-length-6 : (t : ℕ) → next-deferred-in t next-deferred-lts.Need-same-length-6
+next-deferred-same-length-6 t c = search needs
 
-postponed-same-length-7 : (t : ℕ) → postponed-in t postponed-lts.Need-same-length-7
-postponed-same-length-7 t c = search needs
+next-deferred-same-length-7 : (t : ℕ) → next-deferred-in t next-deferred-lts.Need-same-length-7
+next-deferred-same-length-7 t c = search needs
 
-postponed-returns-3 : (t : ℕ) → postponed-in t postponed-lts.Need-returns-3
-postponed-returns-3 t c = search (needs, decided-open, searched-open)
+next-deferred-returns-3 : (t : ℕ) → next-deferred-in t next-deferred-lts.Need-returns-3
+next-deferred-returns-3 t c = search (needs, taken-open, searched-open)
 
 abbrev search-in : ℕ → (search-lts.Claims → In 4 search-kinds.ps → Out 4 search-kinds.ps search-kinds.r → Type 0) → Type 0
 search-in t X = X (
   advance-below t,
   advance.Post,
-  postponed-below t,
-  postponed.Post,
+  next-deferred-below t,
+  next-deferred.Post,
   found-reads.Asked,
   found-reads.Learnt,
 ) (search-at t) search′.Post
@@ -812,8 +814,8 @@ search-same-length-3 t c = search needs
 search-returns : (t : ℕ) → search-in t search-lts.Need-returns
 search-returns t c = search needs
 
-search-postponed-requires : (t : ℕ) → search-in t search-lts.Need-postponed-requires
-search-postponed-requires t c κs = (omega arith, search needs)
+search-next-deferred-requires : (t : ℕ) → search-in t search-lts.Need-next-deferred-requires
+search-next-deferred-requires t c κs = (omega arith, search needs)
 
 search-same-length-4 : (t : ℕ) → search-in t search-lts.Need-same-length-4
 search-same-length-4 t c = search needs
@@ -842,9 +844,9 @@ search-same-length-9 t c = search needs
 search-returns-3 : (t : ℕ) → search-in t search-lts.Need-returns-3
 search-returns-3 t c = search (needs, searched-found)
 
-pub +advance+attempt+attempt-body+bodies+branch+build+cheapest+flexible+postponed+search-spec :
+pub +advance+attempt+attempt-body+bodies+branch+build+cheapest+flexible+next-deferred+search-spec :
     {M : Type 1} → statement M
-+advance+attempt+attempt-body+bodies+branch+build+cheapest+flexible+postponed+search-spec =
++advance+attempt+attempt-body+bodies+branch+build+cheapest+flexible+next-deferred+search-spec =
     close
     μ-advance
     μ-attempt
@@ -854,7 +856,7 @@ pub +advance+attempt+attempt-body+bodies+branch+build+cheapest+flexible+postpone
     μ-build
     μ-cheapest
     μ-flexible
-    μ-postponed
+    μ-next-deferred
     μ-search
     (λ t. advance-lts.spec
     (step-reads.Asked, step-reads.Learnt, search-below t, search′.Post)
@@ -1024,7 +1026,7 @@ pub +advance+attempt+attempt-body+bodies+branch+build+cheapest+flexible+postpone
     (flexible-same-length-5 t)
     (flexible-same-length-6 t)
     (flexible-returns-2 t))
-    (λ t. postponed-lts.spec (
+    (λ t. next-deferred-lts.spec (
       force-reads.Asked,
       force-reads.Learnt,
       search-below t,
@@ -1032,29 +1034,29 @@ pub +advance+attempt+attempt-body+bodies+branch+build+cheapest+flexible+postpone
       cheapest-below t,
       cheapest.Post,
     )
-    (postponed-at t)
-    postponed.Post
-    (postponed-force-requires t)
-    (postponed-enum-told t)
-    (postponed-same-length t)
-    (postponed-returns t)
-    (postponed-enum-known-forced t)
-    (postponed-search-requires t)
-    (postponed-same-length-2 t)
-    (postponed-same-length-3 t)
-    (postponed-same-length-4 t)
-    (postponed-returns-2 t)
-    (postponed-enum-told-2 t)
-    (postponed-cheapest-requires t)
-    (postponed-same-length-5 t)
-    (postponed-same-length-6 t)
-    (postponed-same-length-7 t)
-    (postponed-returns-3 t))
+    (next-deferred-at t)
+    next-deferred.Post
+    (next-deferred-force-requires t)
+    (next-deferred-enum-told t)
+    (next-deferred-same-length t)
+    (next-deferred-returns t)
+    (next-deferred-enum-known-forced t)
+    (next-deferred-search-requires t)
+    (next-deferred-same-length-2 t)
+    (next-deferred-same-length-3 t)
+    (next-deferred-same-length-4 t)
+    (next-deferred-returns-2 t)
+    (next-deferred-enum-told-2 t)
+    (next-deferred-cheapest-requires t)
+    (next-deferred-same-length-5 t)
+    (next-deferred-same-length-6 t)
+    (next-deferred-same-length-7 t)
+    (next-deferred-returns-3 t))
     λ t. search-lts.spec (
       advance-below t,
       advance.Post,
-      postponed-below t,
-      postponed.Post,
+      next-deferred-below t,
+      next-deferred.Post,
       found-reads.Asked,
       found-reads.Learnt,
     )
@@ -1065,7 +1067,7 @@ pub +advance+attempt+attempt-body+bodies+branch+build+cheapest+flexible+postpone
     (search-same-length-2 t)
     (search-same-length-3 t)
     (search-returns t)
-    (search-postponed-requires t)
+    (search-next-deferred-requires t)
     (search-same-length-4 t)
     (search-same-length-5 t)
     (search-same-length-6 t)

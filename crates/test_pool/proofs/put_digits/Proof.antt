@@ -1,11 +1,11 @@
--- `test_draw::pool::put_digits` meets its contract. The loop's invariant: the end is within the table, which keeps its length; the
+-- `test_pool::put_digits` meets its contract. The loop's invariant: the end is within the table, which keeps its length; the
 -- measure is the number of digits left. Assumes nothing.
 use Prim.Native.Nat.{_≤_, _-_}
 use mathlib.Core.Path.{_≡_}
 use lib.ListN.{length}
 use borrow.Author.Needs.{needs}
-use Rattle.test_draw.proofs.pool.put_digits.Statement.{statement}
-use Rattle.test_draw.proofs.pool.put_digits.Tie as tie
+use Rattle.test_pool.proofs.put_digits.Statement.{statement}
+use Rattle.test_pool.proofs.put_digits.Tie as tie
 
 abbrev Inv-loop : tie.InvT-loop
 Inv-loop out₀ at number size rest₀ end₀ i₀ out rest end i = (end ≤ length out) × (length out ≡ length out₀)

@@ -1,11 +1,11 @@
--- `test_draw::pool::add_size` is safe and ends. The loop's measure is the number of runs left.
+-- `test_pool::add_size` is safe and ends. The loop's measure is the number of runs left.
 -- Assumes nothing.
 use Prim.Native.Nat.{_-_}
 use mathlib.Core.Path.{_≡_}
 use lib.ListN.{length}
 use borrow.Author.Needs.{needs}
-use Rattle.test_draw.proofs.pool.add_size.Statement.{statement}
-use Rattle.test_draw.proofs.pool.add_size.Tie as tie
+use Rattle.test_pool.proofs.add_size.Statement.{statement}
+use Rattle.test_pool.proofs.add_size.Tie as tie
 
 abbrev Inv-loop : tie.InvT-loop
 Inv-loop terms₀ entries₀ size before all now-filled₀ number₀ terms entries now-filled number =

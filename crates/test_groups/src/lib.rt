@@ -1,0 +1,58 @@
+// Groups of random cases: patterns and recipes drawn from a seed, and each tried.
+//
+// It promises that it is safe and ends; what the trials find is counted. It rests on `test_cases`, which draws the cases, and on
+// `test_trials`, which tries them.
+
+use test_cases::RANDOM_RECIPE;
+use test_cases::draw_pattern;
+use test_cases::draw_terms;
+use test_cases::entry_room;
+use test_cases::put_recipe;
+use test_cases::short;
+use test_totals::SIZE;
+use test_trials::try_case;
+
+// Tries a pattern with a random recipe.
+fn try_recipe(
+    pattern: &[u8],
+    terms: &[u8],
+    entries: &[u8],
+    values: &[u8],
+    seed: &mut u64,
+    totals: &mut [u64; SIZE],
+) {
+    let mut r = [0u8; RANDOM_RECIPE];
+    let end = put_recipe(pattern, terms, entries, values, seed, &mut r);
+    try_case(pattern, &r[..end], terms, values, totals);
+}
+
+fn try_random(
+    shape: usize,
+    seed: &mut u64,
+    entries: &[u8],
+    values: &[u8],
+    totals: &mut [u64; SIZE],
+) {
+    let mut p = short();
+    let mut t = entry_room();
+    let pattern = draw_pattern(shape, seed, &mut p);
+    let terms = draw_terms(pattern, entries, seed, &mut t);
+    try_recipe(pattern, terms, entries, values, seed, totals);
+}
+
+// Tries so many cases of a shape.
+pub fn try_group(
+    shape: usize,
+    first_seed: u64,
+    cases: usize,
+    entries: &[u8],
+    values: &[u8],
+    totals: &mut [u64; SIZE],
+) {
+    let mut seed = first_seed;
+    let mut i = 0;
+    while i < cases {
+        try_random(shape, &mut seed, entries, values, totals);
+        i += 1;
+    }
+}
