@@ -1,17 +1,24 @@
 #!/bin/sh
-# Compiles the benchmark with the static library and runs it. Arguments go to the benchmark (`--limit MILLISECONDS`; `--hard`, `--show COUNT`).
-# LIBRARY names the folder of libexports.a; without it, the repository's own target/staticlib.
+# Compiles the benchmark with the static library and runs it.
+#
+#   bench/run.sh [path of the static library] [options of src/main.rs: --limit MILLISECONDS, --hard, --show COUNT]
+#
+# The library is target/staticlib/libexports.a unless given.
 set -eu
-bench=$(cd "$(dirname "$0")" && pwd)
-library=${LIBRARY:-$bench/../target/staticlib}
-if [ ! -f "$library/libexports.a" ]; then
-    echo "no libexports.a in $library: run 'rt staticlib exports' first" >&2
-    exit 1
-fi
-program=${TMPDIR:-/tmp}/onestep-bench.$$
-trap 'rm -f "$program"' EXIT
-rustc --edition 2021 -O -D warnings "$bench/src/main.rs" -L "$library" -l static=exports -o "$program"
-echo "library: $library/libexports.a, checksum and bytes $(cksum < "$library/libexports.a")"
+here=$(cd "$(dirname "$0")" && pwd)
+library=$here/../target/staticlib/libexports.a
+case ${1:---} in
+--*) ;;
+*) library=$1 && shift ;;
+esac
+[ -f "$library" ] || { echo "no static library at $library: 'rt staticlib exports' builds target/staticlib/libexports.a" >&2; exit 2; }
+library=$(cd "$(dirname "$library")" && pwd)/$(basename "$library")
+
+build=$(mktemp -d)
+trap 'rm -rf "$build"' EXIT
+trap 'exit 1' HUP INT TERM
+rustc --edition 2021 -O -D warnings -o "$build/bench" "$here/src/main.rs" -C link-arg="$library"
+echo "library: $library, checksum and bytes $(cksum <"$library")"
 grep -m 1 'model name' /proc/cpuinfo || true
 echo "cores and load: $(nproc), $(cut -d ' ' -f 1-3 /proc/loadavg); $(rustc --version)"
-"$program" "$bench/cases" "$@"
+"$build/bench" "$here/cases" "$@"

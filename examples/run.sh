@@ -9,7 +9,7 @@ room=$(mktemp -d)
 trap 'rm -rf "$room"' EXIT
 trap 'exit 1' HUP INT TERM
 
-[ -f "$program" ] || echo "proving the program and all that it rests on, crate by crate: some minutes" >&2
+echo "checking the program: what isn't proved yet is proved now, crate by crate; all of it takes some minutes" >&2
 {
     status=0
     (cd "$here/.." && rt check onestep) 2>&1 || status=$?
@@ -23,7 +23,9 @@ trap 'exit 1' HUP INT TERM
 done
 [ "$(cat "$room/status")" -eq 0 ] || { cat "$room/log" >&2; exit 1; }
 
+several=$(($# > 1))
 for folder in "$@"; do
+    [ "$several" -eq 0 ] || echo "== $folder"
     [ -d "$folder" ] || folder=$here/$folder
     "$here/records.sh" "$folder/pattern.txt" >"$room/pattern.rec"
     "$here/records.sh" "$folder/recipe.txt" >"$room/recipe.rec"

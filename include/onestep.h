@@ -2,8 +2,8 @@
  *
  * Each table is lent as a pointer and a length in bytes. A length of 0 may come with any pointer that is not NULL. The tables that are written (the
  * output table, list's line and value tables, the work area) must not overlap any other table, and nobody else may write to a lent table during a
- * call. Every call takes a work area of ONESTEP_TABLE bytes; it is all zero on return, unless its own length was wrong. On a refusal every table is
- * as it was.
+ * call. Every call takes a work area of ONESTEP_TABLE bytes; it is all zero on return, unless its own length was wrong. On a refusal every other
+ * table is as it was.
  *
  * A table holds records of 4 bytes: kind, a zero byte, and a 16-bit number, high byte first. Kinds: 0 application, followed by its head and its
  * argument; 1 abstraction, followed by its body; 2 local, 0 the innermost; 3 constant; 4 variable, 0 to 7. A record is bad if its kind is above 4, its

@@ -42,7 +42,7 @@ ALLOWED = set("""
 rt rustc cc od awk python3 target antt io libc os
 ensures requires needs search value
 matches refused ok logic proved axioms sum native built trusted nat char string read write close
-LIBRARY say NAME FILE FOLDER LAW X N M T P E B n k x
+say NAME FILE FOLDER LAW X N M T P E B n k x
 test_ .rt .antt docs/X.md rattle-kit-5b-plain
 """.split())
 # Built by the commands of the documents, and not in the repository.

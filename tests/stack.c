@@ -3,9 +3,11 @@
  *   stack list PATTERN RECIPE     lists with full tables
  *   stack sweep N                 sweeps N nested abstractions
  *
- * Prints the bytes of stack used, the thread's own start included. A call that takes over two seconds is ended, and nothing is printed. */
+ * Prints the bytes of stack used, the thread's own start included, and the answer: `matches`, `records` or `refused`, and its number. A call that takes over
+ * two seconds is ended with status 3; status 2 says that nothing was called. */
 #define _GNU_SOURCE
 #include <pthread.h>
+#include <signal.h>
 #include <stdio.h>
 #include <stdlib.h>
 #include <string.h>
@@ -13,16 +15,17 @@
 #include <unistd.h>
 #include "../include/onestep.h"
 
-enum { STACK = 4 << 20, MARK = 0xA5, TABLE = 65536 };
+enum { STACK = 4 << 20, MARK = 0xA5, NOT_CALLED = 2, NO_ANSWER = 3 };
 
-static uint8_t first[512], second[512], lines[TABLE], values[TABLE], work[TABLE];
+static uint8_t first[512], second[512], lines[ONESTEP_TABLE], values[ONESTEP_TABLE], work[ONESTEP_TABLE];
 static size_t first_length, second_length;
+static int64_t answer;
 
 static size_t read_table(const char *path, uint8_t *table) {
     FILE *file = fopen(path, "rb");
     if (!file) {
         perror(path);
-        exit(2);
+        exit(NOT_CALLED);
     }
     size_t length = fread(table, 1, 512, file);
     fclose(file);
@@ -31,21 +34,26 @@ static size_t read_table(const char *path, uint8_t *table) {
 
 static void *list(void *unused) {
     (void)unused;
-    onestep_list(first, first_length, second, second_length, lines, TABLE, values, TABLE, work, TABLE);
+    answer = onestep_list(first, first_length, second, second_length, lines, ONESTEP_TABLE, values, ONESTEP_TABLE, work, ONESTEP_TABLE);
     return NULL;
 }
 
 static void *sweep(void *unused) {
     (void)unused;
-    onestep_sweep(first, first_length, lines, ONESTEP_LINE, values, 0, second, sizeof second, work, TABLE);
+    answer = onestep_sweep(first, first_length, lines, ONESTEP_LINE, values, 0, second, sizeof second, work, ONESTEP_TABLE);
     return NULL;
 }
 
+static void give_up(int unused) {
+    (void)unused;
+    _exit(NO_ANSWER);
+}
+
 int main(int count, char **words) {
-    if (count < 3) return 2;
+    if (count < 3) return NOT_CALLED;
     int is_list = strcmp(words[1], "list") == 0;
     if (is_list) {
-        if (count < 4) return 2;
+        if (count < 4) return NOT_CALLED;
         first_length = read_table(words[2], first);
         second_length = read_table(words[3], second);
     } else {
@@ -54,18 +62,19 @@ int main(int count, char **words) {
         first[4 * depth] = 2;
         first_length = 4 * (depth + 1);
     }
-    alarm(2);
     uint8_t *stack = mmap(NULL, STACK, PROT_READ | PROT_WRITE, MAP_PRIVATE | MAP_ANONYMOUS, -1, 0);
-    if (stack == MAP_FAILED) return 2;
+    if (stack == MAP_FAILED) return NOT_CALLED;
     memset(stack, MARK, STACK);
     pthread_attr_t attributes;
     pthread_t thread;
     pthread_attr_init(&attributes);
     pthread_attr_setstack(&attributes, stack, STACK);
-    if (pthread_create(&thread, &attributes, is_list ? list : sweep, NULL) != 0) return 2;
+    signal(SIGALRM, give_up);
+    alarm(2);
+    if (pthread_create(&thread, &attributes, is_list ? list : sweep, NULL) != 0) return NOT_CALLED;
     pthread_join(thread, NULL);
     size_t at = 0;
     while (at < STACK && stack[at] == MARK) at++;
-    printf("%zu\n", STACK - at);
+    printf("%zu %s %lld\n", STACK - at, answer < 0 ? "refused" : is_list ? "matches" : "records", (long long)(answer < 0 ? -answer : answer));
     return 0;
 }

@@ -2,17 +2,39 @@
 # Measures the stack that calls of the library take: every case of the benchmark that ends within two seconds, and the deepest sweep.
 #
 #   tests/stack.sh [path of the static library]
+#
+# The library is target/staticlib/libexports.a unless given. A call that crashes or gives a wrong answer ends the run with status 1.
 set -eu
 here=$(cd "$(dirname "$0")" && pwd)
 library=${1:-$here/../target/staticlib/libexports.a}
 [ -f "$library" ] || { echo "no static library at $library: 'rt staticlib exports' builds target/staticlib/libexports.a" >&2; exit 2; }
+
 build=$(mktemp -d)
 trap 'rm -rf "$build"' EXIT
+trap 'exit 1' HUP INT TERM
 cc -O2 -Wall -Wextra -Werror "$here/stack.c" "$library" -pthread -o "$build/stack"
-for pattern in "$here"/../bench/cases/*.pattern.rec; do
-    case=$(basename "$pattern" .pattern.rec)
-    bytes=$("$build/stack" list "$pattern" "${pattern%.pattern.rec}.recipe.rec" 2>/dev/null) || bytes="no answer in two seconds"
-    echo "$bytes  $case"
-done 2>/dev/null | sort -n | tee "$build/all" | tail -3
-echo "cases: $(wc -l <"$build/all"), without an answer: $(grep -c answer "$build/all" || true)"
-echo "$("$build/stack" sweep 31)  sweep of 31 nested abstractions"
+
+# measure NAME EXPECTED WORDS..: makes the call that WORDS say to stack.c; prints the bytes of stack, the name and the answer, which has to be EXPECTED.
+measure() {
+    name=$1 expected=$2 status=0
+    shift 2
+    "$build/stack" "$@" >"$build/call" || status=$?
+    case $status in
+    0) ;;
+    2) echo "$name: the call couldn't be made" >&2 && exit 1 ;;
+    3) echo "none  $name, no answer in two seconds" && return ;;
+    *) echo "$name: the call crashed, status $status" >&2 && exit 1 ;;
+    esac
+    read -r bytes answer <"$build/call"
+    [ "$answer" = "$expected" ] || { echo "$name: answered '$answer' instead of '$expected'" >&2; exit 1; }
+    echo "$bytes  $name, $answer"
+}
+
+cases=$here/../bench/cases
+tail -n +2 "$cases/manifest.tsv" | while IFS=$(printf '\t') read -r name _ _ _ expected; do
+    measure "$name" "$expected" list "$cases/$name.pattern.rec" "$cases/$name.recipe.rec"
+done >"$build/all"
+sort -n "$build/all" | tail -3
+count() { grep -c "$1" "$build/all" || true; }
+echo "cases: $(count .), refused for want of room: $(count ', refused'), without an answer: $(count ', no answer')"
+measure 'sweep of 31 nested abstractions' 'records 32' sweep 31

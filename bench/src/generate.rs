@@ -74,7 +74,7 @@ fn begin_spine(random: &mut Random, size: usize, head: Record, out: &mut Vec<Rec
 fn pattern(random: &mut Random, palette: &Palette) -> Vec<Record> {
     loop {
         let mut pattern = Vec::new();
-        let size = random.between(20, 32);
+        let size = random.between(20, PATTERN_RECORDS);
         write_pattern(random, size, 0, palette, &mut pattern);
         if pattern.iter().any(|&record| kind(record) == VARIABLE) {
             return pattern;
@@ -104,7 +104,7 @@ fn write_pattern(random: &mut Random, size: usize, depth: usize, palette: &Palet
 /// A closed normal term of 60 to 96 records.
 fn recipe(random: &mut Random, palette: &Palette) -> Vec<Record> {
     let mut recipe = Vec::new();
-    let size = random.between(60, 96);
+    let size = random.between(60, RECIPE_RECORDS);
     write_normal(random, size, 0, palette, &mut recipe);
     recipe
 }
@@ -147,7 +147,7 @@ fn planted(random: &mut Random, pattern: &[Record], palette: &Palette) -> Option
     for _ in 0..TRIES {
         let values: [Vec<Record>; VARIABLES] = std::array::from_fn(|_| value(random, palette));
         let swept = sweep(pattern, &values.each_ref().map(|value| Some(&value[..])));
-        if (60..=96).contains(&swept.len()) && is_normal(&swept) {
+        if (60..=RECIPE_RECORDS).contains(&swept.len()) && is_normal(&swept) {
             return Some((swept, values));
         }
     }

@@ -1,5 +1,7 @@
 //! The proved library through its C interface (`include/onestep.h`). The unsafe code of the benchmark stands here, but for the clock of `timing.rs`.
 
+use crate::terms::VARIABLES;
+
 extern "C" {
     fn onestep_list(
         pattern: *const u8,
@@ -57,8 +59,8 @@ extern "C" {
 
 /// Bytes of a full line table, value table, output table or work area.
 pub const TABLE: usize = 65536;
-/// Bytes of a line.
-pub const LINE: usize = 32;
+/// Bytes of a line: for each variable first record and count of records, 16 bits each.
+pub const LINE: usize = 4 * VARIABLES;
 
 /// A line table and a value table of full size.
 pub struct Tables {

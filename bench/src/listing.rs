@@ -90,7 +90,7 @@ impl Listing {
     }
 }
 
-/// Up by variable 0, then 1, to 7; open comes before assigned; values by bytes.
+/// Up by variable 0, then 1, to the last; open comes before assigned; values by bytes.
 fn order(one: &Line, other: &Line, records: &[Record]) -> Ordering {
     let value = |run: &Option<Range<usize>>| run.clone().map(|run| &records[run]);
     let entries = one.iter().zip(other);

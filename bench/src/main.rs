@@ -104,9 +104,8 @@ fn read_arguments() -> Arguments {
 
 fn print_setting(cases: usize, limit: Duration) {
     println!("# Benchmark of onestep\n");
-    println!(
-        "{cases} cases, each measured in one process of its own, library and baselines turn by turn; times are medians of 15 turns (fewer for slow ones), of processor time."
-    );
+    println!("{cases} cases, each measured in one process of its own, library and baselines turn by turn;");
+    println!("times are medians of 15 turns (fewer for slow ones), of processor time.");
     println!(
         "Ratios: (a) is the paper's algorithm with its three prunings and (b) its bare `resolve`, both written plainly in Rust; (c) is the search of (a),"
     );
@@ -114,7 +113,8 @@ fn print_setting(cases: usize, limit: Duration) {
         "tuned; each divided by the library's time, so above 1 the library is faster. Worst is the least ratio. `limit`: no answer within {} ms.",
         limit.as_millis()
     );
-    println!("Buffers: full tables of 65,536 bytes, the same ones for each call, warm, not cleared between calls; the library, (a) and (b) clear their work area themselves.");
+    println!("Buffers: full tables of 65,536 bytes, the same ones for each call, warm, not cleared between calls;");
+    println!("the library, (a) and (b) clear their work area themselves.");
     println!("All read bytes and write sorted lines and values; the library, (a) and (b) check pattern and recipe, (c) takes them as good.\n");
 }
 

@@ -8,7 +8,7 @@
 //! clause for an application says what that can give.
 
 use crate::library::{Tables, LINE};
-use crate::terms::VARIABLES;
+use crate::terms::{PATTERN_RECORDS, RECIPE_RECORDS, VARIABLES};
 use crate::timing::now;
 use std::iter::{empty, once};
 use std::rc::Rc;
@@ -48,7 +48,8 @@ pub enum Prunings {
     None,
 }
 
-/// Lists as `onestep_list` does, with the same answer; nothing if the deadline, in `timing::now`'s time, passed first. The tables are taken to have good lengths (refusal 8).
+/// Lists as `onestep_list` does, with the same answer; nothing if the deadline, in `timing::now`'s time, passed first. The tables are taken to have good
+/// lengths (refusal 8).
 pub fn list(pattern: &[u8], recipe: &[u8], out: &mut Tables, prunings: Prunings, deadline: Duration) -> Option<i64> {
     let answer = match read_both(pattern, recipe) {
         Err(refusal) => Some(-refusal),
@@ -61,8 +62,8 @@ pub fn list(pattern: &[u8], recipe: &[u8], out: &mut Tables, prunings: Prunings,
 
 /// Pattern and recipe as terms, or the number of the refusal.
 fn read_both(pattern: &[u8], recipe: &[u8]) -> Result<Rule, i64> {
-    let pattern = read_term(pattern, 32, 4).map_err(|cause| 1 + cause)?;
-    let target = read_term(recipe, 96, 3).map_err(|cause| 4 + cause)?;
+    let pattern = read_term(pattern, PATTERN_RECORDS, 4).map_err(|cause| 1 + cause)?;
+    let target = read_term(recipe, RECIPE_RECORDS, 3).map_err(|cause| 4 + cause)?;
     if is_normal(&target) {
         Ok(Rule { pattern, target })
     } else {

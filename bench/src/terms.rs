@@ -13,6 +13,10 @@ pub const VARIABLE: u32 = 4;
 
 /// The number of variables that a pattern may use.
 pub const VARIABLES: usize = 8;
+/// The most records of a pattern.
+pub const PATTERN_RECORDS: usize = 32;
+/// The most records of a recipe.
+pub const RECIPE_RECORDS: usize = 96;
 
 pub fn record(kind: u32, number: u32) -> Record {
     kind << 24 | number
@@ -79,7 +83,7 @@ pub fn end(term: &[Record], at: usize) -> usize {
 }
 
 /// The loose locals of a part, as a set of bits: bit n for local n seen from outside the part.
-/// A matching target's loose locals are binders of the pattern, so their numbers stay below 32.
+/// A matching target's loose locals are binders of the pattern, so their numbers stay below the pattern's records.
 pub fn loose_locals(part: &[Record]) -> u64 {
     let mut set = 0;
     note_locals(part, 0, 0, &mut set);

@@ -6,7 +6,7 @@
 #include <stdio.h>
 #include "onestep.h"
 
-enum { RECORD = 4, VARIABLES = 8 };
+enum { RECORD = 4, ENTRY = 4, VARIABLES = ONESTEP_LINE / ENTRY };
 
 /* A file is read up to this many bytes. That is more than any term may have, so a file that is too long is refused and not cut off. */
 enum { READ = 512 };
@@ -64,7 +64,7 @@ static void print_term(const uint8_t *records, size_t count) {
 static void print_line(int64_t i) {
     int assigned = 0;
     for (int variable = 0; variable < VARIABLES; variable++) {
-        const uint8_t *entry = lines + ONESTEP_LINE * i + 4 * variable;
+        const uint8_t *entry = lines + ONESTEP_LINE * i + ENTRY * variable;
         size_t first = number(entry), count = number(entry + 2);
         if (count == 0) continue; /* open: any value will do */
         printf("line %lld: p%d =", (long long)i, variable);

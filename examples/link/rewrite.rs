@@ -17,7 +17,9 @@ extern "C" {
 }
 
 const RECORD: usize = 4;
-const LINE: usize = 32;
+const ENTRY: usize = 4;
+const VARIABLES: usize = 8;
+const LINE: usize = ENTRY * VARIABLES;
 const TABLE: usize = 65_536;
 
 const CAUSES: [&str; 14] = [
@@ -80,7 +82,7 @@ fn text(records: &[u8]) -> String {
 
 fn print_line(i: usize, line: &[u8], values: &[u8]) {
     // An entry with a count of 0 is open: any value will do.
-    let assigned: Vec<_> = line.chunks(4).enumerate().filter(|(_, entry)| number(&entry[2..]) > 0).collect();
+    let assigned: Vec<_> = line.chunks(ENTRY).enumerate().filter(|(_, entry)| number(&entry[2..]) > 0).collect();
     for (variable, entry) in &assigned {
         let (first, count) = (number(entry), number(&entry[2..]));
         println!("line {i}: p{variable} = {}", text(&values[RECORD * first..RECORD * (first + count)]));

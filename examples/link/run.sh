@@ -9,6 +9,7 @@ library=${1:-$top/target/staticlib/libexports.a}
 
 room=$(mktemp -d)
 trap 'rm -rf "$room"' EXIT
+trap 'exit 1' HUP INT TERM
 cc -std=c11 -Wall -Wextra -Werror -I"$top/include" "$here/rewrite.c" "$library" -o "$room/rewrite_c"
 rustc --edition 2021 -O -D warnings "$here/rewrite.rs" -C link-arg="$library" -o "$room/rewrite_rs"
 
@@ -20,9 +21,10 @@ term() {
 
 # run_all PROGRAM
 run_all() {
-    for folder in fuse_maps factor_out_of_sum factor_uses_sample shared_band; do
-        echo "== $folder"
-        "$1" "$here/../$folder" || echo "status $?"
+    for right in "$here"/../*/right.rec; do
+        folder=$(dirname "$right")
+        echo "== $(basename "$folder")"
+        "$1" "$folder" || echo "status $?"
     done
     echo "== refused"
     mkdir -p "$room/refused"

@@ -1,8 +1,9 @@
 //! Makes one call of the library and compares the answer and every lent table, byte for byte, with what the operation should do.
 
 use crate::library;
-use crate::operations::{Call, Operation, Outcome};
-use crate::tables::{read_pattern, read_recipe};
+use crate::lister::Line;
+use crate::operations::{answer_listing, outcome_of, Call, Operation, Outcome};
+use crate::tables::*;
 
 /// Bytes before and behind each lent table that nobody may touch.
 const GUARD: usize = 64;
@@ -46,8 +47,8 @@ impl Lent {
             return None;
         }
         let at = (0..expected.len()).find(|at| self.table()[*at] != expected[*at]).expect("some byte differs");
-        let from = at - at % 32;
-        let to = (from + 64).min(expected.len());
+        let from = at - at % LINE_BYTES;
+        let to = (from + 2 * LINE_BYTES).min(expected.len());
         Some(format!(
             "table {name} differs first at byte {at}; from byte {from}:\n  expected {}\n  library  {}",
             hex(&expected[from..to]),
@@ -65,6 +66,22 @@ struct Tables {
     values: Lent,
     output: Lent,
     work: Lent,
+}
+
+impl Tables {
+    /// What differs from the tables that the caller should see, if anything does.
+    fn differences(&self, call: &Call, outcome: &Outcome) -> Vec<String> {
+        let tables = [
+            self.pattern.difference("pattern", &call.pattern),
+            self.right.difference("right", &call.right),
+            self.recipe.difference("recipe", &call.recipe),
+            self.lines.difference("lines", &outcome.lines),
+            self.values.difference("values", &outcome.values),
+            self.output.difference("output", &outcome.output),
+            self.work.difference("work", &outcome.work),
+        ];
+        tables.into_iter().flatten().collect()
+    }
 }
 
 /// Calls the library: its answer, and the tables as they are then. `shift` sets the addresses of the tables.
@@ -96,13 +113,11 @@ pub fn compare(call: &Call, outcome: &Outcome, shift: usize) -> Result<(), Strin
     if answer != outcome.answer {
         differences.push(format!("answer: expected {} {:?}, library {answer}", outcome.answer, outcome.refusal));
     }
-    differences.extend(tables.pattern.difference("pattern", &call.pattern));
-    differences.extend(tables.right.difference("right", &call.right));
-    differences.extend(tables.recipe.difference("recipe", &call.recipe));
-    differences.extend(tables.lines.difference("lines", &outcome.lines));
-    differences.extend(tables.values.difference("values", &outcome.values));
-    differences.extend(tables.output.difference("output", &outcome.output));
-    differences.extend(tables.work.difference("work", &outcome.work));
+    differences.extend(tables.differences(call, outcome));
+    no_difference(differences)
+}
+
+fn no_difference(differences: Vec<String>) -> Result<(), String> {
     if differences.is_empty() {
         Ok(())
     } else {
@@ -110,10 +125,25 @@ pub fn compare(call: &Call, outcome: &Outcome, shift: usize) -> Result<(), Strin
     }
 }
 
-/// The library's own listing, for a call that the plain lister is too slow for: the answer, the line table and the value table.
-pub fn library_listing(call: &Call) -> (i64, Vec<u8>, Vec<u8>) {
-    let (answer, tables) = make(call, 0);
-    (answer, tables.lines.table().to_vec(), tables.values.table().to_vec())
+/// The library's own listing, for a call that the plain lister is too slow for: its lines, or the refusal, 9 or 10. The lines must be laid out as they
+/// should, and all other bytes be what they are to be after such an answer; whether the lines are the right ones isn't looked at.
+pub fn library_listing(call: &Call, shift: usize) -> Result<Result<Vec<Line>, Refusal>, String> {
+    let (code, tables) = make(call, shift);
+    let listing = match code {
+        -9 => refuse(9, "lines", "too little room"),
+        -10 => refuse(10, "values", "too little room"),
+        0.. if code as usize * LINE_BYTES <= call.lines.len() => {
+            let lines = &tables.lines.table()[..code as usize * LINE_BYTES];
+            Ok(read_lines(lines, tables.values.table()).map_err(|refusal| format!("a value that is none: {refusal:?}"))?)
+        }
+        _ => return Err(format!("the library answers {code}")),
+    };
+    let answer = match &listing {
+        Ok(lines) => answer_listing(call, lines),
+        Err(refusal) => Err(*refusal),
+    };
+    no_difference(tables.differences(call, &outcome_of(call, answer)))?;
+    Ok(listing)
 }
 
 /// The call in hexadecimal, and its terms in the notation of document 01 where they can be read.

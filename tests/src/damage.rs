@@ -3,6 +3,7 @@
 use crate::operations::{Call, Operation};
 use crate::random::Random;
 use crate::tables::*;
+use crate::terms::VARIABLES;
 
 /// Damages one of the tables.
 pub fn damage(random: &mut Random, call: &mut Call) {
@@ -67,10 +68,10 @@ fn damage_record(random: &mut Random, table: &mut [u8]) {
         1 => record[0] = random.between(5, 255) as u8,
         2 => record[1] = random.between(1, 255) as u8,
         3 => record[2] = random.between(1, 255) as u8,
-        4 => record[3] = random.pick(&[1, 7, 8, 9, 255]),
+        4 => record[3] = random.pick(&[1, VARIABLES - 1, VARIABLES, VARIABLES + 1, 255]) as u8,
         5 => record[3] = record[3].wrapping_add(1),
         6 => record.copy_from_slice(&[2, 0, 0, random.below(6) as u8]),
-        7 => record.copy_from_slice(&[4, 0, 0, random.below(10) as u8]),
+        7 => record.copy_from_slice(&[4, 0, 0, random.below(VARIABLES + 2) as u8]),
         8 => record.copy_from_slice(&[2, 0, 255, 255]),
         _ => record[random.below(RECORD_BYTES)] ^= 1 << random.below(8),
     }
@@ -80,8 +81,8 @@ fn damage_record(random: &mut Random, table: &mut [u8]) {
 fn damage_lengths(random: &mut Random, call: &mut Call) {
     let odd = |random: &mut Random, length: usize| match random.below(4) {
         0 => length + random.between(1, 3),
-        1 => MOST_TABLE_BYTES + random.pick(&[1, 4, 32, 65_536]),
-        2 => length + random.pick(&[4, 16, 31]),
+        1 => MOST_TABLE_BYTES + random.pick(&[1, RECORD_BYTES, LINE_BYTES, MOST_TABLE_BYTES]),
+        2 => length + random.pick(&[RECORD_BYTES, LINE_BYTES / 2, LINE_BYTES - 1]),
         _ => length.saturating_sub(random.between(1, 5)),
     };
     match (random.below(4), call.operation) {
@@ -89,7 +90,10 @@ fn damage_lengths(random: &mut Random, call: &mut Call) {
             let length = odd(random, call.lines.len());
             call.lines.resize(length, 0x55);
         }
-        (0, _) => call.lines.resize(random.pick(&[0, 28, 31, 33, 64, 65_536]), 0),
+        (0, _) => {
+            let length = random.pick(&[0, LINE_BYTES - 4, LINE_BYTES - 1, LINE_BYTES + 1, 2 * LINE_BYTES, MOST_TABLE_BYTES]);
+            call.lines.resize(length, 0);
+        }
         (1, _) => {
             let length = odd(random, call.values.len());
             call.values.resize(length, 0x55);
@@ -111,9 +115,9 @@ fn damage_entry(random: &mut Random, call: &mut Call) {
         return;
     }
     // An entry that points somewhere, if there is one.
-    let pointing: Vec<usize> = (0..8).filter(|variable| number_at(&call.lines, 4 * variable + 2) > 0).collect();
-    let variable = if pointing.is_empty() { random.below(8) } else { random.pick(&pointing) };
-    let (first, count) = (number_at(&call.lines, 4 * variable), number_at(&call.lines, 4 * variable + 2));
+    let pointing: Vec<usize> = (0..VARIABLES).filter(|variable| read_entry(&call.lines, *variable).1 > 0).collect();
+    let variable = if pointing.is_empty() { random.below(VARIABLES) } else { random.pick(&pointing) };
+    let (first, count) = read_entry(&call.lines, variable);
     let records = call.values.len() / RECORD_BYTES;
     let (first, count) = match random.below(10) {
         0 => (0, 0),

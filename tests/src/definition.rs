@@ -4,14 +4,14 @@
 use crate::lister::Line;
 use crate::sweep::sweep;
 use crate::tables::{encode, sort_lines};
-use crate::terms::{abstraction, application, Term, Term::*};
+use crate::terms::{abstraction, application, Term, Term::*, VARIABLES};
 
 /// The definition has no limit on swept forms; this one is far above what these patterns and values reach.
 const NO_LIMIT: usize = 100_000;
 
 /// How many assignments were tried, or what is wrong with the listing.
 pub fn check(pattern: &Term, recipe: &Term, lines: &[Line], most_tries: usize) -> Result<usize, String> {
-    let occurring: Vec<usize> = (0..8).filter(|variable| pattern.occurs(*variable)).collect();
+    let occurring: Vec<usize> = (0..VARIABLES).filter(|variable| pattern.occurs(*variable)).collect();
     let mut sorted = lines.to_vec();
     sort_lines(&mut sorted);
     if sorted != lines {
@@ -49,7 +49,7 @@ pub fn check(pattern: &Term, recipe: &Term, lines: &[Line], most_tries: usize) -
         for (at, variable) in occurring.iter().enumerate() {
             assignment[*variable] = Some(values[choice[at]].clone());
         }
-        let agreeing = lines.iter().filter(|line| (0..8).all(|v| line[v].is_none() || line[v] == assignment[v])).count();
+        let agreeing = lines.iter().filter(|line| (0..VARIABLES).all(|v| line[v].is_none() || line[v] == assignment[v])).count();
         let right = usize::from(is_match(&assignment));
         if agreeing != right {
             let texts: Vec<String> = assignment.iter().flatten().map(Term::text).collect();

@@ -6,7 +6,7 @@ use crate::operations::{Call, Operation};
 use crate::random::Random;
 use crate::sweep::{sweep, MOST_SWEPT_RECORDS};
 use crate::tables::*;
-use crate::terms::{abstraction, application, Term, Term::*};
+use crate::terms::{abstraction, application, Term, Term::*, VARIABLES};
 
 /// The constants and variables that one call draws from: few, so that equal ones are common.
 struct Palette {
@@ -46,8 +46,8 @@ fn palette(random: &mut Random) -> Palette {
     if random.chance(50) {
         constants.truncate(2);
     }
-    let count = random.pick(&[1, 1, 2, 2, 2, 3, 3, 4, 8]);
-    let mut variables: Vec<usize> = (0..8).collect();
+    let count = random.pick(&[1, 1, 2, 2, 2, 3, 3, 4, VARIABLES]);
+    let mut variables: Vec<usize> = (0..VARIABLES).collect();
     while variables.len() > count {
         variables.remove(random.below(variables.len()));
     }
@@ -164,7 +164,7 @@ fn assign(random: &mut Random, terms: &[&Term], palette: &Palette) -> Line {
     }
     // Now and then a value that is a closed part of another, so that they can share records.
     if random.chance(15) {
-        let given: Vec<usize> = (0..8).filter(|variable| line[*variable].is_some()).collect();
+        let given: Vec<usize> = (0..VARIABLES).filter(|variable| line[*variable].is_some()).collect();
         if given.len() > 1 {
             let (from, to) = (random.pick(&given), random.pick(&given));
             if let Some(Application(head, argument)) = line[from].clone() {
@@ -383,7 +383,7 @@ fn assignment_call(random: &mut Random, operation: Operation) -> Call {
         }
     };
     // Now and then one value of the wrong sort: not normal, not closed, or at the limit of 160 records.
-    let occurring: Vec<usize> = (0..8).filter(|variable| line[*variable].is_some()).collect();
+    let occurring: Vec<usize> = (0..VARIABLES).filter(|variable| line[*variable].is_some()).collect();
     if !occurring.is_empty() && random.chance(8) {
         let variable = random.pick(&occurring);
         let size = random.between(1, 9);
@@ -420,7 +420,7 @@ fn assignment_call(random: &mut Random, operation: Operation) -> Call {
 
 /// Gives one variable a value of such a size that the swept form has about 256 records. For that the term may get more uses of it.
 fn grow(random: &mut Random, term: &mut Term, line: &mut Line, palette: &Palette) {
-    let occurring: Vec<usize> = (0..8).filter(|variable| term.occurs(*variable)).collect();
+    let occurring: Vec<usize> = (0..VARIABLES).filter(|variable| term.occurs(*variable)).collect();
     if occurring.is_empty() {
         return;
     }
@@ -474,10 +474,10 @@ fn place(random: &mut Random, line: &Line) -> (Vec<u8>, Vec<u8>) {
     let mut entries = if random.chance(50) { vec![0; LINE_BYTES] } else { random.bytes(LINE_BYTES) };
     let mut table = Vec::new();
     let gaps = random.chance(30);
-    let mut order: Vec<usize> = (0..8).collect();
-    for at in 0..8 {
+    let mut order: Vec<usize> = (0..VARIABLES).collect();
+    for at in 0..VARIABLES {
         if random.chance(30) {
-            let other = random.below(8);
+            let other = random.below(VARIABLES);
             order.swap(at, other);
         }
     }
@@ -504,8 +504,8 @@ fn place(random: &mut Random, line: &Line) -> (Vec<u8>, Vec<u8>) {
         let mut long = random.bytes(before * RECORD_BYTES);
         long.extend(table);
         table = long;
-        for variable in (0..8).filter(|variable| line[*variable].is_some()) {
-            let (first, count) = (number_at(&entries, 4 * variable), number_at(&entries, 4 * variable + 2));
+        for variable in (0..VARIABLES).filter(|variable| line[*variable].is_some()) {
+            let (first, count) = read_entry(&entries, variable);
             write_entry(&mut entries, variable, first + before, count);
         }
     }

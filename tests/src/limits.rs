@@ -10,6 +10,10 @@ use crate::terms::{abstraction, application, Term, Term::*};
 pub fn run() -> Result<usize, String> {
     let p0 = Variable(0);
     let k1 = Constant(1);
+    // With n copies of a constant 2 to the n lines (that with the last argument alone replaced is no value, but its head is one). The longest line table has
+    // room for a power of two.
+    let most_lines = MOST_TABLE_BYTES / LINE_BYTES;
+    let most_copies = most_lines.ilog2() as usize;
     let calls = [
         // Patterns of 32 and 33 records, recipes of 96 and 97; the longest target, 31 abstractions over a variable against 96 records: 158.
         (list(&abstractions(31, &k1), &abstractions(31, &k1)), 1),
@@ -17,13 +21,12 @@ pub fn run() -> Result<usize, String> {
         (list(&abstractions(31, &p0), &abstractions(95, &k1)), 1),
         (list(&abstractions(31, &p0), &abstractions(96, &k1)), -4),
         (list(&abstractions(31, &p0), &application(Constant(0), abstractions(93, &k1))), 0),
-        // With n copies of a constant 2 to the n lines (that with the last argument alone replaced is no value, but its head is one).
         (list(&application(p0.clone(), k1.clone()), &copies(9)), 512),
         (list(&application(p0.clone(), k1.clone()), &application(copies(9), Constant(2))), 512),
-        // 11 copies give 2,048 lines: these have room, but not in a table of one line less, and not their values. 12 copies have no room.
-        (list(&application(p0.clone(), k1.clone()), &copies(11)), -10),
-        (with_lines(2047, list(&application(p0.clone(), k1.clone()), &copies(11))), -9),
-        (list(&application(p0.clone(), k1.clone()), &copies(12)), -9),
+        // The most lines have room, but not in a table of one line less, and not their values. Twice as many have no room.
+        (list(&application(p0.clone(), k1.clone()), &copies(most_copies)), -10),
+        (with_lines(most_lines - 1, list(&application(p0.clone(), k1.clone()), &copies(most_copies))), -9),
+        (list(&application(p0.clone(), k1.clone()), &copies(most_copies + 1)), -9),
         // A value of 160 records and one of 161; a swept form of 256 records and one of 257.
         (sweep(&p0, &[abstractions(159, &k1)]), 160),
         (sweep(&p0, &[abstractions(160, &k1)]), -11),

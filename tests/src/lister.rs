@@ -9,10 +9,10 @@
 //!   (b) for some B that uses local 0 and some E' with B[E'] = T: F goes with `\ B` and E with E'; or
 //!   (c) F goes with `\ T`, T moved in, and E may be anything.
 
-use crate::terms::{abstraction, application, Term, Term::*};
+use crate::terms::{abstraction, application, Term, Term::*, VARIABLES};
 
-/// One line: a value, or open, for each of the eight variables.
-pub type Line = [Option<Term>; 8];
+/// One line: a value, or open, for each variable.
+pub type Line = [Option<Term>; VARIABLES];
 
 #[derive(Clone)]
 struct Goal {

@@ -9,9 +9,9 @@
 //! - definition: listings set against the definition of a full listing, by enumerating small values: one in four of those compared, and those that the
 //!   plain lister is too slow for
 //!
-//! Options: calls=N, seed=N, steps=N (the limit of the plain lister: a call that needs more is set against the definition alone and not
-//! counted as compared), only=N (the one call of that
-//! number, described), trace=FILE (writes each call to the file before it is made: after a crash the file holds the call).
+//! Options: calls=N, seed=N, steps=N (the limit of the plain lister: of a call that needs more the library's own listing is set against the definition,
+//! and the call isn't counted as compared), only=N (the one call of that number, described), trace=FILE (writes each call to the file before it is made:
+//! after a crash the file holds the call).
 #![deny(unsafe_code)]
 
 mod cases;
@@ -30,7 +30,7 @@ mod sweep;
 mod tables;
 mod terms;
 
-use operations::{expected, Call, Operation, Outcome};
+use operations::{answer_listing, expected, outcome_of, Call, Operation, Outcome};
 use random::Random;
 use std::collections::BTreeMap;
 
@@ -74,6 +74,7 @@ struct Counts {
     skipped: u64,
     skipped_listings: u64,
     skipped_tries: usize,
+    skipped_refusals: u64,
     calls: Calls,
     /// By what was answered (the number orders the rows), then for each operation.
     answers: BTreeMap<(usize, &'static str), Calls>,
@@ -107,16 +108,18 @@ fn main() {
         if let Some(file) = &options.trace {
             std::fs::write(file, format!("call {number}\n{}", compare::describe(&call))).expect("the trace can be written");
         }
-        match expected(&call, options.steps) {
+        let place = format!("in call {number} (seed {})", options.seed);
+        let outcome = expected(&call, options.steps);
+        let shift = random.below(8);
+        match outcome {
             None => {
                 counts.skipped += 1;
-                if let Err(wrong) = check_skipped(&call, &mut counts) {
-                    fail(&format!("in call {number} (seed {})", options.seed), &format!("{wrong}\n{}", compare::describe(&call)));
+                if let Err(wrong) = check_skipped(&call, shift, &mut counts) {
+                    fail(&place, &format!("{wrong}\n{}", compare::describe(&call)));
                 }
             }
             Some(outcome) => {
-                let place = format!("in call {number} (seed {})", options.seed);
-                if let Err(difference) = compare::compare(&call, &outcome, random.below(8)) {
+                if let Err(difference) = compare::compare(&call, &outcome, shift) {
                     fail(&place, &format!("{difference}\n{}", compare::describe(&call)));
                 }
                 if let Err(wrong) = check_by_definition(&call, &outcome, number, options.steps, &mut counts) {
@@ -157,29 +160,26 @@ fn check_by_definition(call: &Call, outcome: &Outcome, number: u64, steps: usize
     Ok(())
 }
 
-/// A call that the plain lister is too slow for: what the library writes must be laid out as it should and pass the definition.
-fn check_skipped(call: &Call, counts: &mut Counts) -> Result<(), String> {
-    let (answer, lines, values) = compare::library_listing(call);
-    if answer == -9 || answer == -10 {
-        return Ok(());
-    }
-    if answer < 0 || answer as usize * tables::LINE_BYTES > lines.len() {
-        return Err(format!("the library answers {answer}"));
-    }
+/// A call that the plain lister is too slow for. With full tables the library's own listing must pass the definition, and what the call must give with the
+/// tables that it has follows from those lines. If even full tables have too little room, the call's own must have too little too.
+fn check_skipped(call: &Call, shift: usize, counts: &mut Counts) -> Result<(), String> {
+    let full = Call { lines: vec![9; tables::MOST_TABLE_BYTES], values: vec![9; tables::MOST_TABLE_BYTES], ..call.clone() };
+    let lines = match compare::library_listing(&full, shift)? {
+        Ok(lines) => lines,
+        Err(refusal) => {
+            counts.skipped_refusals += 1;
+            return match compare::library_listing(call, shift)? {
+                // 9 comes before 10: too few lines, and then too little room for their values.
+                Err(own) if own.number <= refusal.number => Ok(()),
+                own => Err(format!("refused {} with full tables, but here {:?}", refusal.number, own.map(|lines| lines.len()))),
+            };
+        }
+    };
     let pattern = tables::read_pattern(&call.pattern, "pattern").expect("it was valid");
     let recipe = tables::read_recipe(&call.recipe).expect("it was valid");
-    let listing = tables::read_lines(&lines[..answer as usize * tables::LINE_BYTES], &values).map_err(|refusal| format!("{refusal:?}"))?;
-    let (line_bytes, value_bytes) = tables::lay_out(&listing);
-    let (lines_end, values_end) = (line_bytes.len(), value_bytes.len());
-    if lines[..lines_end] != line_bytes || values[..values_end] != value_bytes {
-        return Err("the lines or values are not laid out as they should".into());
-    }
-    if lines[lines_end..] != call.lines[lines_end..] || values[values_end..] != call.values[values_end..] {
-        return Err("bytes behind the last line or value were written".into());
-    }
-    counts.skipped_tries += definition::check(&pattern, &recipe, &listing, MOST_TRIES)?;
+    counts.skipped_tries += definition::check(&pattern, &recipe, &lines, MOST_TRIES)?;
     counts.skipped_listings += 1;
-    Ok(())
+    compare::compare(call, &outcome_of(call, answer_listing(call, &lines)), shift)
 }
 
 fn count(call: &Call, outcome: &Outcome, counts: &mut Counts) {
@@ -208,7 +208,7 @@ fn count(call: &Call, outcome: &Outcome, counts: &mut Counts) {
     if call.operation == Operation::List {
         counts.most_lines = counts.most_lines.max(outcome.answer);
         for line in outcome.lines.chunks(tables::LINE_BYTES).take(outcome.answer as usize) {
-            let longest = (0..8).map(|variable| tables::number_at(line, 4 * variable + 2)).max();
+            let longest = (0..terms::VARIABLES).map(|variable| tables::read_entry(line, variable).1).max();
             counts.longest_value = counts.longest_value.max(longest.unwrap_or(0));
         }
     }
@@ -231,8 +231,8 @@ fn report(counts: &Counts) {
         }
     }
     println!(
-        "skipped by the step limit of the plain lister: {}; of these {} listings set against the definition, with {} assignments",
-        counts.skipped, counts.skipped_listings, counts.skipped_tries
+        "skipped by the step limit of the plain lister: {}; of these {} listings set against the definition, with {} assignments, and {} refused",
+        counts.skipped, counts.skipped_listings, counts.skipped_tries, counts.skipped_refusals
     );
     println!("most lines written {}, longest value in a line {} records", counts.most_lines, counts.longest_value);
     println!(

@@ -40,8 +40,8 @@ pub struct Outcome {
     pub work: Vec<u8>,
 }
 
-enum Answer {
-    /// The bytes of the lines and of the values.
+pub enum Answer {
+    /// The number of lines, and the bytes of the lines and of the values.
     Listing(usize, Vec<u8>, Vec<u8>),
     Yes(bool),
     Written(Term),
@@ -55,6 +55,11 @@ pub fn expected(call: &Call, most_steps: usize) -> Option<Outcome> {
         Operation::Sweep => sweep_pattern(call),
         Operation::Rewrite => rewrite(call),
     };
+    Some(outcome_of(call, answer))
+}
+
+/// What the caller sees after this answer.
+pub fn outcome_of(call: &Call, answer: Result<Answer, Refusal>) -> Outcome {
     let mut outcome = Outcome {
         answer: 0,
         refusal: None,
@@ -80,7 +85,7 @@ pub fn expected(call: &Call, most_steps: usize) -> Option<Outcome> {
             outcome.output[..bytes.len()].copy_from_slice(&bytes);
         }
     }
-    Some(outcome)
+    outcome
 }
 
 fn list(call: &Call, most_steps: usize) -> Option<Result<Answer, Refusal>> {
@@ -94,15 +99,20 @@ fn list(call: &Call, most_steps: usize) -> Option<Result<Answer, Refusal>> {
     };
     let mut lines = lister::list(&pattern, &recipe, most_steps)?;
     sort_lines(&mut lines);
+    Some(answer_listing(call, &lines))
+}
+
+/// The answer of a list whose full listing has these lines: refusals 9 and 10.
+pub fn answer_listing(call: &Call, lines: &[Line]) -> Result<Answer, Refusal> {
     // Beyond 65,535 records the first records in these lines are meaningless, but then the lengths below refuse the call.
-    let (line_bytes, value_bytes) = lay_out(&lines);
-    Some(if line_bytes.len() > call.lines.len() {
-        refuse(9, "lines", if call.lines.is_empty() { "no room" } else { "too little room" })
-    } else if value_bytes.len() > call.values.len() {
-        refuse(10, "values", if call.values.is_empty() { "no room" } else { "too little room" })
-    } else {
-        Ok(Answer::Listing(lines.len(), line_bytes, value_bytes))
-    })
+    let (line_bytes, value_bytes) = lay_out(lines);
+    if line_bytes.len() > call.lines.len() {
+        return refuse(9, "lines", if call.lines.is_empty() { "no room" } else { "too little room" });
+    }
+    if value_bytes.len() > call.values.len() {
+        return refuse(10, "values", if call.values.is_empty() { "no room" } else { "too little room" });
+    }
+    Ok(Answer::Listing(lines.len(), line_bytes, value_bytes))
 }
 
 fn check(call: &Call) -> Result<Answer, Refusal> {

@@ -1,10 +1,12 @@
 //! Tables of bytes: records, what makes a table valid, lines, and where values stand.
 
 use crate::lister::Line;
-use crate::terms::{abstraction, application, Term, Term::*};
+use crate::terms::{abstraction, application, Term, Term::*, VARIABLES};
 
 pub const RECORD_BYTES: usize = 4;
-pub const LINE_BYTES: usize = 32;
+/// Of an entry in a line: first record and count, 16 bits each.
+const ENTRY_BYTES: usize = 4;
+pub const LINE_BYTES: usize = ENTRY_BYTES * VARIABLES;
 pub const MOST_TABLE_BYTES: usize = 65_536;
 pub const MOST_PATTERN_RECORDS: usize = 32;
 pub const MOST_RECIPE_RECORDS: usize = 96;
@@ -73,8 +75,7 @@ pub fn read_recipe(bytes: &[u8]) -> Result<Term, Refusal> {
 
 /// The value of one variable, as its entry in the line says: refusal 11.
 pub fn read_value(line: &[u8], values: &[u8], variable: usize) -> Result<Term, Refusal> {
-    let first = number_at(line, 4 * variable);
-    let count = number_at(line, 4 * variable + 2);
+    let (first, count) = read_entry(line, variable);
     if count == 0 {
         return refuse(11, "value", if first == 0 { "open" } else { "a count of 0" });
     }
@@ -116,8 +117,8 @@ fn read_term(bytes: &[u8], most_records: usize, variables: bool, numbers: &Numbe
         if record[0] == 4 && !variables {
             return refuse(numbers.record, table, "variable");
         }
-        if record[0] == 4 && number > 7 {
-            return refuse(numbers.record, table, "variable above 7");
+        if record[0] == 4 && number >= VARIABLES {
+            return refuse(numbers.record, table, "variable too high");
         }
     }
     let mut rest = bytes;
@@ -154,16 +155,23 @@ fn read_tree(rest: &mut &[u8]) -> Option<Term> {
 }
 
 /// A 16-bit number, high byte first.
-pub fn number_at(bytes: &[u8], at: usize) -> usize {
+fn number_at(bytes: &[u8], at: usize) -> usize {
     u16::from_be_bytes([bytes[at], bytes[at + 1]]) as usize
 }
 
-pub fn write_entry(line: &mut [u8], variable: usize, first: usize, count: usize) {
-    line[4 * variable..4 * variable + 2].copy_from_slice(&(first as u16).to_be_bytes());
-    line[4 * variable + 2..4 * variable + 4].copy_from_slice(&(count as u16).to_be_bytes());
+/// The first record and the count of a variable's entry.
+pub fn read_entry(line: &[u8], variable: usize) -> (usize, usize) {
+    let at = ENTRY_BYTES * variable;
+    (number_at(line, at), number_at(line, at + 2))
 }
 
-/// Sorts lines: by variable 0, then 1, to 7; open before assigned; two values by their bytes.
+pub fn write_entry(line: &mut [u8], variable: usize, first: usize, count: usize) {
+    let at = ENTRY_BYTES * variable;
+    line[at..at + 2].copy_from_slice(&(first as u16).to_be_bytes());
+    line[at + 2..at + 4].copy_from_slice(&(count as u16).to_be_bytes());
+}
+
+/// Sorts lines: by variable 0, then 1, to the last; open before assigned; two values by their bytes.
 pub fn sort_lines(lines: &mut [Line]) {
     lines.sort_by_cached_key(|line| line.clone().map(|entry| entry.map(|value| encode(&value))));
 }
@@ -185,14 +193,12 @@ pub fn lay_out(lines: &[Line]) -> (Vec<u8>, Vec<u8>) {
 
 /// The lines that stand in a line table; the refusal of the first value that isn't one.
 pub fn read_lines(lines: &[u8], values: &[u8]) -> Result<Vec<Line>, Refusal> {
-    let read_entry = |line: &[u8], variable: usize| match line[4 * variable..4 * variable + 4] {
-        [0, 0, 0, 0] => Ok(None),
-        _ => read_value(line, values, variable).map(Some),
-    };
     let read_line = |line: &[u8]| {
         let mut entries = Line::default();
         for (variable, entry) in entries.iter_mut().enumerate() {
-            *entry = read_entry(line, variable)?;
+            if read_entry(line, variable) != (0, 0) {
+                *entry = Some(read_value(line, values, variable)?);
+            }
         }
         Ok(entries)
     };

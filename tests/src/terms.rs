@@ -2,6 +2,9 @@
 
 use std::rc::Rc;
 
+/// Variables are numbered from 0 to one less than this.
+pub const VARIABLES: usize = 8;
+
 #[derive(Clone, PartialEq, Eq, Debug)]
 pub enum Term {
     Application(Rc<Term>, Rc<Term>),
@@ -70,7 +73,7 @@ impl Term {
     }
 
     pub fn has_variables(&self) -> bool {
-        (0..8).any(|variable| self.occurs(variable))
+        (0..VARIABLES).any(|variable| self.occurs(variable))
     }
 
     /// An application whose head is an abstraction, or an abstraction over `M #0` where M doesn't use that local.
@@ -147,7 +150,7 @@ impl Term {
     }
 
     /// Puts the values for the variables; a variable without a value stays.
-    pub fn fill(&self, values: &[Option<Term>; 8]) -> Term {
+    pub fn fill(&self, values: &[Option<Term>; VARIABLES]) -> Term {
         match self {
             Application(head, argument) => application(head.fill(values), argument.fill(values)),
             Abstraction(body) => abstraction(body.fill(values)),
