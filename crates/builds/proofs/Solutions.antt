@@ -17,11 +17,11 @@ use Rattle.records.specs.declared.Walk.{Walk}
 use Rattle.records.specs.declared.Walk.the-variants.{Upto, No}
 use Rattle.records.proofs.Parts.{kind-at, abstraction}
 use Rattle.records.proofs.Slices.{part-slice, body-slice, slice-length}
-use Rattle.shifting.specs.declared.Places.{Places}
-use Rattle.shifting.specs.declared.Pairing.{Pairing}
-use Rattle.shifting.specs.declared.Pairing.the-variants as pairing
-use Rattle.shifting.specs.Substitution.{Substitutes, Substituted}
-use Rattle.shifting.proofs.Substitution.{walk-reached, refused}
+use Rattle.instances.specs.declared.Places.{Places}
+use Rattle.instances.specs.declared.Pairing.{Pairing}
+use Rattle.instances.specs.declared.Pairing.the-variants as pairing
+use Rattle.instances.specs.Instances.{Substitutes, Substituted}
+use Rattle.instances.proofs.Instances.{walk-reached, refused}
 use Rattle.builds.specs.Builds.{Solving, Solved}
 
 module _ (h e t : List ℕ) where

@@ -3,7 +3,7 @@
 // Such a goal asks for a head, an abstraction, that comes to the target with an argument put in: its bodies are the target with some copies
 // of the argument replaced. The crate plans and writes bodies, and tells whether a given head solves the goal. It promises that the agenda
 // it leaves has exactly the assignments of the one before, or of the body that it is for; or that there are none. It rests on `agenda` for
-// goals, on `abstractions` for bodies, on `shifting` for the test of a given head, and on `matching` for the mathematics.
+// goals, on `abstractions` for bodies, on `instances` for the test of a given head, and on `matching` for the mathematics.
 //
 // Where the argument uses a local that the head lacks, the one body left is written with every choice made.
 
@@ -13,13 +13,13 @@ use agenda::Plan;
 use agenda::StoredGoal;
 use agenda::TARGET_BYTES;
 use assignments::Entry;
+use instances::Pairing;
 use records::Ask;
 use records::Kind;
 use records::RECORD;
 use records::VALUE_RECORDS;
 use records::VARIABLES;
 use records::Walk;
-use shifting::Pairing;
 ghost use Prim.Native.Nat.{_≤_};
 ghost use lib.ListN.{length};
 ghost use Rattle.agenda.specs.State.{Ready, relinking};
@@ -113,7 +113,7 @@ pub fn is_solved(head: &[u8], argument: &[u8], target: &[u8]) -> bool
     if let Walk::Upto(_) = unused {
         return false;
     }
-    let pairing = shifting::is_substituted(body, 0, argument, target);
+    let pairing = instances::is_substituted(body, 0, argument, target);
     match pairing {
         Pairing::Upto(_) => true,
         Pairing::No => false,

@@ -16,7 +16,7 @@ use Rattle.terms.specs.Listing.{Line, Full}
 use Rattle.terms.specs.Refusal.{Passed, listTableRows}
 use Rattle.terms.specs.Refusal.{patternRows, recipeRows}
 use Rattle.terms.proofs.Refusal.{passed-both}
-use Rattle.matching.specs.Cases.{Case.lists, from, identity}
+use Rattle.matching.specs.Cases.{Case.lists, lineFrom, identity}
 use Rattle.matching.proofs.Cases.{cases-hold}
 use Rattle.refusals.specs.Lent.{overwritten}
 use Rattle.refusals.proofs.Passing.{pattern-passed, recipe-passed}
@@ -40,7 +40,7 @@ abbrev r : List ℕ
 r = encode caseRecipe
 
 abbrev caseListing : List Line
-caseListing = from variables (some identity ∷ some (con 0) ∷ []) ∷ from variables (some (lam (con 0)) ∷ []) ∷ []
+caseListing = lineFrom variables (some identity ∷ some (con 0) ∷ []) ∷ lineFrom variables (some (lam (con 0)) ∷ []) ∷ []
 
 -- line 0: 2 records from 0 on and 1 from 2 on; line 1: 2 records from 3 on; all else open
 abbrev caseLines : List ℕ

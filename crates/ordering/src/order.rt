@@ -22,7 +22,7 @@ const MOST_BODIES: usize = 16380;
 
 // The cost of the bodies that so many copies give, or `MOST_BODIES` if it is more: at each copy a body has its local or the copy, and its
 // local at one of them.
-fn bodies(copies: usize) -> usize {
+fn bodies_cost(copies: usize) -> usize {
     let mut n = 0;
     let mut i = 0;
     while i < copies {
@@ -87,7 +87,7 @@ fn cost(pattern: &[u8], work: &[u8], at: usize, entries: [Entry; VARIABLES]) -> 
         return 1;
     }
     let copies = abstractions::copies(&work[target..], 0, &work[argument..]);
-    bodies(copies.count)
+    bodies_cost(copies.count)
 }
 
 // A goal of a list, and its cost.
@@ -97,7 +97,7 @@ struct Choice {
 }
 
 // The first goal of least cost in a list that has one.
-fn cheapest(pattern: &[u8], work: &[u8], list: usize, entries: [Entry; VARIABLES]) -> Choice
+fn cheapest_from(pattern: &[u8], work: &[u8], list: usize, entries: [Entry; VARIABLES]) -> Choice
     requires { ⌜ Ranks (now pattern) (now work) list ⌝ }
     ensures { λ r. ⌜ Reaches (now (work .entry)) list (r .goal) ⌝ }
 {
@@ -110,7 +110,7 @@ fn cheapest(pattern: &[u8], work: &[u8], list: usize, entries: [Entry; VARIABLES
             cost: own,
         };
     }
-    let best = cheapest(pattern, work, next, entries);
+    let best = cheapest_from(pattern, work, next, entries);
     if best.cost < own {
         return best;
     }
@@ -175,7 +175,7 @@ pub fn bring_forward(
     if first.next == 0 {
         return agenda;
     }
-    let best = cheapest(pattern, work, agenda.deferred, entries);
+    let best = cheapest_from(pattern, work, agenda.deferred, entries);
     let goal = best.goal;
     if goal == agenda.deferred {
         return agenda;

@@ -60,7 +60,7 @@ fn join(head: &[u8], argument: &[u8], out: &mut [u8; PATTERN_BYTES]) -> Length
 }
 
 // Applies a head to an argument, both reduced: the redex is contracted if it is one, and the argument is rigid or the local guarded.
-fn apply(head: &[u8], argument: &[u8], out: &mut [u8; PATTERN_BYTES]) -> Length
+fn apply_reduced(head: &[u8], argument: &[u8], out: &mut [u8; PATTERN_BYTES]) -> Length
     requires { ⌜ ReducibleParts (now head) (now argument) ⌝ }
     ensures { λ r. ⌜ ReducesRedex (now (head .entry)) (now (argument .entry)) (now (out .entry)) r (now (out .exit)) ⌝ }
 {
@@ -93,7 +93,7 @@ fn reduce_application(s: &[u8], out: &mut [u8; PATTERN_BYTES]) -> Length
     };
     let n = n * RECORD;
     let m = m * RECORD;
-    apply(&head[0..n], &argument[0..m], out)
+    apply_reduced(&head[0..n], &argument[0..m], out)
 }
 
 // Reduces an abstraction: its body, and then the abstraction over it.

@@ -115,7 +115,7 @@ fn sweep_side(side: &[u8], line: &[u8], values: &[u8], out: &mut [u8; SWEPT_BYTE
     ensures { λ r. ⌜ SweptSide (now (side .entry)) (now (line .entry)) (now (values .entry)) (now (out .entry)) r (now (out .exit)) ⌝ }
 {
     let a = assignments::entries_of(line);
-    sweeping::sweep(side, values, a, out)
+    sweeping::sweep_filled(side, values, a, out)
 }
 
 // Whether the filled pattern sweeps to the recipe.

@@ -2,4 +2,3 @@ pub mod Slices
 pub mod Tests
 pub mod Locals
 pub mod Lowering
-pub mod Substitution

@@ -1,4 +1,3 @@
 pub mod Tests
 pub mod Locals
 pub mod Lowering
-pub mod Substitution

@@ -1,17 +1,16 @@
 // Terms compared and moved under binders.
 //
-// The search asks of the parts of a target whether one is another shifted, or another with a term put for a local, whether it can be moved
-// out of the binders above it, which loose locals it has, and whether its head is rigid. Each function is lent a part as a slice that
-// begins with it, whatever follows behind, and promises its answer for the very terms that stand there. It rests on `records` for single
-// records and parts, on `copying` for a record that stays as it is, and on `substitution` for what a writer leaves.
+// The search asks of the parts of a target whether one is another shifted, whether it can be moved out of the binders above it, which
+// loose locals it has, and whether its head is rigid. Each function is lent a part as a slice that begins with it, whatever follows
+// behind, and promises its answer for the very terms that stand there. It rests on `records` for single records and parts, on `copying`
+// for a record that stays as it is, and on `substitution` for what a writer leaves.
 
 use records::Kind;
 use records::RECORD;
 use records::Walk;
 ghost use mathlib.Core.Path.{_≡_};
 ghost use Prim.Native.Nat.{_≤_, _<_};
-ghost use lib.ListN.{length, getD};
-ghost use Rattle.terms.specs.Table.{localKind};
+ghost use lib.ListN.{length};
 ghost use Rattle.terms.specs.Figures.{numbers};
 ghost use Rattle.terms.specs.Term.{Term, loc, shift, unshift};
 ghost use Rattle.terms.specs.Heads.{rigid};
@@ -20,7 +19,6 @@ ghost use Rattle.records.specs.Tests.{Says};
 ghost use Rattle.shifting.specs.Tests.{PartsComparable, Shifted, PartsCompared};
 ghost use Rattle.shifting.specs.Lowering.{Inside, Lowers, Lowered};
 ghost use Rattle.shifting.specs.Locals.{Marks, Marked};
-ghost use Rattle.shifting.specs.Substitution.{bothFurther, NearBoth, Substitutes, Substituted};
 
 // Whether the part that s begins with has a rigid head: its first record that is no application is a local or a constant.
 pub fn is_rigid(s: &[u8]) -> bool
@@ -107,7 +105,7 @@ fn is_inside(n: usize, c: usize, d: usize) -> bool
 }
 
 // The number of local n where d binders are left out, to none of which it belongs.
-pub fn lowered(n: usize, c: usize, d: usize) -> usize
+pub fn unshifted(n: usize, c: usize, d: usize) -> usize
     requires { ⌜ (Inside c d n → ⊥) × (n < numbers) ⌝ }
     ensures { λ r. ⌜ (loc r ≡ unshift d c (loc n)) × (r < numbers) ⌝ }
 {
@@ -142,7 +140,7 @@ pub fn lower_into(s: &[u8], c: usize, d: usize, out: &mut [u8], o: usize) -> Wal
         if is_inside(n, c, d) {
             return Walk::No;
         }
-        records::put_record(out, o, Kind::LOCAL, lowered(n, c, d));
+        records::put_record(out, o, Kind::LOCAL, unshifted(n, c, d));
         return Walk::Upto(RECORD);
     }
     copying::copy_into(&s[0..RECORD], out, o);
@@ -172,94 +170,4 @@ pub fn loose_locals(s: &[u8], depth: usize, marks: &mut [u8]) -> usize
         marks[j] = 1;
     }
     RECORD
-}
-
-// How many bytes two parts take.
-pub struct Places {
-    pub first: usize,
-    pub second: usize,
-}
-
-// How a walk over two parts ends: behind both, or where they differ.
-pub enum Pairing {
-    Upto(Places),
-    No,
-}
-
-// What a walk over two parts answers that began n bytes further on in the first and m in the second, told from here.
-pub fn both_further(pairing: Pairing, n: usize, m: usize) -> Pairing
-    requires { ⌜ NearBoth n m pairing ⌝ }
-    ensures { λ r. ⌜ r ≡ bothFurther n m pairing ⌝ }
-{
-    match pairing {
-        Pairing::Upto(p) => Pairing::Upto(Places {
-            first: n + p.first,
-            second: m + p.second,
-        }),
-        Pairing::No => Pairing::No,
-    }
-}
-
-// Whether the part that t begins with is the local that b begins with, with the part that e begins with put for local k.
-fn is_substituted_local(b: &[u8], k: usize, e: &[u8], t: &[u8]) -> Pairing
-    requires { ⌜ Substitutes (now b) k (now e) (now t) × (getD (now b) 0 0 ≡ localKind) ⌝ }
-    ensures { λ r. ⌜ Substituted (now (b .entry)) k (now (e .entry)) (now (t .entry)) r ⌝ }
-{
-    let n = records::number_at(b, 0);
-    if n == k {
-        let copy = is_shifted(t, e, 0, k);
-        let Walk::Upto(h) = copy else {
-            return Pairing::No;
-        };
-        return Pairing::Upto(Places {
-            first: RECORD,
-            second: h,
-        });
-    }
-    let m = lowered(n, k, 1);
-    if t[0] != Kind::LOCAL.code {
-        return Pairing::No;
-    }
-    if records::number_at(t, 0) == m {
-        return Pairing::Upto(Places {
-            first: RECORD,
-            second: RECORD,
-        });
-    }
-    Pairing::No
-}
-
-// Whether the part that t begins with is the part that b begins with, with the part that e begins with put for local k. It goes over the
-// first two together, and over the argument at each use of the local.
-pub fn is_substituted(b: &[u8], k: usize, e: &[u8], t: &[u8]) -> Pairing
-    requires { ⌜ Substitutes (now b) k (now e) (now t) ⌝ }
-    ensures { λ r. ⌜ Substituted (now (b .entry)) k (now (e .entry)) (now (t .entry)) r ⌝ }
-{
-    let kind = b[0];
-    if kind == Kind::LOCAL.code {
-        return is_substituted_local(b, k, e, t);
-    }
-    if kind != t[0] {
-        return Pairing::No;
-    }
-    if kind == Kind::APPLICATION.code {
-        let head = is_substituted(&b[RECORD..], k, e, &t[RECORD..]);
-        let Pairing::Upto(p) = head else {
-            return Pairing::No;
-        };
-        let n = RECORD + p.first;
-        let m = RECORD + p.second;
-        return both_further(is_substituted(&b[n..], k, e, &t[m..]), n, m);
-    }
-    if kind == Kind::ABSTRACTION.code {
-        let body = is_substituted(&b[RECORD..], k + 1, e, &t[RECORD..]);
-        return both_further(body, RECORD, RECORD);
-    }
-    if records::number_at(b, 0) == records::number_at(t, 0) {
-        return Pairing::Upto(Places {
-            first: RECORD,
-            second: RECORD,
-        });
-    }
-    Pairing::No
 }

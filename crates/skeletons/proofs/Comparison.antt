@@ -22,10 +22,10 @@ use Rattle.records.specs.declared.Walk.{Walk}
 use Rattle.records.specs.declared.Walk.the-variants as walk
 use Rattle.records.proofs.Parts.{whole, kind-at, number-at, leaf-size}
 use Rattle.records.proofs.Slices.{part-slice, whole-slice, slice-length}
-use Rattle.shifting.specs.declared.Places.{Places}
-use Rattle.shifting.specs.declared.Pairing.{Pairing}
-use Rattle.shifting.specs.declared.Pairing.the-variants.{Upto, No}
-use Rattle.shifting.specs.Substitution.{NearBoth, bothFurther}
+use Rattle.instances.specs.declared.Places.{Places}
+use Rattle.instances.specs.declared.Pairing.{Pairing}
+use Rattle.instances.specs.declared.Pairing.the-variants.{Upto, No}
+use Rattle.instances.specs.Instances.{NearBoth, bothFurther}
 use Rattle.shifting.proofs.Slices.{application-slices, abstraction-slices, slices-argument, slices-app, slices-lam, slices-leaf}
 use Rattle.skeletons.specs.Skeleton.{SkeletonComparable, MayBe}
 use Rattle.skeletons.specs.Compared.{SkeletonCompared}

@@ -6,8 +6,8 @@ use Prim.Native.Nat.{ℕ}
 use Rattle.terms.specs.Term.{Term}
 use Rattle.matching.specs.Skeletons.{Fits}
 use Rattle.records.specs.Parts.{Part, Ends}
-use Rattle.shifting.specs.declared.Pairing.{Pairing}
-use Rattle.shifting.specs.declared.Pairing.the-variants.{Upto, No}
+use Rattle.instances.specs.declared.Pairing.{Pairing}
+use Rattle.instances.specs.declared.Pairing.the-variants.{Upto, No}
 
 unfoldable pub SkeletonCompared : List ℕ → List ℕ → Pairing → Type 0
 SkeletonCompared c s (Upto p) = Ends c 0 (p .first) × Ends s 0 (p .second) × ((x y : Term) → Part c 0 x → Part s 0 y → Fits x y)

@@ -5,8 +5,8 @@
 // skeleton with some term in place of each hole, a closed one where the part that the hole stands for is closed; so a target that doesn't
 // fit the skeleton is never met, and a skeleton without a hole is the swept part itself. The crate writes skeletons, a hole as a variable's
 // record, looks for holes in them, applies them, and compares them with terms. It promises that the swept part fits what it writes. It
-// rests on `matching` for the laws of skeletons, on `sweeping` for single contractions, on `assignments` for values, and on `shifting` for
-// the answer of a walk over two parts.
+// rests on `matching` for the laws of skeletons, on `sweeping` for single contractions, on `assignments` for values, and on `instances`
+// for the answer of a walk over two parts.
 //
 // A hole takes in whatever isn't certain, so that nothing has to be promised of how much a skeleton shows, only that every swept form fits
 // it. A hole for a part without loose locals takes closed terms alone, since values bring in no loose local: such a term is never the local
@@ -14,13 +14,13 @@
 // apart by their numbers.
 
 use assignments::Entry;
+use instances::Pairing;
+use instances::Places;
 use records::Ask;
 use records::Kind;
 use records::RECORD;
 use records::VARIABLES;
 use records::Walk;
-use shifting::Pairing;
-use shifting::Places;
 use sweeping::Length;
 use sweeping::SWEPT_BYTES;
 ghost use mathlib.Core.Path.{_≡_};
@@ -67,7 +67,7 @@ fn hole_for(s: &[u8], out: &mut [u8; SWEPT_BYTES]) -> usize
 }
 
 // Writes the skeleton of the application of a head, which is no hole, to an argument, both skeletons.
-fn apply(head: &[u8], argument: &[u8], out: &mut [u8; SWEPT_BYTES]) -> usize
+fn apply_skeleton(head: &[u8], argument: &[u8], out: &mut [u8; SWEPT_BYTES]) -> usize
     requires { ⌜ SweptParts (now head) (now argument) × ¬ (getD (now head) 0 0 ≡ variableKind) ⌝ }
     ensures { λ r. ⌜ WritesApplication (now (head .entry)) (now (argument .entry)) (now (out .entry)) r (now (out .exit)) ⌝ }
 {
@@ -198,7 +198,7 @@ fn skeleton_application(
     let m = skeleton(records::argument_of(s), values, entries, &mut argument);
     let n = n * RECORD;
     let m = m * RECORD;
-    apply(&head[0..n], &argument[0..m], out)
+    apply_skeleton(&head[0..n], &argument[0..m], out)
 }
 
 // Writes the skeleton of an abstraction: from its body's.
@@ -285,10 +285,10 @@ fn fits(c: &[u8], s: &[u8]) -> Pairing
         };
         let n = RECORD + p.first;
         let m = RECORD + p.second;
-        return shifting::both_further(fits(&c[n..], &s[m..]), n, m);
+        return instances::both_further(fits(&c[n..], &s[m..]), n, m);
     }
     if kind == Kind::ABSTRACTION.code {
-        return shifting::both_further(fits(&c[RECORD..], &s[RECORD..]), RECORD, RECORD);
+        return instances::both_further(fits(&c[RECORD..], &s[RECORD..]), RECORD, RECORD);
     }
     if records::number_at(c, 0) == records::number_at(s, 0) {
         return Pairing::Upto(Places {
@@ -319,7 +319,7 @@ pub fn may_build(c: &[u8], argument: &[u8], target: &[u8]) -> bool
 {
     let end = records::end_at(argument, 0);
     let mut built = [0u8; SWEPT_BYTES];
-    let n = apply(c, &argument[0..end], &mut built);
+    let n = apply_skeleton(c, &argument[0..end], &mut built);
     let n = n * RECORD;
     may_be(&built[0..n], target)
 }

@@ -196,7 +196,7 @@ fn sweep_part(
 }
 
 // Writes the swept form of the pattern s, filled with the values that the entries have in the value table, into out from byte 0 on.
-pub fn sweep(
+pub fn sweep_filled(
     s: &[u8],
     values: &[u8],
     entries: [Entry; VARIABLES],

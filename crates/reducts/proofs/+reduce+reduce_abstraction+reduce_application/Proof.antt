@@ -20,7 +20,7 @@ use Rattle.reducts.proofs.+reduce+reduce_abstraction+reduce_application
 use Rattle.reducts.proofs.reduce_application.Reads as reduce-application
 use Rattle.reducts.proofs.reduce_application.Kinds as reduce-application-kinds
 use Rattle.reducts.proofs.+reduce+reduce_abstraction+reduce_application.Lts-reduce_application as reduce-application-lts
-use Rattle.reducts.proofs.apply.Reads as apply-reads
+use Rattle.reducts.proofs.apply_reduced.Reads as apply-reduced-reads
 use Rattle.records.proofs.argument_of.Reads as argument-of-reads
 use Rattle.records.proofs.body_of.Reads as body-of-reads
 use Rattle.records.proofs.head_of.Reads as head-of-reads
@@ -214,8 +214,8 @@ reduce-application-in t X = X (
   reduce.Post,
   argument-of-reads.Asked,
   argument-of-reads.Learnt,
-  apply-reads.Asked,
-  apply-reads.Learnt,
+  apply-reduced-reads.Asked,
+  apply-reduced-reads.Learnt,
 ) (reduce-application-at t) reduce-application.Post
 
 reduce-application-head-of-requires : (t : ℕ) → reduce-application-in t reduce-application-lts.Need-head-of-requires
@@ -271,26 +271,26 @@ reduce-application-mul-m t c =
           (reducible-argument _ _ (start .pre .1 .0) (start .pre .1 .1) (argument-of .argument-of .ensures .1)),
     )
 
-reduce-application-sub-apply : (t : ℕ) → reduce-application-in t reduce-application-lts.Need-sub-apply
-reduce-application-sub-apply t c = search needs
+reduce-application-sub-apply-reduced : (t : ℕ) → reduce-application-in t reduce-application-lts.Need-sub-apply-reduced
+reduce-application-sub-apply-reduced t c = search needs
 
-reduce-application-part-apply-start : (t : ℕ) → reduce-application-in t reduce-application-lts.Need-part-apply-start
-reduce-application-part-apply-start t c = search needs
+reduce-application-part-apply-reduced-start : (t : ℕ) → reduce-application-in t reduce-application-lts.Need-part-apply-reduced-start
+reduce-application-part-apply-reduced-start t c = search needs
 
-reduce-application-part-apply-end : (t : ℕ) → reduce-application-in t reduce-application-lts.Need-part-apply-end
-reduce-application-part-apply-end t c = search (needs, reduct-within, reducible-head)
+reduce-application-part-apply-reduced-end : (t : ℕ) → reduce-application-in t reduce-application-lts.Need-part-apply-reduced-end
+reduce-application-part-apply-reduced-end t c = search (needs, reduct-within, reducible-head)
 
-reduce-application-sub-apply-2 : (t : ℕ) → reduce-application-in t reduce-application-lts.Need-sub-apply-2
-reduce-application-sub-apply-2 t c = search needs
+reduce-application-sub-apply-reduced-2 : (t : ℕ) → reduce-application-in t reduce-application-lts.Need-sub-apply-reduced-2
+reduce-application-sub-apply-reduced-2 t c = search needs
 
-reduce-application-part-apply-start-2 : (t : ℕ) → reduce-application-in t reduce-application-lts.Need-part-apply-start-2
-reduce-application-part-apply-start-2 t c = search needs
+reduce-application-part-apply-reduced-start-2 : (t : ℕ) → reduce-application-in t reduce-application-lts.Need-part-apply-reduced-start-2
+reduce-application-part-apply-reduced-start-2 t c = search needs
 
-reduce-application-part-apply-end-2 : (t : ℕ) → reduce-application-in t reduce-application-lts.Need-part-apply-end-2
-reduce-application-part-apply-end-2 t c = search (needs, reduct-within, reducible-argument)
+reduce-application-part-apply-reduced-end-2 : (t : ℕ) → reduce-application-in t reduce-application-lts.Need-part-apply-reduced-end-2
+reduce-application-part-apply-reduced-end-2 t c = search (needs, reduct-within, reducible-argument)
 
-reduce-application-apply-requires : (t : ℕ) → reduce-application-in t reduce-application-lts.Need-apply-requires
-reduce-application-apply-requires t c κs = search (needs, parts-applicable)
+reduce-application-apply-reduced-requires : (t : ℕ) → reduce-application-in t reduce-application-lts.Need-apply-reduced-requires
+reduce-application-apply-reduced-requires t c κs = search (needs, parts-applicable)
 
 reduce-application-returns-3 : (t : ℕ) → reduce-application-in t reduce-application-lts.Need-returns-3
 reduce-application-returns-3 t c = search (needs, reduces-application)
@@ -347,8 +347,8 @@ pub +reduce+reduce-abstraction+reduce-application-spec : {M : Type 1} → statem
       reduce.Post,
       argument-of-reads.Asked,
       argument-of-reads.Learnt,
-      apply-reads.Asked,
-      apply-reads.Learnt,
+      apply-reduced-reads.Asked,
+      apply-reduced-reads.Learnt,
     )
     (reduce-application-at t)
     reduce-application.Post
@@ -364,11 +364,11 @@ pub +reduce+reduce-abstraction+reduce-application-spec : {M : Type 1} → statem
     (reduce-application-returns-2 t)
     (reduce-application-mul-n t)
     (reduce-application-mul-m t)
-    (reduce-application-sub-apply t)
-    (reduce-application-part-apply-start t)
-    (reduce-application-part-apply-end t)
-    (reduce-application-sub-apply-2 t)
-    (reduce-application-part-apply-start-2 t)
-    (reduce-application-part-apply-end-2 t)
-    (reduce-application-apply-requires t)
+    (reduce-application-sub-apply-reduced t)
+    (reduce-application-part-apply-reduced-start t)
+    (reduce-application-part-apply-reduced-end t)
+    (reduce-application-sub-apply-reduced-2 t)
+    (reduce-application-part-apply-reduced-start-2 t)
+    (reduce-application-part-apply-reduced-end-2 t)
+    (reduce-application-apply-reduced-requires t)
     (reduce-application-returns-3 t)

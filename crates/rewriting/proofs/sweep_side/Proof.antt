@@ -7,11 +7,11 @@ use Rattle.rewriting.proofs.sweep_side.Tie as tie
 entries-of-requires : tie.Need-entries-of-requires
 entries-of-requires c κs = search needs
 
-sweep-requires : tie.Need-sweep-requires
-sweep-requires c κs = search (needs, fillable)
+sweep-filled-requires : tie.Need-sweep-filled-requires
+sweep-filled-requires c κs = search (needs, fillable)
 
 returns : tie.Need-returns
 returns c = search (needs, swept-side-of)
 
 pub sweep-side-spec : {M : Type 1} → statement M
-sweep-side-spec = tie.close (tie.spec entries-of-requires sweep-requires returns)
+sweep-side-spec = tie.close (tie.spec entries-of-requires sweep-filled-requires returns)

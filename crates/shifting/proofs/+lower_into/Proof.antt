@@ -20,7 +20,7 @@ use Rattle.records.proofs.number_at.Reads as number-at-reads
 use Rattle.records.proofs.put_record.Reads as put-record-reads
 use Rattle.records.proofs.further.Reads as further-reads
 use Rattle.shifting.proofs.is_inside.Reads as is-inside-reads
-use Rattle.shifting.proofs.lowered.Reads as lowered-reads
+use Rattle.shifting.proofs.unshifted.Reads as unshifted-reads
 use Rattle.shifting.proofs.+lower_into.{statement}
 use Rattle.shifting.proofs.+lower_into.Tie.{close}
 
@@ -51,8 +51,8 @@ lower-into-in t X = X (
   number-at-reads.Learnt,
   is-inside-reads.Asked,
   is-inside-reads.Learnt,
-  lowered-reads.Asked,
-  lowered-reads.Learnt,
+  unshifted-reads.Asked,
+  unshifted-reads.Learnt,
   copy-into-reads.Asked,
   copy-into-reads.Learnt,
 ) (lower-into-at t) lower-into.Post
@@ -196,8 +196,8 @@ lower-into-returns-4 t c =
     lowered-local-no _ _ _ _ _ _ (number-at .number-at .ensures .0) (then3 .if3 .taken)
     (says _ _ _ (c .before .is-inside .ensures) (c .if4 .taken))
 
-lower-into-lowered-requires : (t : ℕ) → lower-into-in t lower-into-lts.Need-lowered-requires
-lower-into-lowered-requires t c κs = (says _ _ _ (c .before .before .is-inside .ensures) (c .before .if4 .left), omega arith)
+lower-into-unshifted-requires : (t : ℕ) → lower-into-in t lower-into-lts.Need-unshifted-requires
+lower-into-unshifted-requires t c κs = (says _ _ _ (c .before .before .is-inside .ensures) (c .before .if4 .left), omega arith)
 
 lower-into-put-record-requires-3 : (t : ℕ) → lower-into-in t lower-into-lts.Need-put-record-requires-3
 lower-into-put-record-requires-3 t c κs = search needs
@@ -208,14 +208,14 @@ lower-into-same-length-4 t c = search needs
 lower-into-returns-5 : (t : ℕ) → lower-into-in t lower-into-lts.Need-returns-5
 lower-into-returns-5 t c =
     let put-record3 : lower-into-in t lower-into-lts.After-put-record3 = search in
-    let lowered : lower-into-in t lower-into-lts.After-lowered = search in
+    let unshifted : lower-into-in t lower-into-lts.After-unshifted = search in
     let else4 : lower-into-in t lower-into-lts.Else4 = search in
     let is-inside : lower-into-in t lower-into-lts.After-is-inside = search in
     let then3 : lower-into-in t lower-into-lts.Then3 = search in
     let number-at : lower-into-in t lower-into-lts.After-number-at = search in
     let start = lower-into-local-start t then3 in
     lowered-local _ _ _ _ _ _ (number-at .number-at .ensures .0) _ _ (lowers-whole _ _ _ _ _ (start .pre .1)) (then3 .if3 .taken)
-    (says _ _ _ (is-inside .is-inside .ensures) (else4 .if4 .left)) (lowered .lowered .ensures .0) (put-record3 .put-record3 .ensures)
+    (says _ _ _ (is-inside .is-inside .ensures) (else4 .if4 .left)) (unshifted .unshifted .ensures .0) (put-record3 .put-record3 .ensures)
 
 lower-into-sub-copy-into : (t : ℕ) → lower-into-in t lower-into-lts.Need-sub-copy-into
 lower-into-sub-copy-into t c = search needs
@@ -247,8 +247,8 @@ pub +lower-into-spec : {M : Type 1} → statement M
   number-at-reads.Learnt,
   is-inside-reads.Asked,
   is-inside-reads.Learnt,
-  lowered-reads.Asked,
-  lowered-reads.Learnt,
+  unshifted-reads.Asked,
+  unshifted-reads.Learnt,
   copy-into-reads.Asked,
   copy-into-reads.Learnt,
 )
@@ -287,7 +287,7 @@ pub +lower-into-spec : {M : Type 1} → statement M
     (lower-into-number-at-requires t)
     (lower-into-is-inside-requires t)
     (lower-into-returns-4 t)
-    (lower-into-lowered-requires t)
+    (lower-into-unshifted-requires t)
     (lower-into-put-record-requires-3 t)
     (lower-into-same-length-4 t)
     (lower-into-returns-5 t)

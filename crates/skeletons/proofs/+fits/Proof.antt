@@ -15,7 +15,7 @@ use Rattle.skeletons.proofs.fits.Reads as fits
 use Rattle.skeletons.proofs.fits.Kinds as fits-kinds
 use Rattle.skeletons.proofs.+fits.Lts-fits as fits-lts
 use Rattle.records.proofs.number_at.Reads as number-at-reads
-use Rattle.shifting.proofs.both_further.Reads as both-further-reads
+use Rattle.instances.proofs.both_further.Reads as both-further-reads
 use Rattle.skeletons.proofs.fits_hole.Reads as fits-hole-reads
 use Rattle.skeletons.proofs.+fits.{statement}
 use Rattle.skeletons.proofs.+fits.Tie.{close}

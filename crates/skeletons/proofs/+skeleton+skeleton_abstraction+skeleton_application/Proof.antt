@@ -25,7 +25,7 @@ use Rattle.records.proofs.body_of.Reads as body-of-reads
 use Rattle.records.proofs.head_of.Reads as head-of-reads
 use Rattle.records.proofs.number_at.Reads as number-at-reads
 use Rattle.skeletons.proofs.abstract_over.Reads as abstract-over-reads
-use Rattle.skeletons.proofs.apply.Reads as apply-reads
+use Rattle.skeletons.proofs.apply_skeleton.Reads as apply-skeleton-reads
 use Rattle.skeletons.proofs.hole_for.Reads as hole-for-reads
 use Rattle.skeletons.proofs.skeleton_variable.Reads as skeleton-variable-reads
 use Rattle.copying.proofs.copy_into.Reads as copy-into-reads
@@ -181,8 +181,8 @@ skeleton-application-in t X = X (
   hole-for-reads.Learnt,
   argument-of-reads.Asked,
   argument-of-reads.Learnt,
-  apply-reads.Asked,
-  apply-reads.Learnt,
+  apply-skeleton-reads.Asked,
+  apply-skeleton-reads.Learnt,
 ) (skeleton-application-at t) skeleton-application.Post
 
 skeleton-application-head-of-requires : (t : ℕ) → skeleton-application-in t skeleton-application-lts.Need-head-of-requires
@@ -212,26 +212,26 @@ skeleton-application-mul-n t c = search needs
 skeleton-application-mul-m : (t : ℕ) → skeleton-application-in t skeleton-application-lts.Need-mul-m
 skeleton-application-mul-m t c = search needs
 
-skeleton-application-sub-apply : (t : ℕ) → skeleton-application-in t skeleton-application-lts.Need-sub-apply
-skeleton-application-sub-apply t c = search needs
+skeleton-application-sub-apply-skeleton : (t : ℕ) → skeleton-application-in t skeleton-application-lts.Need-sub-apply-skeleton
+skeleton-application-sub-apply-skeleton t c = search needs
 
-skeleton-application-part-apply-start : (t : ℕ) → skeleton-application-in t skeleton-application-lts.Need-part-apply-start
-skeleton-application-part-apply-start t c = search needs
+skeleton-application-part-apply-skeleton-start : (t : ℕ) → skeleton-application-in t skeleton-application-lts.Need-part-apply-skeleton-start
+skeleton-application-part-apply-skeleton-start t c = search needs
 
-skeleton-application-part-apply-end : (t : ℕ) → skeleton-application-in t skeleton-application-lts.Need-part-apply-end
-skeleton-application-part-apply-end t c = search (needs, skeleton-within, input-head)
+skeleton-application-part-apply-skeleton-end : (t : ℕ) → skeleton-application-in t skeleton-application-lts.Need-part-apply-skeleton-end
+skeleton-application-part-apply-skeleton-end t c = search (needs, skeleton-within, input-head)
 
-skeleton-application-sub-apply-2 : (t : ℕ) → skeleton-application-in t skeleton-application-lts.Need-sub-apply-2
-skeleton-application-sub-apply-2 t c = search needs
+skeleton-application-sub-apply-skeleton-2 : (t : ℕ) → skeleton-application-in t skeleton-application-lts.Need-sub-apply-skeleton-2
+skeleton-application-sub-apply-skeleton-2 t c = search needs
 
-skeleton-application-part-apply-start-2 : (t : ℕ) → skeleton-application-in t skeleton-application-lts.Need-part-apply-start-2
-skeleton-application-part-apply-start-2 t c = search needs
+skeleton-application-part-apply-skeleton-start-2 : (t : ℕ) → skeleton-application-in t skeleton-application-lts.Need-part-apply-skeleton-start-2
+skeleton-application-part-apply-skeleton-start-2 t c = search needs
 
-skeleton-application-part-apply-end-2 : (t : ℕ) → skeleton-application-in t skeleton-application-lts.Need-part-apply-end-2
-skeleton-application-part-apply-end-2 t c = search (needs, skeleton-within, input-argument)
+skeleton-application-part-apply-skeleton-end-2 : (t : ℕ) → skeleton-application-in t skeleton-application-lts.Need-part-apply-skeleton-end-2
+skeleton-application-part-apply-skeleton-end-2 t c = search (needs, skeleton-within, input-argument)
 
-skeleton-application-apply-requires : (t : ℕ) → skeleton-application-in t skeleton-application-lts.Need-apply-requires
-skeleton-application-apply-requires t c κs = search (needs, skeleton-parts-swept, head-no-hole)
+skeleton-application-apply-skeleton-requires : (t : ℕ) → skeleton-application-in t skeleton-application-lts.Need-apply-skeleton-requires
+skeleton-application-apply-skeleton-requires t c κs = search (needs, skeleton-parts-swept, head-no-hole)
 
 skeleton-application-returns-2 : (t : ℕ) → skeleton-application-in t skeleton-application-lts.Need-returns-2
 skeleton-application-returns-2 t c = search (needs, skeleton-application)
@@ -289,8 +289,8 @@ pub +skeleton+skeleton-abstraction+skeleton-application-spec : {M : Type 1} → 
       hole-for-reads.Learnt,
       argument-of-reads.Asked,
       argument-of-reads.Learnt,
-      apply-reads.Asked,
-      apply-reads.Learnt,
+      apply-skeleton-reads.Asked,
+      apply-skeleton-reads.Learnt,
     )
     (skeleton-application-at t)
     skeleton-application.Post
@@ -303,11 +303,11 @@ pub +skeleton+skeleton-abstraction+skeleton-application-spec : {M : Type 1} → 
     (skeleton-application-skeleton-requires-2 t)
     (skeleton-application-mul-n t)
     (skeleton-application-mul-m t)
-    (skeleton-application-sub-apply t)
-    (skeleton-application-part-apply-start t)
-    (skeleton-application-part-apply-end t)
-    (skeleton-application-sub-apply-2 t)
-    (skeleton-application-part-apply-start-2 t)
-    (skeleton-application-part-apply-end-2 t)
-    (skeleton-application-apply-requires t)
+    (skeleton-application-sub-apply-skeleton t)
+    (skeleton-application-part-apply-skeleton-start t)
+    (skeleton-application-part-apply-skeleton-end t)
+    (skeleton-application-sub-apply-skeleton-2 t)
+    (skeleton-application-part-apply-skeleton-start-2 t)
+    (skeleton-application-part-apply-skeleton-end-2 t)
+    (skeleton-application-apply-skeleton-requires t)
     (skeleton-application-returns-2 t)

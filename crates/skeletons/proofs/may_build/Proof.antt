@@ -8,17 +8,17 @@ use Rattle.skeletons.proofs.may_build.Tie as tie
 end-at-requires : tie.Need-end-at-requires
 end-at-requires c κs = search (needs, applied-argument-whole)
 
-sub-apply : tie.Need-sub-apply
-sub-apply c = search needs
+sub-apply-skeleton : tie.Need-sub-apply-skeleton
+sub-apply-skeleton c = search needs
 
-part-apply-start : tie.Need-part-apply-start
-part-apply-start c = search needs
+part-apply-skeleton-start : tie.Need-part-apply-skeleton-start
+part-apply-skeleton-start c = search needs
 
-part-apply-end : tie.Need-part-apply-end
-part-apply-end c = search needs
+part-apply-skeleton-end : tie.Need-part-apply-skeleton-end
+part-apply-skeleton-end c = search needs
 
-apply-requires : tie.Need-apply-requires
-apply-requires c κs = search (needs, skeleton-applied)
+apply-skeleton-requires : tie.Need-apply-skeleton-requires
+apply-skeleton-requires c κs = search (needs, skeleton-applied)
 
 mul-n : tie.Need-mul-n
 mul-n c = search needs
@@ -43,10 +43,10 @@ may-build-spec =
     tie.close
     (tie.spec
     end-at-requires
-    sub-apply
-    part-apply-start
-    part-apply-end
-    apply-requires
+    sub-apply-skeleton
+    part-apply-skeleton-start
+    part-apply-skeleton-end
+    apply-skeleton-requires
     mul-n
     sub-may-be
     part-may-be-start

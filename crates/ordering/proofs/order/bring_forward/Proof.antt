@@ -15,8 +15,8 @@ same-length c = search needs
 returns : tie.Need-returns
 returns c = search (needs, forwarded-same)
 
-cheapest-requires : tie.Need-cheapest-requires
-cheapest-requires c κs = search (needs, ready-ranks)
+cheapest-from-requires : tie.Need-cheapest-from-requires
+cheapest-from-requires c κs = search (needs, ready-ranks)
 
 same-length-2 : tie.Need-same-length-2
 same-length-2 c = search needs
@@ -37,17 +37,17 @@ put-goal-requires : tie.Need-put-goal-requires
 put-goal-requires c κs =
     let without : tie.After-without = search in
     let goal-at2 : tie.After-goal-at2 = search in
-    let cheapest : tie.After-cheapest = search in
+    let cheapest-from : tie.After-cheapest-from = search in
     let slice-known : tie.After-slice-known = search in
     let start : tie.Start = search in (
       omega (
         arith,
-        forward-room (start .pre .0) (start .pre .1) (start .pre .2) (cheapest .cheapest .ensures)
+        forward-room (start .pre .0) (start .pre .1) (start .pre .2) (cheapest-from .cheapest-from .ensures)
             (goal-at2 .goal-at2 .ensures .0) (without .without .ensures),
         without .without .ensures .whole,
         start .pre .0 .bounds .whole,
       ),
-      forward-fits (start .pre .0) (start .pre .1) (start .pre .2) (cheapest .cheapest .ensures) (goal-at2 .goal-at2 .ensures .0)
+      forward-fits (start .pre .0) (start .pre .1) (start .pre .2) (cheapest-from .cheapest-from .ensures) (goal-at2 .goal-at2 .ensures .0)
           (without .without .ensures) (goal-at2 .goal-at2 .ensures .1) (c .linked .ensures),
     )
 
@@ -56,12 +56,12 @@ add-t24 c =
     let work : tie.After-work = search in
     let without : tie.After-without = search in
     let goal-at2 : tie.After-goal-at2 = search in
-    let cheapest : tie.After-cheapest = search in
+    let cheapest-from : tie.After-cheapest-from = search in
     let slice-known : tie.After-slice-known = search in
     let start : tie.Start = search in
     omega (
       arith,
-      forward-room (start .pre .0) (start .pre .1) (start .pre .2) (cheapest .cheapest .ensures)
+      forward-room (start .pre .0) (start .pre .1) (start .pre .2) (cheapest-from .cheapest-from .ensures)
           (goal-at2 .goal-at2 .ensures .0) (without .without .ensures),
     )
 
@@ -71,10 +71,10 @@ same-length-3 c = search needs
 returns-3 : tie.Need-returns-3
 returns-3 c =
     let without : tie.After-without = search in
-    let cheapest : tie.After-cheapest = search in
+    let cheapest-from : tie.After-cheapest-from = search in
     let start : tie.Start = search in
     let goal-at2 : tie.After-goal-at2 = search in
-    forwarded (start .pre .0) (start .pre .1) (start .pre .2) (cheapest .cheapest .ensures) (goal-at2 .goal-at2 .ensures .0)
+    forwarded (start .pre .0) (start .pre .1) (start .pre .2) (cheapest-from .cheapest-from .ensures) (goal-at2 .goal-at2 .ensures .0)
     (without .without .ensures) (c .before .before .before .linked .ensures) (c .before .before .put-goal .ensures)
 
 pub bring-forward-spec : {M : Type 1} → statement M
@@ -84,7 +84,7 @@ bring-forward-spec =
     goal-at-requires
     same-length
     returns
-    cheapest-requires
+    cheapest-from-requires
     same-length-2
     returns-2
     goal-at-requires-2

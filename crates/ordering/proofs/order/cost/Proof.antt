@@ -97,8 +97,8 @@ part-copies-end-2 c = search needs
 copies-requires : tie.Need-copies-requires
 copies-requires c κs = search (needs, weighs-copies)
 
-bodies-requires : tie.Need-bodies-requires
-bodies-requires c κs = search needs
+bodies-cost-requires : tie.Need-bodies-cost-requires
+bodies-cost-requires c κs = search needs
 
 returns-4 : tie.Need-returns-4
 returns-4 c = search needs
@@ -137,5 +137,5 @@ cost-spec =
     part-copies-start-2
     part-copies-end-2
     copies-requires
-    bodies-requires
+    bodies-cost-requires
     returns-4)

@@ -1,8 +1,8 @@
--- `skeletons::apply` meets its contract, by whether the contracted application is too long. Assumes nothing.
+-- `skeletons::apply_skeleton` meets its contract, by whether the contracted application is too long. Assumes nothing.
 use Rattle.skeletons.proofs.Contractions.{applies-hole, applies-contracted}
 use borrow.Author.Needs.{needs}
-use Rattle.skeletons.proofs.apply.Statement.{statement}
-use Rattle.skeletons.proofs.apply.Tie as tie
+use Rattle.skeletons.proofs.apply_skeleton.Statement.{statement}
+use Rattle.skeletons.proofs.apply_skeleton.Tie as tie
 
 contract-application-requires : tie.Need-contract-application-requires
 contract-application-requires c κs = search needs
@@ -22,8 +22,8 @@ returns c = search (needs, applies-hole)
 returns-2 : tie.Need-returns-2
 returns-2 c = search (needs, applies-contracted)
 
-pub apply-spec : {M : Type 1} → statement M
-apply-spec =
+pub apply-skeleton-spec : {M : Type 1} → statement M
+apply-skeleton-spec =
     tie.close
     (tie.spec
     contract-application-requires

@@ -12,8 +12,8 @@ use lib.ListN.{length}
 use Rattle.terms.specs.Figures.{tableBytes}
 use Rattle.terms.specs.Term.{Term, substitute}
 use Rattle.records.specs.Parts.{Part, Whole, Ends}
-use Rattle.shifting.specs.declared.Pairing.{Pairing}
-use Rattle.shifting.specs.declared.Pairing.the-variants.{Upto, No}
+use Rattle.instances.specs.declared.Pairing.{Pairing}
+use Rattle.instances.specs.declared.Pairing.the-variants.{Upto, No}
 
 abbrev pub NearBoth : ℕ → ℕ → Pairing → Type 0
 NearBoth n m (Upto p) = (n + p .first ≤ tableBytes) × (m + p .second ≤ tableBytes)

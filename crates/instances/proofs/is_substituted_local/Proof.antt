@@ -1,10 +1,10 @@
--- `shifting::is_substituted_local` meets its contract. By whether the local is the one that is put for: then the argument, shifted,
+-- `instances::is_substituted_local` meets its contract. By whether the local is the one that is put for: then the argument, shifted,
 -- must stand in the target, and else the local with its number outside. Assumes nothing.
-use Rattle.shifting.proofs.Substitution.{substituted-copy, substituted-copy-no, substituted-local-kind, substituted-local}
-use Rattle.shifting.proofs.Substitution.{substituted-local-no}
+use Rattle.instances.proofs.Instances.{substituted-copy, substituted-copy-no, substituted-local-kind, substituted-local}
+use Rattle.instances.proofs.Instances.{substituted-local-no}
 use borrow.Author.Needs.{needs}
-use Rattle.shifting.proofs.is_substituted_local.Statement.{statement}
-use Rattle.shifting.proofs.is_substituted_local.Tie as tie
+use Rattle.instances.proofs.is_substituted_local.Statement.{statement}
+use Rattle.instances.proofs.is_substituted_local.Tie as tie
 
 number-at-requires : tie.Need-number-at-requires
 number-at-requires c κs = search needs
@@ -24,8 +24,8 @@ returns c = search (needs, substituted-copy-no)
 returns-2 : tie.Need-returns-2
 returns-2 c = search (needs, substituted-copy)
 
-lowered-requires : tie.Need-lowered-requires
-lowered-requires c κs = search needs
+unshifted-requires : tie.Need-unshifted-requires
+unshifted-requires c κs = search needs
 
 shared-slice-read-if2 : tie.Need-shared-slice-read-if2
 shared-slice-read-if2 c = search needs
@@ -52,7 +52,7 @@ is-substituted-local-spec =
     enum-told
     returns
     returns-2
-    lowered-requires
+    unshifted-requires
     shared-slice-read-if2
     returns-3
     number-at-requires-2

@@ -1,8 +1,8 @@
--- `reducts::apply` meets its contract, by the three tests that tell whether a redex is contracted. Assumes nothing.
+-- `reducts::apply_reduced` meets its contract, by the three tests that tell whether a redex is contracted. Assumes nothing.
 use Rattle.reducts.proofs.Reducts.{redex-tree, applies-other, applies-rigid, applies-guarded, applies-kept}
 use borrow.Author.Needs.{needs}
-use Rattle.reducts.proofs.apply.Statement.{statement}
-use Rattle.reducts.proofs.apply.Tie as tie
+use Rattle.reducts.proofs.apply_reduced.Statement.{statement}
+use Rattle.reducts.proofs.apply_reduced.Tie as tie
 
 shared-slice-read-if1 : tie.Need-shared-slice-read-if1
 shared-slice-read-if1 c = search needs
@@ -49,8 +49,8 @@ join-requires-2 c κs = search needs
 returns-4 : tie.Need-returns-4
 returns-4 c = search (needs, applies-kept)
 
-pub apply-spec : {M : Type 1} → statement M
-apply-spec =
+pub apply-reduced-spec : {M : Type 1} → statement M
+apply-reduced-spec =
     tie.close
     (tie.spec
     shared-slice-read-if1

@@ -1,9 +1,9 @@
--- `ordering::order::bodies` is safe and ends. The invariant bounds the number, which at most doubles before it is tested; the measure is
+-- `ordering::order::bodies_cost` is safe and ends. The invariant bounds the number, which at most doubles before it is tested; the measure is
 -- how many copies are left. Assumes nothing.
 use Prim.Native.Nat.{_-_, _<_}
 use borrow.Author.Needs.{needs}
-use Rattle.ordering.proofs.order.bodies.Statement.{statement}
-use Rattle.ordering.proofs.order.bodies.Tie as tie
+use Rattle.ordering.proofs.order.bodies_cost.Statement.{statement}
+use Rattle.ordering.proofs.order.bodies_cost.Tie as tie
 
 abbrev Inv-loop : tie.InvT-loop
 Inv-loop copies n₀ i₀ n i = n < 16380
@@ -35,7 +35,7 @@ loop-again c = search needs
 returns-2 : tie.Need-returns-2 Inv-loop μ-loop
 returns-2 c = search needs
 
-pub bodies-spec : {M : Type 1} → statement M
-bodies-spec =
+pub bodies-cost-spec : {M : Type 1} → statement M
+bodies-cost-spec =
     tie.close
     (tie.spec Inv-loop μ-loop loop-holds mul-n add-n returns add-i loop-less loop-again returns-2)

@@ -1,23 +1,23 @@
--- `shifting::is_substituted` meets its contract. Each branch is one law of a part compared with a substituted one, by the kind that both
+-- `instances::is_substituted` meets its contract. Each branch is one law of a part compared with a substituted one, by the kind that both
 -- first records have; the measure is the length of the body's slice. Assumes nothing.
 use lib.ListN.{length}
 use native.Mathlib.Omega.{arith}
 use Rattle.shifting.proofs.Slices.{shorter, shorter-behind}
-use Rattle.shifting.proofs.Substitution.{substituted-near, substituted-kinds, substitutes-head, substitutes-argument}
-use Rattle.shifting.proofs.Substitution.{substituted-passed, substituted-app, substituted-stop, substitutes-body, substituted-lam}
-use Rattle.shifting.proofs.Substitution.{substituted-other, substituted-other-no}
+use Rattle.instances.proofs.Instances.{substituted-near, substituted-kinds, substitutes-head, substitutes-argument}
+use Rattle.instances.proofs.Instances.{substituted-passed, substituted-app, substituted-stop, substitutes-body, substituted-lam}
+use Rattle.instances.proofs.Instances.{substituted-other, substituted-other-no}
 use borrow.Author.Needs.{needs}
 use Prim.Native.Nat.{ℕ, _+_, _≤_, _<_}
 use borrow.Fn.Kinds.{In, Out}
 use borrow.Fn.PlainCycle.{Measures, is, falls, and}
-use Rattle.shifting.proofs.is_substituted.Reads as is-substituted
-use Rattle.shifting.proofs.is_substituted.Kinds as is-substituted-kinds
-use Rattle.shifting.proofs.+is_substituted.Lts-is_substituted as is-substituted-lts
+use Rattle.instances.proofs.is_substituted.Reads as is-substituted
+use Rattle.instances.proofs.is_substituted.Kinds as is-substituted-kinds
+use Rattle.instances.proofs.+is_substituted.Lts-is_substituted as is-substituted-lts
 use Rattle.records.proofs.number_at.Reads as number-at-reads
-use Rattle.shifting.proofs.both_further.Reads as both-further-reads
-use Rattle.shifting.proofs.is_substituted_local.Reads as is-substituted-local-reads
-use Rattle.shifting.proofs.+is_substituted.{statement}
-use Rattle.shifting.proofs.+is_substituted.Tie.{close}
+use Rattle.instances.proofs.both_further.Reads as both-further-reads
+use Rattle.instances.proofs.is_substituted_local.Reads as is-substituted-local-reads
+use Rattle.instances.proofs.+is_substituted.{statement}
+use Rattle.instances.proofs.+is_substituted.Tie.{close}
 
 abbrev μ-is-substituted : Measures 3 is-substituted-kinds.ps ℕ
 μ-is-substituted κs a = length (a .0 .now)

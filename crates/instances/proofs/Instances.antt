@@ -18,14 +18,14 @@ use Rattle.records.specs.Parts.{slice, Part, Whole, Ends}
 use Rattle.records.proofs.Parts.{whole, kind-at, number-at}
 use Rattle.records.proofs.Slices.{slice-length}
 use Rattle.substitution.proofs.Writers.{Other, local-at}
-use Rattle.shifting.specs.declared.Places.{Places}
-use Rattle.shifting.specs.declared.Pairing.{Pairing}
-use Rattle.shifting.specs.declared.Pairing.the-variants.{Upto, No}
+use Rattle.instances.specs.declared.Places.{Places}
+use Rattle.instances.specs.declared.Pairing.{Pairing}
+use Rattle.instances.specs.declared.Pairing.the-variants.{Upto, No}
 use Rattle.shifting.specs.Tests.{Shifted, PartsCompared}
-use Rattle.shifting.specs.Substitution.{NearBoth, bothFurther, Substitutes, Replaced, Substituted}
+use Rattle.instances.specs.Instances.{NearBoth, bothFurther, Substitutes, Replaced, Substituted}
 use Rattle.shifting.proofs.Slices.{application-slices, abstraction-slices, slices-argument, slices-app, slices-lam, slices-leaf}
 use Rattle.shifting.proofs.Tests.{same-first, compared-ends, compared-yes, compared-no}
 use Rattle.shifting.proofs.Lowering.{unshifted-low, unshifted-high}
 
 -- substitution by kinds
 kind-substitute : (k : ℕ) (y x : Term) → ¬ (kind x ≡ 2) → kind (substitute k y x) ≡ kind x

@@ -1,9 +1,9 @@
--- `shifting::both_further` meets its contract. By how the walk ends. Assumes nothing.
+-- `instances::both_further` meets its contract. By how the walk ends. Assumes nothing.
 use native.Mathlib.Omega.{arith}
-use Rattle.shifting.proofs.Substitution.{near-both, both-further-upto}
+use Rattle.instances.proofs.Instances.{near-both, both-further-upto}
 use borrow.Author.Needs.{needs}
-use Rattle.shifting.proofs.both_further.Statement.{statement}
-use Rattle.shifting.proofs.both_further.Tie as tie
+use Rattle.instances.proofs.both_further.Statement.{statement}
+use Rattle.instances.proofs.both_further.Tie as tie
 
 enum-known-pairing : tie.Need-enum-known-pairing
 enum-known-pairing c = search needs

@@ -1,9 +1,9 @@
--- `shifting::lowered` meets its contract. By whether the local is below the binders; one that is not is above all of them. Assumes
+-- `shifting::unshifted` meets its contract. By whether the local is below the binders; one that is not is above all of them. Assumes
 -- nothing.
 use native.Mathlib.Omega.{arith}
 use Rattle.shifting.proofs.Lowering.{unshifted-low, unshifted-high, outside}
-use Rattle.shifting.proofs.lowered.Statement.{statement}
-use Rattle.shifting.proofs.lowered.Tie as tie
+use Rattle.shifting.proofs.unshifted.Statement.{statement}
+use Rattle.shifting.proofs.unshifted.Tie as tie
 
 returns : tie.Need-returns
 returns c = (unshifted-low _ _ (c .before .args .d) (c .if1 .taken), omega arith)
@@ -14,5 +14,5 @@ sub-result c = omega (arith, outside _ _ _ (c .before .pre .0) (c .if1 .left))
 returns-2 : tie.Need-returns-2
 returns-2 c = (unshifted-high _ _ _ (c .if1 .left), omega arith)
 
-pub lowered-spec : {M : Type 1} → statement M
-lowered-spec = tie.close (tie.spec returns sub-result returns-2)
+pub unshifted-spec : {M : Type 1} → statement M
+unshifted-spec = tie.close (tie.spec returns sub-result returns-2)
