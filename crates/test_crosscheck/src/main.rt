@@ -6,7 +6,7 @@
 // line must rise above the one before, have its values where document 01 puts them, and match however its open variables are filled; the
 // bytes behind stay and the work area is zero. The enumeration doesn't use the search. The program prints what it compared and how many of
 // each outcome. It promises that it is safe and that it ends; `matcher` promises the rest. It rests on `notation` to read the cases, on
-// `test_pool` for the terms, on `test_trials` to try an example, and on `test_groups` for random cases.
+// `test_pool` for the terms, and on `test_groups` to try an example or a group of random cases.
 //
 // A case is one line of fields, each ended by `;` or the line:
 //     NAME; list; PATTERN; RECIPE; COUNT; REFUSAL
@@ -18,41 +18,27 @@
 // and printed as it is.
 
 use libc::STDIN_FILENO;
-use notation::build_field;
 use notation::bytes_in;
 use notation::field;
 use notation::find;
 use notation::letter_of;
-use notation::say;
 use notation::say_heading;
 use notation::within;
 use records::RECORD;
 use test_cases::entry_room;
-use test_cases::example_terms;
-use test_cases::short;
+use test_groups::try_example;
 use test_groups::try_group;
 use test_totals::NUMBERS;
 use test_totals::SIZE;
 use test_totals::add_all;
 use test_totals::say_example;
 use test_totals::say_group;
-use test_totals::say_total;
+use test_totals::say_line;
 use test_totals::tally_expected;
-use test_trials::try_case;
 
 // The number of the refusal that is expected, or 0.
 fn refusal_in(case: &[u8]) -> usize {
     bytes_in(field(case, 5), 0) % NUMBERS
-}
-
-// Tries an example, and gives the count.
-fn try_example(case: &[u8], entries: &[u8], values: &[u8], totals: &mut [u64; SIZE]) -> usize {
-    let mut p = short();
-    let mut r = short();
-    let pattern = build_field(case, 2, &mut p);
-    let recipe = build_field(case, 3, &mut r);
-    let terms = example_terms(pattern, entries);
-    try_case(pattern, recipe, terms, values, totals)
 }
 
 fn run_example(case: &[u8], entries: &[u8], values: &[u8], all: &mut [u64; SIZE]) {
@@ -60,8 +46,7 @@ fn run_example(case: &[u8], entries: &[u8], values: &[u8], all: &mut [u64; SIZE]
     let count = try_example(case, entries, values, &mut totals);
     let refusal = refusal_in(case);
     tally_expected(count, bytes_in(field(case, 4), 0), refusal, &mut totals);
-    say(field(case, 0));
-    say_example(&totals, refusal);
+    say_example(field(case, 0), &totals, refusal);
     add_all(all, &totals);
 }
 
@@ -71,16 +56,8 @@ fn run_group(case: &[u8], entries: &[u8], values: &[u8], all: &mut [u64; SIZE]) 
     let seed = bytes_in(field(case, 3), 0) as u64;
     let cases = bytes_in(field(case, 4), 0);
     try_group(shape, seed, cases, entries, values, &mut totals);
-    say(field(case, 0));
-    say_group(&totals);
+    say_group(field(case, 0), &totals);
     add_all(all, &totals);
-}
-
-// Prints the total of all cases so far that a number stands for.
-fn say_line(case: &[u8], all: &[u64; SIZE]) {
-    say(field(case, 0));
-    say_total(all, bytes_in(field(case, 2), 0), b": ");
-    say(b"\n");
 }
 
 fn run(case: &[u8], entries: &[u8], values: &[u8], all: &mut [u64; SIZE]) {
@@ -88,7 +65,7 @@ fn run(case: &[u8], entries: &[u8], values: &[u8], all: &mut [u64; SIZE]) {
     match letter {
         b'l' => run_example(case, entries, values, all),
         b'r' => run_group(case, entries, values, all),
-        b't' => say_line(case, all),
+        b't' => say_line(field(case, 0), all, bytes_in(field(case, 2), 0)),
         _ => say_heading(case),
     }
 }

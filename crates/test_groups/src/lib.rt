@@ -1,16 +1,28 @@
-// Groups of random cases: patterns and recipes drawn from a seed, and each tried.
+// Examples, and groups of random cases: patterns and recipes that a case writes, or that are drawn from a seed, and each tried.
 //
-// It promises that it is safe and ends; what the trials find is counted. It rests on `test_cases`, which draws the cases, and on
-// `test_trials`, which tries them.
+// It promises that it is safe and ends; what the trials find is counted. It rests on `notation` to read an example, on `test_cases`, which
+// draws random cases, and on `test_trials`, which tries them.
 
+use notation::build_field;
 use test_cases::RANDOM_RECIPE;
 use test_cases::draw_pattern;
 use test_cases::draw_terms;
 use test_cases::entry_room;
+use test_cases::example_terms;
 use test_cases::put_recipe;
 use test_cases::short;
 use test_totals::SIZE;
 use test_trials::try_case;
+
+// Tries an example, whose second and third fields are the pattern and the recipe, and gives the count.
+pub fn try_example(case: &[u8], entries: &[u8], values: &[u8], totals: &mut [u64; SIZE]) -> usize {
+    let mut p = short();
+    let mut r = short();
+    let pattern = build_field(case, 2, &mut p);
+    let recipe = build_field(case, 3, &mut r);
+    let terms = example_terms(pattern, entries);
+    try_case(pattern, recipe, terms, values, totals)
+}
 
 // Tries a pattern with a random recipe.
 fn try_recipe(

@@ -120,11 +120,11 @@ pub fn disagreements(totals: &[u64; SIZE]) -> u64 {
     n
 }
 
-pub fn say_number(n: u64) {
+fn say_number(n: u64) {
     io::print_decimal(STDOUT_FILENO, n);
 }
 
-pub fn say_total(totals: &[u64; SIZE], what: usize, text: &[u8]) {
+fn say_total(totals: &[u64; SIZE], what: usize, text: &[u8]) {
     say(text);
     say_number(total(totals, what));
 }
@@ -140,7 +140,8 @@ fn say_compared(totals: &[u64; SIZE]) {
     say(b"\n");
 }
 
-pub fn say_example(totals: &[u64; SIZE], refusal: usize) {
+pub fn say_example(name: &[u8], totals: &[u64; SIZE], refusal: usize) {
+    say(name);
     if refusal == 0 {
         say_total(totals, LINES, b": lines ");
         say_compared(totals);
@@ -160,8 +161,16 @@ pub fn tally_expected(count: usize, expected: usize, refusal: usize, totals: &mu
     tally_if(totals, NUMBER, refused != 1);
 }
 
-pub fn say_group(totals: &[u64; SIZE]) {
+pub fn say_group(name: &[u8], totals: &[u64; SIZE]) {
+    say(name);
     say_total(totals, CASES, b": cases ");
     say_total(totals, LINES, b"; lines ");
     say_compared(totals);
+}
+
+// Prints one total.
+pub fn say_line(name: &[u8], totals: &[u64; SIZE], what: usize) {
+    say(name);
+    say_total(totals, what, b": ");
+    say(b"\n");
 }
