@@ -48,7 +48,8 @@ cases n =
     -- 4. `@ p0 k1`, `@ @ k2 k1 k1`: `@ k2 k1`; `\ @ @ k2 #0 #0`; `\ @ @ k2 #0 k1`; `\ @ @ k2 k1 k1`
     ∷ lists (app (var 0) (con 1)) (app (app (con 2) (con 1)) (con 1))
     (lineFrom n (some (app (con 2) (con 1)) ∷ []) ∷ lineFrom n (some (lam (app (app (con 2) (loc 0)) (loc 0))) ∷ [])
-    ∷ lineFrom n (some (lam (app (app (con 2) (loc 0)) (con 1))) ∷ []) ∷ lineFrom n (some (lam (app (app (con 2) (con 1)) (con 1))) ∷ []) ∷ [])
+    ∷ lineFrom n (some (lam (app (app (con 2) (loc 0)) (con 1))) ∷ [])
+    ∷ lineFrom n (some (lam (app (app (con 2) (con 1)) (con 1))) ∷ []) ∷ [])
     -- 5. `@ p0 p0`, `k1`: only p0=`\ k1`
     ∷ lists (app (var 0) (var 0)) (con 1) (lineFrom n (some (lam (con 1)) ∷ []) ∷ [])
     -- 6. `@ \ #0 p0`, `k1`: only p0=`k1`
@@ -64,6 +65,7 @@ cases n =
     -- 11. `@ k1 p0`, `@ k1 \ #0`: only p0=`\ #0`
     ∷ lists (app (con 1) (var 0)) (app (con 1) identity) (lineFrom n (some identity ∷ []) ∷ [])
     -- besides the document's: "Open comes before assigned": `@ p1 p0`, `k0`: p1=`\ k0`; then p0=`k0`, p1=`\ #0`
-    ∷ lists (app (var 1) (var 0)) (con 0) (lineFrom n (none ∷ some (lam (con 0)) ∷ []) ∷ lineFrom n (some (con 0) ∷ some identity ∷ []) ∷ [])
+    ∷ lists (app (var 1) (var 0)) (con 0)
+    (lineFrom n (none ∷ some (lam (con 0)) ∷ []) ∷ lineFrom n (some (con 0) ∷ some identity ∷ []) ∷ [])
     -- besides the document's: a line that assigns nothing, for a pattern with a variable: `@ \ k1 p0`, `k1`
     ∷ lists (app (lam (con 1)) (var 0)) (con 1) (lineFrom n [] ∷ []) ∷ []

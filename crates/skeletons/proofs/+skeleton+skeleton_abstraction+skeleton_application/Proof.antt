@@ -224,7 +224,8 @@ skeleton-application-part-apply-skeleton-end t c = search (needs, skeleton-withi
 skeleton-application-sub-apply-skeleton-2 : (t : ℕ) → skeleton-application-in t skeleton-application-lts.Need-sub-apply-skeleton-2
 skeleton-application-sub-apply-skeleton-2 t c = search needs
 
-skeleton-application-part-apply-skeleton-start-2 : (t : ℕ) → skeleton-application-in t skeleton-application-lts.Need-part-apply-skeleton-start-2
+skeleton-application-part-apply-skeleton-start-2 :
+    (t : ℕ) → skeleton-application-in t skeleton-application-lts.Need-part-apply-skeleton-start-2
 skeleton-application-part-apply-skeleton-start-2 t c = search needs
 
 skeleton-application-part-apply-skeleton-end-2 : (t : ℕ) → skeleton-application-in t skeleton-application-lts.Need-part-apply-skeleton-end-2

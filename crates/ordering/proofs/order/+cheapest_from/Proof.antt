@@ -1,5 +1,5 @@
--- `ordering::order::cheapest_from` meets its contract. What it answers is the first goal or what the list behind it comes to; the measure is the
--- first goal's place, as the next one's is lower. Assumes nothing.
+-- `ordering::order::cheapest_from` meets its contract. What it answers is the first goal or what the list behind it comes to; the measure
+-- is the first goal's place, as the next one's is lower. Assumes nothing.
 use native.Mathlib.Omega.{arith}
 use Rattle.ordering.proofs.Ordering.{ranks-costs, ranks-next, ranks-here, ranks-further}
 use Prim.Native.Nat.{ℕ, _<_}
@@ -24,7 +24,8 @@ cheapest-from-below t =
     and 2 cheapest-from-kinds.ps (falls 2 cheapest-from-kinds.ps _<_ μ-cheapest-from t) cheapest-from.Pre
 
 -- `cheapest-from-in t X`: the place or the need X of `cheapest_from`, whose calls within the cycle have a measure below t.
-abbrev cheapest-from-in : ℕ → (cheapest-from-lts.Claims → In 2 cheapest-from-kinds.ps → Out 2 cheapest-from-kinds.ps cheapest-from-kinds.r → Type 0) → Type 0
+abbrev cheapest-from-in :
+    ℕ → (cheapest-from-lts.Claims → In 2 cheapest-from-kinds.ps → Out 2 cheapest-from-kinds.ps cheapest-from-kinds.r → Type 0) → Type 0
 cheapest-from-in t X = X (
   cost-reads.Asked,
   cost-reads.Learnt,

@@ -1,5 +1,5 @@
--- `ordering::order::bodies_cost` is safe and ends. The invariant bounds the number, which at most doubles before it is tested; the measure is
--- how many copies are left. Assumes nothing.
+-- `ordering::order::bodies_cost` is safe and ends. The invariant bounds the number, which at most doubles before it is tested; the measure
+-- is how many copies are left. Assumes nothing.
 use Prim.Native.Nat.{_-_, _<_}
 use borrow.Author.Needs.{needs}
 use Rattle.ordering.proofs.order.bodies_cost.Statement.{statement}
