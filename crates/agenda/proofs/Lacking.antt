@@ -8,7 +8,7 @@ use native.Mathlib.Omega.{arith}
 use lib.ListN.{length, getD, replicate, length-replicate}
 use Rattle.terms.specs.Figures.{patternRecords, numbers}
 use Rattle.terms.specs.Term.{Term, size, uses, Closed}
-use Rattle.matching.proofs.Targets.{closed-more}
+use Rattle.terms.proofs.Locals.{closed-more}
 use Rattle.records.specs.Parts.{slice, Part, Whole}
 use Rattle.records.specs.Tests.{Asks, Walked}
 use Rattle.records.specs.declared.Ask.the-variants.{Other}

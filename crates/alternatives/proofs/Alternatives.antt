@@ -16,13 +16,14 @@ use Rattle.terms.specs.Refusal.{OccursIn}
 use Rattle.terms.specs.Heads.{rigid}
 use Rattle.terms.proofs.Table.{encode-length}
 use Rattle.terms.proofs.Shift.{size-shift}
+use Rattle.terms.proofs.Locals.{closed-more}
 use Rattle.matching.specs.Goals.{Goal, Goal.match}
 use Rattle.matching.specs.Alternatives.{constant}
 use Rattle.matching.proofs.Partial.{totalOf}
 use Rattle.matching.proofs.Alternatives.{alternative-parts, alternative-no-parts, listable-parts, listable-constant}
 use Rattle.matching.proofs.Cuts.{no-local, constant-local}
 use Rattle.matching.proofs.Step.{constant-normal}
-use Rattle.matching.proofs.Targets.{closed-more, closed-shift, constant-closed, constant-ground}
+use Rattle.matching.proofs.Targets.{closed-shift, constant-closed, constant-ground}
 use Rattle.records.specs.Parts.{slice, Part, Whole, Ends}
 use Rattle.records.proofs.Slices.{part-slice, slice-length}
 use Rattle.records.proofs.Parts.{application, application-parts, kind-at, whole}

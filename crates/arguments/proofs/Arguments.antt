@@ -16,13 +16,14 @@ use Rattle.terms.specs.Table.{encode}
 use Rattle.terms.specs.Listing.{Line}
 use Rattle.terms.specs.Refusal.{OccursIn}
 use Rattle.terms.proofs.Table.{encode-inj, encode-length}
+use Rattle.terms.proofs.Locals.{closed-more}
 use Rattle.matching.specs.Goals.{Goal, Goal.match, Goal.build}
 use Rattle.matching.specs.Occurrences.{partAt, FirstCopy}
 use Rattle.matching.specs.Skeletons.{Fits}
 use Rattle.matching.proofs.Occurrences.{each-part, first-lowered, first-movable, first-not-again, first-from}
 use Rattle.matching.proofs.Cuts.{build-local}
 use Rattle.matching.proofs.Alternatives.{alternative-argument, listable-argument}
-use Rattle.matching.proofs.Targets.{closed-more, part-closed, part-normal, part-ground, part-size}
+use Rattle.matching.proofs.Targets.{part-closed, part-normal, part-ground, part-size}
 use Rattle.records.specs.Parts.{slice, Part, Whole, Ends}
 use Rattle.records.specs.Tests.{Walked}
 use Rattle.records.specs.declared.Walk.{Walk}

@@ -21,11 +21,12 @@ use Rattle.terms.specs.Listing.{Line}
 use Rattle.terms.specs.Refusal.{OccursIn}
 use Rattle.terms.proofs.Table.{encode-length}
 use Rattle.terms.proofs.Shift.{size-shift}
+use Rattle.terms.proofs.Locals.{closed-more}
 use Rattle.matching.specs.Lists.{Values}
 use Rattle.matching.specs.Goals.{Sweeps, Goal, Goal.match, Goal.build, Listable}
 use Rattle.matching.specs.Bodies.{copies, body, Some}
 use Rattle.matching.proofs.Bodies.{copies-size, body-uses, body-size, body-closed, body-ground, body-normal, body-eta}
-use Rattle.matching.proofs.Targets.{closed-more, closed-shift}
+use Rattle.matching.proofs.Targets.{closed-shift}
 use Rattle.matching.proofs.Choices.{listable-chosen}
 use Rattle.records.specs.Parts.{slice, Part, Tree}
 use Rattle.records.specs.Tests.{Says, Equals}

@@ -15,12 +15,12 @@ use Rattle.terms.specs.Table.{encode}
 use Rattle.terms.specs.Assignment.{valueOr}
 use Rattle.terms.specs.Listing.{Line}
 use Rattle.terms.proofs.Table.{encode-length, encode-one}
+use Rattle.terms.proofs.Locals.{closed-more}
 use Rattle.matching.specs.Lists.{Values, Extends}
 use Rattle.matching.specs.Goals.{Goal, Goal.match, Goal.build, Meets}
 use Rattle.matching.specs.Skeletons.{Fits}
 use Rattle.matching.proofs.Lines.{extends-entry}
 use Rattle.matching.proofs.Partial.{totalOf}
-use Rattle.matching.proofs.Targets.{closed-more}
 use Rattle.matching.proofs.Skeletons.{fits-exact}
 use Rattle.matching.proofs.Cuts.{fits-abstraction}
 use Rattle.records.specs.Parts.{slice, Part, Whole, Ends, Tree}

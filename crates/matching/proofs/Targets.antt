@@ -5,17 +5,12 @@ use mathlib.Core.Bool.{cond}
 use Prim.Native.Nat.{ℕ, suc, _+_, _≤_, _<_}
 use native.Mathlib.Omega.{arith}
 use Rattle.terms.specs.Term.{Term, app, lam, loc, con, var, Normal, Closed, Ground, size, shift}
-use Rattle.terms.proofs.Locals.{closed-unused, unused-closed}
 use Rattle.terms.proofs.Tests.{by-ltb}
 use Rattle.terms.proofs.Shift.{normal-shift, size-shift}
 use Rattle.matching.specs.Alternatives.{constant}
 use Rattle.matching.specs.Occurrences.{partAt, Copy}
 use Rattle.matching.proofs.Step.{bodyTarget}
 use Rattle.matching.proofs.Occurrences.{each-part}
-
--- what is closed below some binders is closed below more
-pub closed-more : (m n : ℕ) (t : Term) → m ≤ n → Closed m t → Closed n t
-closed-more m n t h c = unused-closed n t (λ j l. closed-unused m j t (omega arith) c)
 
 -- shifting
 pub closed-shift : (d c m n : ℕ) (t : Term) → n ≡ m + d → Closed m t → Closed n (shift d c t)

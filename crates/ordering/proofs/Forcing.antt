@@ -15,9 +15,10 @@ use Rattle.terms.specs.Table.{encode}
 use Rattle.terms.specs.Refusal.{OccursIn}
 use Rattle.terms.proofs.Shift.{size-shift}
 use Rattle.terms.proofs.Table.{encode-length}
+use Rattle.terms.proofs.Locals.{closed-more}
 use Rattle.matching.specs.Goals.{Goal, Goal.match, Goal.build, Meets, All, Listable, Sweeps}
 use Rattle.matching.specs.Repeated.{spine, firsts, seconds, enclose}
-use Rattle.matching.proofs.Targets.{closed-more, closed-shift}
+use Rattle.matching.proofs.Targets.{closed-shift}
 use Rattle.matching.proofs.Repeated.{length-firsts, size-spine, suits-spine, size-join, size-enclose}
 use Rattle.matching.proofs.Repeated.{join-closed, enclose-normal, enclose-closed, enclose-ground, goals-forced, goals-none}
 use Rattle.records.specs.Parts.{slice, Part, Whole}

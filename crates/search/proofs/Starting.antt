@@ -12,8 +12,8 @@ use Rattle.terms.specs.Term.{Term, size, Normal, Ground, Below, Closed}
 use Rattle.terms.specs.Table.{encode}
 use Rattle.terms.specs.Refusal.{OccursIn}
 use Rattle.terms.proofs.Table.{encode-one, encode-length}
+use Rattle.terms.proofs.Locals.{closed-more}
 use Rattle.matching.proofs.Lines.{openLine, length-blank, extends-blank, assigns-blank}
-use Rattle.matching.proofs.Targets.{closed-more}
 use Rattle.records.specs.Parts.{Part}
 use Rattle.records.proofs.Parts.{part}
 use Rattle.assignments.specs.declared.Entry.the-variants.{Open}

@@ -13,11 +13,10 @@ use Rattle.terms.specs.Term.{Term, app, lam, loc, con, var, size, Closed, Below
 use Rattle.terms.specs.Sweep.{sweep, fill}
 use Rattle.terms.specs.Table.{encode}
 use Rattle.terms.proofs.Sweep.{sweep-normal}
-use Rattle.terms.proofs.Locals.{closed-sweep}
+use Rattle.terms.proofs.Locals.{closed-more, closed-sweep}
 use Rattle.terms.proofs.Table.{encode-one, encode-length}
 use Rattle.terms.proofs.Substitute.{size-pos}
 use Rattle.matching.specs.Skeletons.{Fits}
-use Rattle.matching.proofs.Targets.{closed-more}
 use Rattle.matching.proofs.Skeletons.{fits-refl, closed-apply}
 use Rattle.matching.proofs.Repeated.{closed-contract}
 use Rattle.records.specs.Record.{numberAt}

@@ -16,9 +16,10 @@ use Rattle.terms.specs.Refusal.{OccursIn}
 use Rattle.terms.specs.Heads.{rigid}
 use Rattle.terms.proofs.Table.{kind, encode-length}
 use Rattle.terms.proofs.Shift.{size-shift}
+use Rattle.terms.proofs.Locals.{closed-more}
 use Rattle.matching.specs.Goals.{Sweeps, Goal, Goal.match, All, Listable}
 use Rattle.matching.proofs.Step.{bodyTarget, match-abstraction, bodyTarget-normal}
-use Rattle.matching.proofs.Targets.{closed-more, bodyTarget-closed, bodyTarget-ground, closed-shift}
+use Rattle.matching.proofs.Targets.{bodyTarget-closed, bodyTarget-ground, closed-shift}
 use Rattle.matching.proofs.Cuts.{rigid-application, no-local}
 use Rattle.records.specs.Parts.{slice, Part, Whole, Ends}
 use Rattle.records.proofs.Slices.{part-slice}

@@ -6,6 +6,8 @@ pub mod Sweep
 pub mod Occurs
 pub mod Contracted
 pub mod Locals
+pub mod Variables
+pub mod Normalization
 pub mod Table
 pub mod Order
 pub mod Refusal

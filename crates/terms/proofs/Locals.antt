@@ -55,6 +55,10 @@ unused-closed d (loc n) h = go (decLt n d)
 unused-closed d (con n) h = tt
 unused-closed d (var n) h = tt
 
+-- what is closed below some binders is closed below more
+pub closed-more : (m n : ℕ) (t : Term) → m ≤ n → Closed m t → Closed n t
+closed-more m n t h c = unused-closed n t (λ j l. closed-unused m j t (omega arith) c)
+
 -- loose locals
 unused-app : (j : ℕ) (f a : Term) → uses j f ≡ false → uses j a ≡ false → uses j (contract (app f a)) ≡ false
 unused-app j (app f b) a h u = rw (h, u)

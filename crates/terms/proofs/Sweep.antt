@@ -1,11 +1,14 @@
--- The sweep leaves normal terms as they are, and filling reads only the variables that occur. By induction on the term. Assumes nothing.
+-- The sweep leaves normal terms as they are, no swept form is above the largest of its parts, and filling reads only the variables that
+-- occur. By induction on the term. Assumes nothing.
 use mathlib.Core.Path.{_≡_, refl, ap, ap₂}
 use mathlib.Core.Bool.{Bool, true, false, not, cond, _&&_}
 use mathlib.Core.Logic.{inl, inr}
-use Prim.Native.Nat.{ℕ}
+use Prim.Native.Nat.{ℕ, max, _≤_}
+use native.Mathlib.Nat.{le-max-left}
+use native.Mathlib.Omega.{arith}
 use lib.Dec.{T}
-use Rattle.terms.specs.Term.{Term, app, lam, loc, con, var, Normal, Occurs, unshift, substitute, isAbstraction, isEta}
-use Rattle.terms.specs.Sweep.{sweep, contract, fill}
+use Rattle.terms.specs.Term.{Term, app, lam, loc, con, var, size, Normal, Occurs, unshift, substitute, isAbstraction, isEta}
+use Rattle.terms.specs.Sweep.{sweep, contract, largest, fill}
 use Rattle.terms.proofs.Tests.{false-of}
 
 pub contract-app : (f a : Term) → T (not (isAbstraction f)) → contract (app f a) ≡ app f a
@@ -32,6 +35,13 @@ sweep-normal (lam b) h = rw (sweep-normal b (h .1)) (contract-lam b (h .0))
 sweep-normal (loc n) h = refl
 sweep-normal (con n) h = refl
 sweep-normal (var n) h = refl
+
+pub sweep-largest : (t : Term) → size (sweep t) ≤ largest t
+sweep-largest (app f a) = le-max-left (size (sweep (app f a))) (max (largest f) (largest a))
+sweep-largest (lam b) = le-max-left (size (sweep (lam b))) (largest b)
+sweep-largest (loc n) = omega arith
+sweep-largest (con n) = omega arith
+sweep-largest (var n) = omega arith
 
 pub fill-same : (φ ψ : ℕ → Term) (p : Term) → ((i : ℕ) → Occurs i p → φ i ≡ ψ i) → fill φ p ≡ fill ψ p
 fill-same φ ψ (app f a) h = ap₂ app (fill-same φ ψ f (λ i o. h i (inl o))) (fill-same φ ψ a (λ i o. h i (inr o)))

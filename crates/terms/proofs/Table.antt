@@ -1,5 +1,6 @@
--- Tables: a term is known from its records and from its bytes, the order of the bytes is the order of the records, and good records have
--- variables in range. By induction on the term, for any way of writing a record that loses nothing. Assumes nothing.
+-- Tables: a term is known from its records and from its bytes, the order of the bytes is the order of the records, and a term's records
+-- are good if its variables are in range, and only then. By induction on the term, for any way of writing a record that loses nothing.
+-- Assumes nothing.
 use mathlib.Core.Path.{_≡_, refl, sym, ap, ap₂, _∙_}
 use mathlib.Core.Bool.{true}
 use mathlib.Core.List.{List, [], _∷_, _++_, append-assoc, append-nil}
@@ -10,7 +11,7 @@ use native.Mathlib.Nat.{div-add-mod'}
 use native.Mathlib.Decide.{decLt}
 use lib.Dec.{ltb}
 use lib.ListN.{length, getD, drop, length-append}
-use borrow.Author.Tests.{ltb-true}
+use borrow.Author.Tests.{lt-ltb, ltb-true}
 use Rattle.terms.specs.Term.{Term, app, lam, loc, con, var, size, Below}
 use Rattle.terms.specs.Table.{recordBytes, preorder, encode, goodRecords}
 use Rattle.terms.specs.Listing.{Lexicographic, kindsAndNumbers}
@@ -224,3 +225,10 @@ good-below v (var n) r h =
     let p = and-split (ltb (n / 256 * 256 + n % 256) v) (goodRecords v r) h in
     let q = ltb-true (n / 256 * 256 + n % 256) v (p .0) in
     (rw (div-add-mod' n 256) at q, p .1)
+
+pub below-good : (v : ℕ) (t : Term) (r : List ℕ) → Below v t → goodRecords v r ≡ true → goodRecords v (encode t ++ r) ≡ true
+below-good v (app f a) r h g = rw append-assoc (below-good v f (encode a ++ r) (h .0) (below-good v a r (h .1) g))
+below-good v (lam b) r h g = below-good v b r h g
+below-good v (loc n) r h g = g
+below-good v (con n) r h g = g
+below-good v (var n) r h g = rw (div-add-mod' n 256, lt-ltb n v h) g

@@ -1,4 +1,4 @@
--- The figures of document 01, each in this one place.
+-- The figures of documents 01 and 02, each in this one place.
 --   variables       "variable, number 0 to 7": how many there are
 --   constants       "constant, number 0 to 65,535": how many there are
 --   numbers         "a 16-bit number": how many numbers a record can hold
@@ -7,6 +7,7 @@
 --   valueRecords    "value 1 to 160"
 --   sweptRecords    "the swept form of some part [..] is above 256 records"
 --   tableBytes      "above 65,536 bytes": the most that a line, value or output table has, and what the work area has
+--   mostSweeps      document 02: "when 64 sweeps reach no normal form"
 use Prim.Native.Nat.{ℕ}
 
 abbrev pub variables : ℕ
@@ -32,3 +33,6 @@ sweptRecords = 256
 
 abbrev pub tableBytes : ℕ
 tableBytes = 65536
+
+abbrev pub mostSweeps : ℕ
+mostSweeps = 64

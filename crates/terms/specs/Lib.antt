@@ -2,6 +2,7 @@ pub mod Figures
 pub mod Term
 pub mod Table
 pub mod Sweep
+pub mod Normalization
 pub mod Assignment
 pub mod Listing
 pub mod Layout

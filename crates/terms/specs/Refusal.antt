@@ -1,4 +1,5 @@
--- The causes of refusal, as document 01's table in the section "Operations" has them, each with its number and its place in the order.
+-- The causes of refusal, as document 01's table in the section "Operations" and document 02's requests have them, each with its number and
+-- its place in the order.
 --   Row              a refusal number, and its cause
 --   Refused rows k   "Each is given when its cause holds and no earlier one does": k is the number of the first row whose cause holds
 --   Passed rows      no row's cause holds
@@ -8,16 +9,18 @@
 --   Filled p l s t   the pattern's table p, filled from the line l and the value table s, is the term t
 --   Matches p l s r  the filled pattern sweeps to the term of the recipe's table r
 --   listingRows, assignmentRows, sweptFormRows, outputRows, unmatchedRows   the rows 9 and 10, 11, 12, 13 and 14
+--   normalFormRows F least, normalOutputRows F least o   the rows 12 and 15, and the row 13, where a term of F is swept until normal
 use mathlib.Core.Path.{_≡_}
 use mathlib.Core.Bool.{false}
 use mathlib.Core.List.{List, [], _∷_}
 use mathlib.Core.Logic.{_⊎_}
-use Prim.Native.Nat.{ℕ, _*_, _%_, _<_}
+use Prim.Native.Nat.{ℕ, suc, _*_, _%_, _<_}
 use lib.ListN.{length}
-use Rattle.terms.specs.Figures.{variables, patternRecords, recipeRecords, sweptRecords, tableBytes}
+use Rattle.terms.specs.Figures.{variables, patternRecords, recipeRecords, sweptRecords, tableBytes, mostSweeps}
 use Rattle.terms.specs.Term.{Term, size, Normal, Occurs}
 use Rattle.terms.specs.Table.{goodRecords, IsTable}
 use Rattle.terms.specs.Sweep.{sweep, largest, fill}
+use Rattle.terms.specs.Normalization.{NoneNormal, FirstNormal, SweepTooLong}
 use Rattle.terms.specs.Listing.{Line}
 use Rattle.terms.specs.Layout.{Stored, valuesRecords}
 
@@ -107,3 +110,12 @@ Matches p l s r = (t : Term) × Filled p l s t × IsTable r (sweep t)
 
 abbrev pub unmatchedRows : List ℕ → List ℕ → List ℕ → List ℕ → List Row
 unmatchedRows p l s r = (14, ¬ Matches p l s r) ∷ []
+
+-- "Number 12 applies to each sweep"; "15 when 64 sweeps reach no normal form, placed after 12 on the right side"
+abbrev pub normalFormRows : (Term → Type 0) → ℕ → List Row
+normalFormRows F least =
+    (12, (t : Term) × F t × SweepTooLong mostSweeps least t) ∷ (15, (t : Term) × F t × NoneNormal least (suc mostSweeps) t) ∷ []
+
+-- "13 here and later to what is written"
+abbrev pub normalOutputRows : (Term → Type 0) → ℕ → List ℕ → List Row
+normalOutputRows F least o = (13, (t : Term) × (u : Term) × F t × FirstNormal mostSweeps least t u × (length o < 4 * size u)) ∷ []
