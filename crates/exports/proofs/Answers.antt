@@ -1,10 +1,9 @@
 -- The number of an answer fits 64 bits, so that it is handed on as it is: a count of lines or records is bounded by the largest table, and
--- a refusal's number is one of fourteen. Assumes nothing.
+-- a refusal's number is one of fifteen. Assumes nothing.
 use mathlib.Core.Path.{_≡_, ap, _∙_, subst}
 use mathlib.Core.List.{List, _++_}
 use mathlib.Core.Logic.{inl}
-use Prim.Native.Nat.{ℕ, zero, suc, max, _≤_, _<_}
-use native.Mathlib.Nat.{le-max-left}
+use Prim.Native.Nat.{ℕ, zero, suc, _≤_, _<_}
 use native.Mathlib.Decide.{decLt}
 use native.Mathlib.Omega.{arith}
 use lib.Dec.{lit<}
@@ -13,17 +12,18 @@ use lib.ListN.{length}
 use mir.Syntax.{w64}
 use mir.Val.{SFits, toZ, ofZ}
 use mir.ValLaws.{toZ-pos, toZ-ofZ}
-use Rattle.terms.specs.Figures.{sweptRecords, tableBytes}
-use Rattle.terms.specs.Term.{Term, app, lam, loc, con, var, size}
-use Rattle.terms.specs.Sweep.{sweep, largest}
+use Rattle.terms.specs.Figures.{sweptRecords, tableBytes, mostSweeps}
+use Rattle.terms.specs.Sweep.{largest}
 use Rattle.terms.specs.Refusal.{Passed, sweptFormRows, outputRows, unmatchedRows}
 use Rattle.terms.proofs.Refusal.{passed-first, passed-later}
+use Rattle.terms.proofs.Sweep.{sweep-largest}
+use Rattle.terms.proofs.Normalization.{first-normal-short}
 use Rattle.refusals.specs.declared.Refusal.{Refusal}
 use Rattle.refusals.specs.Judged.{number}
 use Rattle.refusals.proofs.Numbers.{number-most}
 use Rattle.rewriting.specs.declared.SweepAnswer.{SweepAnswer}
 use Rattle.rewriting.specs.declared.RewriteAnswer.{RewriteAnswer}
-use Rattle.rewriting.specs.Operations.{lentForSweep, lentForRewrite, Written, Swept, Rewritten}
+use Rattle.rewriting.specs.Operations.{lentForSweep, lentForRewrite, rightSideRows, Written, Swept, Rewritten}
 use Rattle.enumeration.specs.declared.ListAnswer.{ListAnswer}
 use Rattle.enumeration.specs.Written.{WrittenLines}
 use Rattle.matcher.specs.Operations.{lentForList, Listed}
@@ -43,13 +43,6 @@ listed-few p r l s w a m q x n e = few (subst (λ (b : ListAnswer). Listed p r l
         go (no d) = let g = f .room .0 in omega (arith, f .count)
 
 -- a swept form that is written is short
-sweep-largest : (t : Term) → size (sweep t) ≤ largest t
-sweep-largest (app f a) = le-max-left (size (sweep (app f a))) (max (largest f) (largest a))
-sweep-largest (lam b) = le-max-left (size (sweep (lam b))) (largest b)
-sweep-largest (loc n) = omega arith
-sweep-largest (con n) = omega arith
-sweep-largest (var n) = omega arith
-
 written-few : (p l s o : List ℕ) (n : ℕ) (after : List ℕ) → Passed (sweptFormRows p l s) → Written p l s o n after → n ≤ tableBytes
 written-few p l s o n after h w = go (decLt sweptRecords (largest (w .term)))
   where
@@ -71,11 +64,12 @@ pub rewritten-few : (p q r l s o w : List ℕ) (a : RewriteAnswer) (after : List
 unfolding Rewritten
 rewritten-few p q r l s o w a after x n e =
     let y = subst (λ (b : RewriteAnswer). Rewritten p q r l s o w b after) e x in
-    let z = passed-later (lentForRewrite p q r l s o w) (sweptFormRows p l s ++
-    (unmatchedRows p l s r ++ (sweptFormRows q l s ++ outputRows q l s o))) (y .0) in
-    let u = passed-later (unmatchedRows p l s r) (sweptFormRows q l s ++ outputRows q l s o)
-    (passed-later (sweptFormRows p l s) (unmatchedRows p l s r ++ (sweptFormRows q l s ++ outputRows q l s o)) z) in
-    written-few q l s o n after (passed-first (sweptFormRows q l s) (outputRows q l s o) u) (y .1)
+    let z = passed-later (lentForRewrite p q r l s o w) (sweptFormRows p l s ++ (unmatchedRows p l s r ++ rightSideRows q l s o)) (y .0) in
+    let u = passed-later (unmatchedRows p l s r) (rightSideRows q l s o)
+    (passed-later (sweptFormRows p l s) (unmatchedRows p l s r ++ rightSideRows q l s o) z) in
+    let f = y .1 in
+    let h = first-normal-short mostSweeps (f .term) (f .form) (f .first) (λ g. u .0 (f .term, f .filled, g)) in
+    omega (arith, f .records, h)
 
 -- the numbers of answers fit
 pub fits-records : (n : ℕ) → n ≤ tableBytes → SFits w64 (pos n)

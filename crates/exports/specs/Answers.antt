@@ -1,5 +1,5 @@
 -- The operations' answers as one number: lines, records, or 1 and 0 for yes and no, or minus the refusal number.
---   refusalCode c   minus document 01's number of the refusal c
+--   refusalCode c   minus the documents' number of the refusal c
 --   listCode a, checkCode a, sweepCode a, rewriteCode a   the number of an answer
 --   ListedAs, CheckedAs, SweptAs, RewrittenAs   some answer that the operation may give has this number
 --   NineAs k        k is minus 9 exactly if no earlier cause holds and every full listing has more lines than were lent

@@ -1,7 +1,7 @@
 // The operations for C and Rust: each table as a pointer and a length, the answer as one number.
 //
 // `include/onestep.h` documents the four functions. Each calls its operation and gives the number of the answer: lines or records written,
-// 1 or 0 for yes or no, or minus document 01's number of a refusal. The crate promises that the number is that of an answer which the
+// 1 or 0 for yes or no, or minus the documents' number of a refusal. The crate promises that the number is that of an answer which the
 // operation may give on these tables, that -9 is given exactly if list's 9 is due, and that the tables and the work area are left as the
 // operation leaves them. It rests on `matcher` and `rewriting`; the static library is built from it.
 //
@@ -20,7 +20,7 @@ ghost use mathlib.Core.Path.{_≡_};
 ghost use Rattle.refusals.specs.Lent.{cleared};
 ghost use Rattle.exports.specs.Answers.{refusalCode, ListedAs, NineAs, CheckedAs, SweptAs, RewrittenAs};
 
-// Minus document 01's number of a refusal.
+// Minus the documents' number of a refusal.
 fn refusal_code(refusal: Refusal) -> i64
     ensures { λ r. ⌜ r ≡ refusalCode refusal ⌝ }
 {

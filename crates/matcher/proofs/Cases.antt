@@ -9,7 +9,7 @@ use Prim.Native.Nat.{ℕ, _*_, _-_, _≤_}
 use native.Mathlib.Omega.{arith}
 use lib.Dec.{lit≤}
 use lib.ListN.{replicate}
-use Rattle.terms.specs.Figures.{variables}
+use Rattle.terms.specs.Figures.{variables, recipeRecords}
 use Rattle.terms.specs.Term.{Term, app, lam, con, var}
 use Rattle.terms.specs.Table.{encode, IsTable}
 use Rattle.terms.specs.Listing.{Line, Full}
@@ -19,7 +19,7 @@ use Rattle.terms.proofs.Refusal.{passed-both}
 use Rattle.matching.specs.Cases.{Case.lists, lineFrom, identity}
 use Rattle.matching.proofs.Cases.{cases-hold}
 use Rattle.refusals.specs.Lent.{overwritten}
-use Rattle.refusals.proofs.Passing.{pattern-passed, recipe-passed}
+use Rattle.refusals.proofs.Passing.{pattern-passed, normal-passed}
 use Rattle.enumeration.specs.declared.ListAnswer.{ListAnswer}
 use Rattle.enumeration.specs.Written.{lentLines, lentRecords}
 use Rattle.matcher.specs.Operations.{Listed}
@@ -63,7 +63,7 @@ lines-full = cases-hold (lists casePattern caseRecipe caseListing) (inl refl)
 sides-passed : Passed (patternRows p ++ recipeRows r)
 sides-passed =
     passed-both (patternRows p) (recipeRows r) (pattern-passed casePattern pattern-table (lit≤ tt) refl)
-    (recipe-passed caseRecipe recipe-table (lit≤ tt) refl tt)
+    (normal-passed caseRecipe recipeRecords recipe-table (lit≤ tt) refl tt)
 
 module _ (l s w : List ℕ) (h : Passed (listTableRows l s w)) (two : 2 ≤ lentLines l) (five : 5 ≤ lentRecords s) where
   case-listed : Listed p r l s w (ListAnswer.Lines 2) (overwritten caseLines l) (overwritten valueBytes s)

@@ -16,7 +16,8 @@ use Rattle.terms.specs.Table.{encode, goodRecords, IsTable}
 use Rattle.terms.specs.Refusal.{Row, Refused, Passed, BadLength, NoTerm, patternRows, normalRows}
 use Rattle.terms.proofs.Refusal.{refused-passed}
 use Rattle.terms.proofs.Tests.{by-ltb, not-both}
-use Rattle.terms.proofs.Table.{encode-length, good-below}
+use Rattle.terms.proofs.Table.{encode-length, good-below, below-good}
+use Rattle.terms.proofs.Variables.{ground-below}
 use Rattle.terms.proofs.Substitute.{size-pos}
 use Rattle.records.specs.declared.End.{End}
 use Rattle.records.specs.declared.End.the-variants.{At, Nowhere}
@@ -132,8 +133,8 @@ module _ (m v : ℕ) (l : List ℕ) (a b c : ℕ) (more : List Row) where
   unfolding TableChecked
   checked-passed x y = (x .0, (not-both (goodRecords v l) (x .1), (λ n. n (x .2 .tree) (x .2 .table), y)))
 
-below-good : (v : ℕ) (l : List ℕ) (t : Term) → goodRecords v l ≡ true → l ≡ encode t → Below v t
-below-good v l t g e = good-below v t [] (ap (goodRecords v) (append-nil (encode t) ∙ sym e) ∙ g) .0
+table-below : (v : ℕ) (l : List ℕ) (t : Term) → goodRecords v l ≡ true → l ≡ encode t → Below v t
+table-below v l t g e = good-below v t [] (ap (goodRecords v) (append-nil (encode t) ∙ sym e) ∙ g) .0
 
 pub pattern-answer : (l : List ℕ) (r : PatternCheck) → TableChecked patternRecords variables l r
     → Answers (patternRows l) (Pattern l) (patternRefusal r)
@@ -143,7 +144,7 @@ pattern-answer l PatternCheck.Right x = (
   record {
     tree = x .2 .tree;
     table = x .2 .table;
-    below = below-good variables l (x .2 .tree) (x .1) (x .2 .table .0);
+    below = table-below variables l (x .2 .tree) (x .1) (x .2 .table .0);
     most = size-most patternRecords l (x .2 .tree) (x .0) (x .2 .table .0);
   },
 )
@@ -182,7 +183,7 @@ normal-right m l b x n =
         tree = t;
         table = x .2 .table;
         normal = n t e;
-        ground = ground-table l t b e (below-good 0 l t (x .1) e);
+        ground = ground-table l t b e (table-below 0 l t (x .1) e);
         most = size-most m l t (x .0) e;
       },
     )
@@ -199,17 +200,11 @@ unfolding TableChecked
 most-checked m v l x = length-most m l (x .0)
 
 -- values
-ground-good : (t : Term) (r : List ℕ) → Ground t → goodRecords 0 r ≡ true → goodRecords 0 (encode t ++ r) ≡ true
-ground-good (app f a) r h g = rw append-assoc (ground-good f (encode a ++ r) (h .0) (ground-good a r (h .1) g))
-ground-good (lam b) r h g = ground-good b r h g
-ground-good (loc n) r h g = g
-ground-good (con n) r h g = g
-ground-good (var n) r h g = absurd h
-
 value-passed : (l : List ℕ) → ValueTable l → Passed (normalRows valueRecords l)
 value-passed l x =
     let t = x .tree in
-    let g : goodRecords 0 l ≡ true = ap (goodRecords 0) (x .bytes ∙ sym (append-nil (encode t))) ∙ ground-good t [] (x .value .2) refl in (
+    let g : goodRecords 0 l ≡ true =
+    ap (goodRecords 0) (x .bytes ∙ sym (append-nil (encode t))) ∙ below-good 0 t [] (ground-below t (x .value .2)) refl in (
       length-right valueRecords l t (x .bytes) (x .most),
       (not-both (goodRecords 0 l) g, ((λ n. n t (x .bytes, x .value .0)), ((λ f. f t (x .bytes, x .value .0) (x .value .1)), tt))),
     )

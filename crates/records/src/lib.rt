@@ -426,7 +426,7 @@ pub fn is_normal(s: &[u8]) -> bool
     }
 }
 
-// Document 01's figures. A contract, here or in a crate above, cites each by its name in `terms`, and holds only if the two agree.
+// The documents' figures. A contract, here or in a crate above, cites each by its name in `terms`, and holds only if the two agree.
 pub const VARIABLES: usize = 8;
 
 pub const PATTERN_RECORDS: usize = 32;
@@ -436,6 +436,9 @@ pub const RECIPE_RECORDS: usize = 96;
 pub const VALUE_RECORDS: usize = 160;
 
 pub const SWEPT_RECORDS: usize = 256;
+
+// The most sweeps that are made to reach a normal form.
+pub const SWEEPS: usize = 64;
 
 // The bytes of a line, which has an entry of a record's length for each variable.
 pub const LINE: usize = RECORD * VARIABLES;

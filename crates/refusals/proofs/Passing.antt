@@ -8,10 +8,10 @@ use Prim.Native.Nat.{ℕ, _%_, _≤_}
 use native.Mathlib.Omega.{arith}
 use lib.Dec.{T}
 use lib.ListN.{length}
-use Rattle.terms.specs.Figures.{variables, patternRecords, recipeRecords, tableBytes}
+use Rattle.terms.specs.Figures.{variables, patternRecords, tableBytes}
 use Rattle.terms.specs.Term.{Term, size, Normal}
 use Rattle.terms.specs.Table.{encode, goodRecords, IsTable}
-use Rattle.terms.specs.Refusal.{Passed, BadLength, BadTable, patternRows, recipeRows}
+use Rattle.terms.specs.Refusal.{Passed, BadLength, BadTable, patternRows, normalRows}
 use Rattle.terms.proofs.Substitute.{size-pos}
 use Rattle.terms.proofs.Table.{encode-length}
 
@@ -32,6 +32,6 @@ module _ (t : Term) where
       → Passed (patternRows (encode t))
   pattern-passed i h g = (length-passed patternRecords h, (good-passed variables g, (λ n. n t i, tt)))
 
-  pub recipe-passed : IsTable (encode t) t → size t ≤ recipeRecords → goodRecords 0 (encode t) ≡ true → Normal t
-      → Passed (recipeRows (encode t))
-  recipe-passed i h g m = (length-passed recipeRecords h, (good-passed 0 g, (λ n. n t i, (λ n. n t i m, tt))))
+  pub normal-passed : (most : ℕ) → IsTable (encode t) t → size t ≤ most → goodRecords 0 (encode t) ≡ true → Normal t
+      → Passed (normalRows most (encode t))
+  normal-passed most i h g m = (length-passed most h, (good-passed 0 g, (λ n. n t i, (λ n. n t i m, tt))))

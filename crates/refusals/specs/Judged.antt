@@ -1,5 +1,5 @@
 -- The numbers of refusals, and what a verdict on lent tables says.
---   number c                  document 01's number of the refusal c
+--   number c                  the documents' number of the refusal c
 --   Judged rows W v           the verdict v is the first row whose cause holds; or none does, and W
 --   firstOf a b               the first of two verdicts that refuses
 --   tableRow n l, areaRow w   the row 8 of a table of places of n bytes, and of the work area
@@ -30,6 +30,7 @@ number Refusal.Assignment = 11
 number Refusal.SweptForm = 12
 number Refusal.Output = 13
 number Refusal.NoMatch = 14
+number Refusal.NoNormalForm = 15
 
 -- "Each is given when its cause holds and no earlier one does, and at no other time."
 unfoldable pub Judged : List Row → Type 0 → Verdict → Type 0

@@ -1,6 +1,6 @@
 // Why an operation refuses, and verdicts on the tables that it is lent.
 //
-// A verdict says that tables are right, or which of document 01's causes holds first; two verdicts are joined in the order in which an
+// A verdict says that tables are right, or which of the documents' causes holds first; two verdicts are joined in the order in which an
 // operation asks. The crate judges a table's length, the work area, a pattern, a recipe and an assignment, and makes a work area zero. It
 // promises, for any bytes, that a verdict is the first of its rows whose cause holds, and else what the tables are then known to hold. It
 // rests on the rows of `terms`, and in code on `records` and `assignments` alone, so that an operation which searches nothing refuses by
@@ -25,7 +25,7 @@ ghost use Rattle.records.specs.Checks.{Pattern, Recipe};
 ghost use Rattle.refusals.specs.Judged.{number, Judged, firstOf, tableRow, areaRow, FilledTables};
 ghost use Rattle.refusals.specs.Lent.{cleared};
 
-// Why an operation refuses. Document 01 numbers these causes.
+// Why an operation refuses. Documents 01 and 02 number these causes.
 pub enum Refusal {
     PatternLength,
     PatternRecord,
@@ -41,6 +41,7 @@ pub enum Refusal {
     SweptForm,
     Output,
     NoMatch,
+    NoNormalForm,
 }
 
 // What one step of judging the tables finds.
@@ -49,7 +50,7 @@ pub enum Verdict {
     Refused(Refusal),
 }
 
-// Document 01's number of a refusal.
+// The documents' number of a refusal.
 pub fn number_of(refusal: Refusal) -> u64
     ensures { λ r. ⌜ r ≡ number refusal ⌝ }
 {
@@ -68,6 +69,7 @@ pub fn number_of(refusal: Refusal) -> u64
         Refusal::SweptForm => 12,
         Refusal::Output => 13,
         Refusal::NoMatch => 14,
+        Refusal::NoNormalForm => 15,
     }
 }
 

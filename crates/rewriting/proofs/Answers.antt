@@ -8,12 +8,13 @@ use Rattle.terms.proofs.Refusal.{refused-first, refused-later, passed-both}
 use Rattle.refusals.specs.declared.Verdict.{Verdict}
 use Rattle.refusals.specs.declared.Refusal.{Refusal}
 use Rattle.refusals.specs.Judged.{number, Judged}
-use Rattle.rewriting.specs.declared.MatchTest.{MatchTest}
+use Rattle.sides.specs.declared.MatchTest.{MatchTest}
+use Rattle.sides.specs.Filled.{Matched}
 use Rattle.rewriting.specs.declared.CheckAnswer.{CheckAnswer}
 use Rattle.rewriting.specs.declared.SweepAnswer.{SweepAnswer}
 use Rattle.rewriting.specs.declared.RewriteAnswer.{RewriteAnswer}
-use Rattle.rewriting.specs.Operations.{lentForCheck, lentForSweep, lentForRewrite, Checked, Swept, Rewritten}
-use Rattle.rewriting.specs.Steps.{Matched, SideSwept}
+use Rattle.rewriting.specs.Operations.{lentForCheck, lentForSweep, lentForRewrite, rightSideRows, Checked, Swept, Rewritten}
+use Rattle.rewriting.specs.Steps.{SideSwept, SideNormalized}
 
 -- what the tables decide
 module _ (rows : List Row) (W : Type 0) (v : Verdict) (x : Judged rows W v) where
@@ -76,7 +77,7 @@ module _ (p q r l s o w : List ℕ) (W : Type 0) (v : Verdict) (x : Judged (lent
 
   -- the rows behind the left side's swept forms
   abbrev right : List Row
-  right = sweptFormRows q l s ++ outputRows q l s o
+  right = rightSideRows q l s o
 
   pub rewritten-lent : (c : Refusal) → v ≡ Verdict.Refused c → Rewritten p q r l s o w (RewriteAnswer.Refused c) o
   unfolding Rewritten
@@ -101,7 +102,7 @@ module _ (p q r l s o w : List ℕ) (W : Type 0) (v : Verdict) (x : Judged (lent
         )
 
     -- the left side matches, and the right side is written or refused
-    module _ (z : m ≡ MatchTest.Yes) (a : SweepAnswer) (after : List ℕ) (u : SideSwept q l s o a after) where
+    module _ (z : m ≡ MatchTest.Yes) where
       left-passed : Passed (lent ++ (sweptFormRows p l s ++ unmatchedRows p l s r))
       unfolding Matched
       left-passed =
@@ -114,17 +115,12 @@ module _ (p q r l s o w : List ℕ) (W : Type 0) (v : Verdict) (x : Judged (lent
           ≡ (lent ++ (sweptFormRows p l s ++ unmatchedRows p l s r)) ++ right
       regroup = simp append-assoc
 
-      pub rewritten-records : (n : ℕ) → a ≡ SweepAnswer.Records n → Rewritten p q r l s o w (RewriteAnswer.Records n) after
-      unfolding Rewritten SideSwept
-      rewritten-records n f =
-          let k = subst (λ (b : SweepAnswer). SideSwept q l s o b after) f u in
+      pub rewritten-put : (a : RewriteAnswer) (after : List ℕ) → SideNormalized q l s o a after → Rewritten p q r l s o w a after
+      unfolding Rewritten SideNormalized
+      rewritten-put (RewriteAnswer.Records n) after k =
           (subst Passed (sym regroup) (passed-both (lent ++ (sweptFormRows p l s ++ unmatchedRows p l s r)) right left-passed (k .0)), k .1)
-
-      pub rewritten-refused : (c : Refusal) → a ≡ SweepAnswer.Refused c → Rewritten p q r l s o w (RewriteAnswer.Refused c) after
-      unfolding Rewritten SideSwept
-      rewritten-refused c f =
-          let k = subst (λ (b : SweepAnswer). SideSwept q l s o b after) f u in (
-            subst (λ (rows : List Row). Refused rows (number c)) (sym regroup)
-                (refused-later (lent ++ (sweptFormRows p l s ++ unmatchedRows p l s r)) right (number c) left-passed (k .0)),
-            k .1,
-          )
+      rewritten-put (RewriteAnswer.Refused c) after k = (
+        subst (λ (rows : List Row). Refused rows (number c)) (sym regroup)
+            (refused-later (lent ++ (sweptFormRows p l s ++ unmatchedRows p l s r)) right (number c) left-passed (k .0)),
+        k .1,
+      )

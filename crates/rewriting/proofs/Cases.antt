@@ -7,7 +7,7 @@ use Prim.Native.Nat.{ℕ, zero, suc, _*_, _-_}
 use native.Mathlib.Omega.{arith}
 use lib.Dec.{lit<, lit≤}
 use lib.ListN.{length, replicate}
-use Rattle.terms.specs.Figures.{variables, tableBytes}
+use Rattle.terms.specs.Figures.{variables, recipeRecords, tableBytes}
 use Rattle.terms.specs.Term.{Term, app, lam, loc, con, var, Occurs, size}
 use Rattle.terms.specs.Sweep.{sweep, fill, largest}
 use Rattle.terms.specs.Table.{encode, IsTable}
@@ -16,7 +16,7 @@ use Rattle.terms.specs.Refusal.{Passed, Filled, Matches, OccursIn, assignmentTa
 use Rattle.terms.specs.Refusal.{patternRows, recipeRows}
 use Rattle.terms.proofs.Table.{encode-one}
 use Rattle.terms.proofs.Refusal.{passed-both, filled-one}
-use Rattle.refusals.proofs.Passing.{table-passed, pattern-passed, recipe-passed}
+use Rattle.refusals.proofs.Passing.{table-passed, pattern-passed, normal-passed}
 use Rattle.rewriting.specs.declared.CheckAnswer.{CheckAnswer}
 use Rattle.rewriting.specs.Operations.{lentForCheck, Checked}
 use Rattle.rewriting.proofs.Determined.{checked-one}
@@ -91,7 +91,7 @@ sides-passed : Passed (patternRows p ++ recipeRows r)
 sides-passed =
     passed-both (patternRows p) (recipeRows r)
     (pattern-passed casePattern pattern-table (lit≤ tt) refl)
-    (recipe-passed caseRecipe recipe-table (lit≤ tt) refl (tt, (tt, (tt, tt, tt), tt)))
+    (normal-passed caseRecipe recipeRecords recipe-table (lit≤ tt) refl (tt, (tt, (tt, tt, tt), tt)))
 
 assignment-passed : Passed (assignmentRows (OccursIn p) line caseValues)
 assignment-passed =

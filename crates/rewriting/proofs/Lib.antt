@@ -1,4 +1,5 @@
-pub mod Sides
+pub mod Forms
 pub mod Answers
 pub mod Determined
+pub mod Recipes
 pub mod Cases

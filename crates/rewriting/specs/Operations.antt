@@ -1,18 +1,22 @@
--- What check, sweep and rewrite answer, and what they leave in the tables they were lent. Document 01, section "Operations".
---   lentForCheck ..    the rows of refusal of each operation that its tables decide, in document 01's order
+-- What check, sweep and rewrite answer, and what they leave in the tables they were lent. Document 01, section "Operations", and of rewrite
+-- document 02's request "Rewritten recipes that can be rewritten again".
+--   lentForCheck ..    the rows of refusal of each operation that its tables decide, in the documents' order
 --   checkRows ..       all of its rows
 --   Checked, Swept, Rewritten   what an answer says, by its cases
---   Written p l s o n b   the swept form of the filled table p, of n records, is written to o
+--   Written p l s o n b        the swept form of the filled table p, of n records, is written to o
+--   WrittenNormal p l s o n b  its first normal form is, after at least one sweep
 use mathlib.Core.Path.{_≡_}
 use mathlib.Core.List.{List, _++_}
 use mathlib.Core.Logic.{_⊎_}
 use Prim.Native.Nat.{ℕ}
+use Rattle.terms.specs.Figures.{mostSweeps}
 use Rattle.terms.specs.Term.{Term, size}
 use Rattle.terms.specs.Table.{encode}
 use Rattle.terms.specs.Sweep.{sweep}
+use Rattle.terms.specs.Normalization.{FirstNormal}
 use Rattle.terms.specs.Refusal.{Row, Refused, Passed, Filled, Matches, OccursIn, assignmentTableRows, outputTableRows, patternRows}
 use Rattle.terms.specs.Refusal.{recipeRows, assignmentRows}
-use Rattle.terms.specs.Refusal.{sweptFormRows, outputRows, unmatchedRows}
+use Rattle.terms.specs.Refusal.{sweptFormRows, outputRows, unmatchedRows, normalFormRows, normalOutputRows}
 use Rattle.refusals.specs.Judged.{number}
 use Rattle.refusals.specs.Lent.{overwritten}
 use Rattle.rewriting.specs.declared.CheckAnswer.{CheckAnswer}
@@ -41,9 +45,14 @@ lentForRewrite p q r l s o w =
     (assignmentTableRows l s w ++ (outputTableRows o ++ (patternRows p ++ (recipeRows r ++ patternRows q))))
     ++ assignmentRows (λ i. OccursIn p i ⊎ OccursIn q i) l s
 
+-- the rows of the filled right side, which is swept "at least once": "Number 12 applies to each sweep, 13 here and later to what is
+-- written."; "15 [..] placed after 12 on the right side"
+abbrev pub rightSideRows : List ℕ → List ℕ → List ℕ → List ℕ → List Row
+rightSideRows q l s o = normalFormRows (Filled q l s) 1 ++ normalOutputRows (Filled q l s) 1 o
+
 abbrev pub rewriteRows : List ℕ → List ℕ → List ℕ → List ℕ → List ℕ → List ℕ → List ℕ → List Row
 rewriteRows p q r l s o w =
-    lentForRewrite p q r l s o w ++ (sweptFormRows p l s ++ (unmatchedRows p l s r ++ (sweptFormRows q l s ++ outputRows q l s o)))
+    lentForRewrite p q r l s o w ++ (sweptFormRows p l s ++ (unmatchedRows p l s r ++ rightSideRows q l s o))
 
 -- "gives yes or no"
 unfoldable pub Checked : List ℕ → List ℕ → List ℕ → List ℕ → List ℕ → CheckAnswer → Type 0
@@ -63,7 +72,18 @@ unfoldable pub Swept : List ℕ → List ℕ → List ℕ → List ℕ → List 
 Swept p l s o w (SweepAnswer.Records n) after = Passed (sweepRows p l s o w) × Written p l s o n after
 Swept p l s o w (SweepAnswer.Refused c) after = Refused (sweepRows p l s o w) (number c) × (after ≡ o)
 
--- "if the assignment is a match of left, writes the swept form of right, as sweep does"
+-- "sweeps the filled right side again and again, at least once, and gives the first form that is normal"; "bytes behind what is written
+-- stay"
+pub record WrittenNormal (p l s o : List ℕ) (n : ℕ) (after : List ℕ) : Type 0 where
+  pub term : Term
+  pub filled : Filled p l s term
+  pub form : Term
+  pub first : FirstNormal mostSweeps 1 term form
+  pub records : n ≡ size form
+  pub bytes : after ≡ overwritten (encode form) o
+
+-- "if the assignment is a match of left, writes the swept form of right, as sweep does", by document 02 its first normal form; a refusal
+-- "leaves all tables as they were"
 unfoldable pub Rewritten : List ℕ → List ℕ → List ℕ → List ℕ → List ℕ → List ℕ → List ℕ → RewriteAnswer → List ℕ → Type 0
-Rewritten p q r l s o w (RewriteAnswer.Records n) after = Passed (rewriteRows p q r l s o w) × Written q l s o n after
+Rewritten p q r l s o w (RewriteAnswer.Records n) after = Passed (rewriteRows p q r l s o w) × WrittenNormal q l s o n after
 Rewritten p q r l s o w (RewriteAnswer.Refused c) after = Refused (rewriteRows p q r l s o w) (number c) × (after ≡ o)

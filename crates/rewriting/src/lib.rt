@@ -1,18 +1,19 @@
 // Operations on an assignment that is lent: check, sweep and rewrite.
 //
-// Each judges the tables it is lent, in document 01's order, and refuses with the number of the first cause that holds; else it fills a
-// pattern from a line and a value table, sweeps it, and compares or writes what comes of it. The crate promises each answer and the bytes
-// that are left, for every input there is, refusals included: then the output table is as it was, and the work area is all zero unless its
-// own length was wrong. It rests on `refusals` for the verdicts, and on `assignments` and `sweeping` for the swept form; it searches
-// nothing.
+// Each judges the tables it is lent, in the documents' order, and refuses with the number of the first cause that holds; else it fills a
+// side from a line and a value table, sweeps it once, or of a rewrite's right side until it is normal, and compares or writes what comes of
+// it. The crate promises each answer and the bytes that are left, for every input there is, refusals included: then the output table is as
+// it was, and the work area is all zero unless its own length was wrong. What rewrite writes is a recipe but for its length
+// (`proofs/Recipes`). It rests on `refusals` for the verdicts and on `sides` for the forms; it searches nothing.
 //
-// The swept form is made in a local table of 256 records and copied at the end, so that every refusal, 12 and 13 included, leaves the
-// output as it was without undoing anything. Intermediate tables are on the stack, two of 1,024 bytes for each level of application in the
-// pattern and one for each abstraction; the work area is only made zero, after the tables were judged.
+// A form is made in a local table of 256 records and copied at the end, so that every refusal, 12, 13 and 15 included, leaves the output as
+// it was without undoing anything. The work area is only made zero, after the tables were judged.
 
+use normalizing::NormalForm;
 use records::RECORD;
 use refusals::Refusal;
 use refusals::Verdict;
+use sides::MatchTest;
 use sweeping::Length;
 use sweeping::SWEPT_BYTES;
 ghost use mathlib.Core.Path.{_≡_};
@@ -20,7 +21,7 @@ ghost use Rattle.records.specs.Checks.{Recipe};
 ghost use Rattle.refusals.specs.Judged.{Judged, FilledTables};
 ghost use Rattle.refusals.specs.Lent.{cleared};
 ghost use Rattle.rewriting.specs.Operations.{lentForCheck, lentForSweep, lentForRewrite, Checked, Swept, Rewritten};
-ghost use Rattle.rewriting.specs.Steps.{SweptSide, Matched, SideSwept};
+ghost use Rattle.rewriting.specs.Steps.{FormWritten, SideSwept, SideNormalized};
 
 pub enum CheckAnswer {
     Yes,
@@ -36,13 +37,6 @@ pub enum SweepAnswer {
 pub enum RewriteAnswer {
     Records(usize),
     Refused(Refusal),
-}
-
-// Whether a filled pattern sweeps to the recipe.
-enum MatchTest {
-    Yes,
-    No,
-    TooLong,
 }
 
 // All that check is lent: 8; pattern 1, 2, 3; recipe 4 to 7; 11.
@@ -109,29 +103,15 @@ fn judge_rewrite(
     refusals::judge_sides(left, right, line, values)
 }
 
-// Sweeps a side, filled from a line and a value table.
-fn sweep_side(side: &[u8], line: &[u8], values: &[u8], out: &mut [u8; SWEPT_BYTES]) -> Length
-    requires { ⌜ FilledTables (now side) (now line) (now values) ⌝ }
-    ensures { λ r. ⌜ SweptSide (now (side .entry)) (now (line .entry)) (now (values .entry)) (now (out .entry)) r (now (out .exit)) ⌝ }
+// Writes a form, if the output table has room for it.
+fn write_form(form: &[u8], out: &mut [u8]) -> bool
+    ensures { λ r. ⌜ FormWritten (now (form .entry)) (now (out .entry)) r (now (out .exit)) ⌝ }
 {
-    let a = assignments::entries_of(line);
-    sweeping::sweep_filled(side, values, a, out)
-}
-
-// Whether the filled pattern sweeps to the recipe.
-fn match_recipe(pattern: &[u8], line: &[u8], values: &[u8], recipe: &[u8]) -> MatchTest
-    requires { ⌜ FilledTables (now pattern) (now line) (now values) × Recipe (now recipe) ⌝ }
-    ensures { λ r. ⌜ Matched (now (pattern .entry)) (now (line .entry)) (now (values .entry)) (now (recipe .entry)) r ⌝ }
-{
-    let mut swept = [0u8; SWEPT_BYTES];
-    let length = sweep_side(pattern, line, values, &mut swept);
-    let Length::Records(n) = length else {
-        return MatchTest::TooLong;
-    };
-    if copying::same_bytes(&swept[0..n * RECORD], recipe) {
-        return MatchTest::Yes;
+    if out.len() < form.len() {
+        return false;
     }
-    MatchTest::No
+    copying::copy_into(form, out, 0);
+    true
 }
 
 // Writes the swept form of a filled side, if it has room.
@@ -140,15 +120,33 @@ fn put_swept(side: &[u8], line: &[u8], values: &[u8], out: &mut [u8]) -> SweepAn
     ensures { λ r. ⌜ SideSwept (now (side .entry)) (now (line .entry)) (now (values .entry)) (now (out .entry)) r (now (out .exit)) ⌝ }
 {
     let mut swept = [0u8; SWEPT_BYTES];
-    let length = sweep_side(side, line, values, &mut swept);
+    let length = sides::sweep_side(side, line, values, &mut swept);
     let Length::Records(n) = length else {
         return SweepAnswer::Refused(Refusal::SweptForm);
     };
-    if out.len() < n * RECORD {
-        return SweepAnswer::Refused(Refusal::Output);
+    if write_form(&swept[0..n * RECORD], out) {
+        return SweepAnswer::Records(n);
     }
-    copying::copy_into(&swept[0..n * RECORD], out, 0);
-    SweepAnswer::Records(n)
+    SweepAnswer::Refused(Refusal::Output)
+}
+
+// Writes the first normal form of a filled side, if it has room.
+fn put_normal(side: &[u8], line: &[u8], values: &[u8], out: &mut [u8]) -> RewriteAnswer
+    requires { ⌜ FilledTables (now side) (now line) (now values) ⌝ }
+    ensures { λ r. ⌜ SideNormalized (now (side .entry)) (now (line .entry)) (now (values .entry)) (now (out .entry)) r (now (out .exit)) ⌝ }
+{
+    let mut table = [0u8; SWEPT_BYTES];
+    let form = sides::normalize_side(side, line, values, &mut table);
+    match form {
+        NormalForm::TooLong => RewriteAnswer::Refused(Refusal::SweptForm),
+        NormalForm::NotReached => RewriteAnswer::Refused(Refusal::NoNormalForm),
+        NormalForm::Records(n) => {
+            if write_form(&table[0..n * RECORD], out) {
+                return RewriteAnswer::Records(n);
+            }
+            RewriteAnswer::Refused(Refusal::Output)
+        }
+    }
 }
 
 // Whether the assignment in a line and a value table is a match of a pattern and a recipe.
@@ -169,7 +167,7 @@ pub fn check(
         Verdict::Refused(c) => return CheckAnswer::Refused(c),
         Verdict::Right => {}
     }
-    let found = match_recipe(pattern, line, values, recipe);
+    let found = sides::match_recipe(pattern, line, values, recipe);
     match found {
         MatchTest::Yes => CheckAnswer::Yes,
         MatchTest::No => CheckAnswer::No,
@@ -198,7 +196,7 @@ pub fn sweep(
     put_swept(pattern, line, values, out)
 }
 
-// Writes the swept form of a filled right side, if the assignment is a match of the left side and the recipe.
+// Writes the first normal form of a filled right side, if the assignment is a match of the left side and the recipe.
 pub fn rewrite(
     left: &[u8],
     right: &[u8],
@@ -218,15 +216,11 @@ pub fn rewrite(
         Verdict::Refused(c) => return RewriteAnswer::Refused(c),
         Verdict::Right => {}
     }
-    let found = match_recipe(left, line, values, recipe);
+    let found = sides::match_recipe(left, line, values, recipe);
     match found {
         MatchTest::No => return RewriteAnswer::Refused(Refusal::NoMatch),
         MatchTest::TooLong => return RewriteAnswer::Refused(Refusal::SweptForm),
         MatchTest::Yes => {}
     }
-    let put = put_swept(right, line, values, out);
-    match put {
-        SweepAnswer::Refused(c) => RewriteAnswer::Refused(c),
-        SweepAnswer::Records(m) => RewriteAnswer::Records(m),
-    }
+    put_normal(right, line, values, out)
 }

@@ -1,6 +1,6 @@
 -- `rewriting::rewrite` meets its contract, from the verdict on its tables, the match and what was put. Assumes nothing.
 use Rattle.refusals.proofs.Judging.{right-known}
-use Rattle.rewriting.proofs.Answers.{rewritten-lent, rewritten-long, rewritten-no, rewritten-records, rewritten-refused}
+use Rattle.rewriting.proofs.Answers.{rewritten-lent, rewritten-long, rewritten-no, rewritten-put}
 use borrow.Author.Needs.{needs}
 use Rattle.rewriting.proofs.rewrite.Statement.{statement}
 use Rattle.rewriting.proofs.rewrite.Tie as tie
@@ -59,18 +59,12 @@ returns-3 c = search (needs, rewritten-long)
 enum-told-4 : tie.Need-enum-told-4
 enum-told-4 c = search needs
 
-put-swept-requires : tie.Need-put-swept-requires
-put-swept-requires c κs =
+put-normal-requires : tie.Need-put-normal-requires
+put-normal-requires c κs =
     let enum-told-point : tie.After-enum-told = search in
     let judge-rewrite : tie.After-judge-rewrite = search in
     let x = right-known _ _ _ (judge-rewrite .judge-rewrite .ensures) (enum-told-point .enum-told .given .1) in
     search needs
-
-enum-known-put : tie.Need-enum-known-put
-enum-known-put c = search needs
-
-enum-known-put-2 : tie.Need-enum-known-put-2
-enum-known-put-2 c = search needs
 
 same-length-7 : tie.Need-same-length-7
 same-length-7 c = search needs
@@ -79,16 +73,7 @@ same-length-8 : tie.Need-same-length-8
 same-length-8 c = search needs
 
 returns-4 : tie.Need-returns-4
-returns-4 c = search (needs, rewritten-refused)
-
-same-length-9 : tie.Need-same-length-9
-same-length-9 c = search needs
-
-same-length-10 : tie.Need-same-length-10
-same-length-10 c = search needs
-
-returns-5 : tie.Need-returns-5
-returns-5 c = search (needs, rewritten-records)
+returns-4 c = search (needs, rewritten-put)
 
 pub rewrite-spec : {M : Type 1} → statement M
 rewrite-spec =
@@ -111,12 +96,7 @@ rewrite-spec =
     same-length-6
     returns-3
     enum-told-4
-    put-swept-requires
-    enum-known-put
-    enum-known-put-2
+    put-normal-requires
     same-length-7
     same-length-8
-    returns-4
-    same-length-9
-    same-length-10
-    returns-5)
+    returns-4)

@@ -1,36 +1,38 @@
--- A side that is filled and swept: what its swept form is, that it is the recipe or not, and that it is written. A table is filled in one
--- way only, so what holds of one filled term holds of each. Assumes nothing.
+-- A side that is filled and swept: what its swept form is, that it is the recipe or not, and what sweeping it until normal comes to. A
+-- table is filled in one way only, so what holds of one filled term holds of each. Assumes nothing.
 use mathlib.Core.Path.{_≡_, refl, sym, ap, _∙_, subst}
 use mathlib.Core.Bool.{Bool, true, false}
-use mathlib.Core.List.{List, _++_}
+use mathlib.Core.List.{List}
 use mathlib.Core.Logic.{inl}
-use Prim.Native.Nat.{ℕ, _+_, _*_, _-_, _<_, _≤_}
+use Prim.Native.Nat.{ℕ, _*_, _-_, _≤_}
 use native.Mathlib.Omega.{arith}
 use lib.ListN.{length, take, drop}
-use lib.Seq.{sets, sets-eq}
-use Rattle.terms.specs.Figures.{variables, sweptRecords}
-use Rattle.terms.specs.Term.{Term, size}
+use lib.Seq.{length-sets}
+use Rattle.terms.specs.Figures.{variables, sweptRecords, mostSweeps}
+use Rattle.terms.specs.Term.{Term, size, Closed, Below}
 use Rattle.terms.specs.Table.{encode, IsTable}
 use Rattle.terms.specs.Sweep.{sweep, largest}
-use Rattle.terms.specs.Refusal.{Refused, Passed, Filled, Matches, sweptFormRows, outputRows}
+use Rattle.terms.specs.Refusal.{Refused, Passed, Filled, Matches, sweptFormRows}
 use Rattle.terms.proofs.Occurs.{occurs-below}
-use Rattle.terms.proofs.Refusal.{filled-one, refused-first, refused-later, passed-both}
+use Rattle.terms.proofs.Refusal.{filled-one}
 use Rattle.terms.proofs.Table.{encode-one, encode-length}
+use Rattle.terms.proofs.Variables.{below-fill, closed-fill, below-sweep, closed-below}
+use Rattle.terms.proofs.Normalization.{sweep-long-first}
 use Rattle.records.specs.Checks.{Recipe}
 use Rattle.assignments.specs.declared.Entry.{Entry}
 use Rattle.assignments.specs.Entries.{Read, Gives}
 use Rattle.assignments.proofs.Entries.{stored-given}
+use Rattle.copying.specs.Equality.{Same}
 use Rattle.sweeping.specs.declared.Length.{Length}
 use Rattle.sweeping.specs.declared.Length.the-variants.{Records, TooLong}
-use Rattle.sweeping.specs.Swept.{Fillable, WritesSwept, FormSwept}
-use Rattle.copying.specs.Equality.{Same}
+use Rattle.sweeping.specs.Swept.{Fillable, WritesSwept, WrittenForm, FormSwept}
 use Rattle.sweeping.proofs.Sweeps.{swept-table, swept-long}
-use Rattle.refusals.specs.declared.Refusal.{Refusal}
+use Rattle.normalizing.specs.declared.NormalForm.{NormalForm}
+use Rattle.normalizing.specs.Normalized.{Begins, Normalizable, Normalized}
+use Rattle.normalizing.proofs.Sweeps.{normalized-more}
 use Rattle.refusals.specs.Judged.{FilledTables}
-use Rattle.rewriting.specs.declared.MatchTest.{MatchTest}
-use Rattle.rewriting.specs.declared.SweepAnswer.{SweepAnswer}
-use Rattle.rewriting.specs.Operations.{Written}
-use Rattle.rewriting.specs.Steps.{SweptSide, Matched, SideSwept}
+use Rattle.sides.specs.declared.MatchTest.{MatchTest}
+use Rattle.sides.specs.Filled.{SweptSide, Matched, NormalSide}
 
 -- the entries of the line give the values that fill the pattern
 module _ (p l s : List ℕ) (a : List Entry) (r : Read l a variables) (x : FilledTables p l s) where
@@ -93,34 +95,11 @@ module _ (p l s : List ℕ) (n : ℕ) (after : List ℕ) (x : SideForm p l s n a
   matches-not r e m =
       e (x .bytes ∙ ap (λ t. encode (sweep t)) (sym (filled-one p l s (m .0) (x .term) (m .1) (x .filled))) ∙ sym (m .2 .0))
 
-  pub output-short : (o : List ℕ) → length o < n * 4 → Refused (outputRows p l s o) 13
-  output-short o h = inl ((x .term, x .filled, omega (arith, x .records)), refl)
-
-  pub output-passed : (o : List ℕ) → n * 4 ≤ length o → Passed (outputRows p l s o)
-  output-passed o h =
-      (λ c. omega (arith, x .records, ap (λ t. size (sweep t)) (filled-one p l s (c .0) (x .term) (c .1) (x .filled)), c .2), tt)
-
-  pub written : (o m : List ℕ) → n * 4 ≤ length o → m ≡ sets o 0 (take (n * 4 - 0) (drop 0 after)) → Written p l s o n m
-  written o m h q =
-      let t = encode (sweep (x .term)) in
-      let z : 0 + length t ≡ length t = omega arith in
-      record {
-        term = x .term;
-        filled = x .filled;
-        records = x .records;
-        bytes = q ∙ ap (sets o 0) (x .bytes) ∙ sets-eq t o 0 (omega (arith, encode-length (sweep (x .term)), x .records))
-            ∙ ap (λ (k : ℕ). t ++ drop k o) z;
-      }
-
--- the answers of the two steps
+-- whether it is the recipe
 module _ (p l s out : List ℕ) (r : Length) (after : List ℕ) (x : FilledTables p l s) (w : SweptSide p l s out r after) where
   pub matched-long : (t : List ℕ) → r ≡ TooLong → Matched p l s t MatchTest.TooLong
   unfolding Matched
   matched-long t e = too-long p l s out r after x w e
-
-  pub put-long : (o : List ℕ) → r ≡ TooLong → SideSwept p l s o (SweepAnswer.Refused Refusal.SweptForm) o
-  unfolding SideSwept
-  put-long o e = (refused-first (sweptFormRows p l s) (outputRows p l s o) 12 (too-long p l s out r after x w e), refl)
 
 module _ (p l s : List ℕ) (n : ℕ) (after : List ℕ) (x : SideForm p l s n after) where
   pub matched-yes : (t : List ℕ) → Recipe t → (c : Bool) → Same (take (n * 4 - 0) (drop 0 after)) t c → c ≡ true
@@ -132,15 +111,48 @@ module _ (p l s : List ℕ) (n : ℕ) (after : List ℕ) (x : SideForm p l s n a
   unfolding Matched Same
   matched-no t c q z = (swept-passed p l s n after x, matches-not p l s n after x t (subst (Same (take (n * 4 - 0) (drop 0 after)) t) z q))
 
-  pub put-short : (o : List ℕ) → length o < n * 4 → SideSwept p l s o (SweepAnswer.Refused Refusal.Output) o
-  unfolding SideSwept
-  put-short o h =
-      (refused-later (sweptFormRows p l s) (outputRows p l s o) 13 (swept-passed p l s n after x) (output-short p l s n after x o h), refl)
+-- a filled side is a closed term without variables
+pub filled-bare : (p l s : List ℕ) (t : Term) → Filled p l s t → Closed 0 t × Below 0 t
+filled-bare p l s t f =
+    rw (f .is) (
+      closed-fill (f .φ) 0 (f .term) (λ i o. f .stored i o .value .0) (f .table .1),
+      below-fill (f .φ) (f .term) (λ i o. f .stored i o .value .2),
+    )
 
-  pub put-done : (o m : List ℕ) → n * 4 ≤ length o → m ≡ sets o 0 (take (n * 4 - 0) (drop 0 after))
-      → SideSwept p l s o (SweepAnswer.Records n) m
-  unfolding SideSwept
-  put-done o m h q = (
-    passed-both (sweptFormRows p l s) (outputRows p l s o) (swept-passed p l s n after x) (output-passed p l s n after x o h),
-    written p l s n after x o m h q,
-  )
+-- sweeping it until normal
+module _ (p l s out : List ℕ) (r : Length) (after : List ℕ) (x : FilledTables p l s) (w : SweptSide p l s out r after) where
+  pub normal-long : (q : List ℕ) → r ≡ TooLong → NormalSide p l s NormalForm.TooLong q
+  unfolding Normalized
+  normal-long q e t f =
+      sweep-long-first 1 t (omega arith) (λ h. absurd (omega arith)) mostSweeps (omega arith) (swept-long t out after r (w t f) e)
+
+  module _ (n : ℕ) (e : r ≡ Records n) (h : length after ≡ 4 * sweptRecords) where
+    same-room : length out ≡ 4 * sweptRecords
+    unfolding FormSwept WrittenForm
+    same-room =
+        let z : FormSwept (x .term) out (Records n) after =
+        subst (λ (q : Length). FormSwept (x .term) out q after) e (w (x .term) (x .filled)) in
+        omega (arith, h, ap length (z .1 .2), length-sets out 0 (encode (sweep (x .term))))
+
+    first-form : (y : SideForm p l s n after) → Begins after n (sweep (y .term))
+    first-form y = record { records = y .records; few = omega (arith, y .few); within = y .within; bytes = y .bytes }
+
+    pub normal-start : Normalizable after n
+    normal-start =
+        let y = swept-as p l s out r after x w n same-room e in
+        let b = filled-bare p l s (y .term) (y .filled) in
+        record {
+          tree = sweep (y .term);
+          begins = first-form y;
+          room = omega (arith, h);
+          closed = closed-below 0 (y .term) (b .1) (b .0);
+          below = below-sweep 0 (y .term) (b .1);
+        }
+
+    pub normal-rest : (a : NormalForm) (q : List ℕ) → ((t : Term) → Begins after n t → Normalized (mostSweeps - 1) 0 t a q)
+        → NormalSide p l s a q
+    normal-rest a q z t f =
+        let y = swept-as p l s out r after x w n same-room e in
+        subst (λ (u : Term). Normalized mostSweeps 1 u a q) (filled-one p l s (y .term) t (y .filled) f)
+        (normalized-more 1 (y .term) (omega arith) (λ k. absurd (omega arith)) (y .all) (mostSweeps - 1) a q
+        (z (sweep (y .term)) (first-form y)))

@@ -1,9 +1,9 @@
--- `rewriting::match_recipe` meets its contract: the swept form's bytes are the recipe's exactly if the terms are equal. Assumes nothing.
+-- `sides::match_recipe` meets its contract: the swept form's bytes are the recipe's exactly if the terms are equal. Assumes nothing.
 use native.Mathlib.Omega.{arith}
-use Rattle.rewriting.proofs.Sides.{swept-as, matched-long, matched-yes, matched-no}
+use Rattle.sides.proofs.Sides.{swept-as, matched-long, matched-yes, matched-no}
 use borrow.Author.Needs.{needs}
-use Rattle.rewriting.proofs.match_recipe.Statement.{statement}
-use Rattle.rewriting.proofs.match_recipe.Tie as tie
+use Rattle.sides.proofs.match_recipe.Statement.{statement}
+use Rattle.sides.proofs.match_recipe.Tie as tie
 
 sweep-side-requires : tie.Need-sweep-side-requires
 sweep-side-requires c κs = search needs

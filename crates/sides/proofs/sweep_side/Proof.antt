@@ -1,8 +1,8 @@
--- `rewriting::sweep_side` meets its contract: the entries of the line give the values that fill the pattern. Assumes nothing.
-use Rattle.rewriting.proofs.Sides.{fillable, swept-side-of}
+-- `sides::sweep_side` meets its contract: the entries of the line give the values that fill the pattern. Assumes nothing.
+use Rattle.sides.proofs.Sides.{fillable, swept-side-of}
 use borrow.Author.Needs.{needs}
-use Rattle.rewriting.proofs.sweep_side.Statement.{statement}
-use Rattle.rewriting.proofs.sweep_side.Tie as tie
+use Rattle.sides.proofs.sweep_side.Statement.{statement}
+use Rattle.sides.proofs.sweep_side.Tie as tie
 
 entries-of-requires : tie.Need-entries-of-requires
 entries-of-requires c κs = search needs

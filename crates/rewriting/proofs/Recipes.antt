@@ -1,0 +1,42 @@
+-- What rewrite writes can be rewritten again: it is closed, normal and without variables, so that it passes each of a recipe's rows 4 to 7
+-- but for the length, and passes all if it has at most 96 records. Assumes nothing.
+use mathlib.Core.Path.{_≡_, refl, sym, ap, _∙_}
+use mathlib.Core.Bool.{true}
+use mathlib.Core.List.{List, [], append-nil}
+use Prim.Native.Nat.{ℕ, _*_, _≤_}
+use native.Mathlib.Omega.{arith}
+use lib.ListN.{length, take, drop}
+use lib.Seq.{take-at}
+use Rattle.terms.specs.Figures.{mostSweeps, recipeRecords}
+use Rattle.terms.specs.Table.{encode, goodRecords}
+use Rattle.terms.specs.Refusal.{Passed, normalRows, recipeRows}
+use Rattle.terms.proofs.Table.{encode-length, below-good}
+use Rattle.terms.proofs.Normalization.{first-normal-bare}
+use Rattle.refusals.proofs.Passing.{normal-passed}
+use Rattle.sides.proofs.Sides.{filled-bare}
+use Rattle.rewriting.specs.declared.RewriteAnswer.{RewriteAnswer}
+use Rattle.rewriting.specs.Operations.{WrittenNormal, Rewritten}
+
+module _ (p q r l s o w : List ℕ) (n : ℕ) (after : List ℕ) (x : Rewritten p q r l s o w (RewriteAnswer.Records n) after) where
+  written : WrittenNormal q l s o n after
+  unfolding Rewritten
+  written = x .1
+
+  -- the bytes that are written
+  written-bytes : take (4 * n) after ≡ encode (written .form)
+  written-bytes =
+      ap (take (4 * n)) (written .bytes)
+      ∙ take-at (encode (written .form)) (drop (length (encode (written .form))) o) (4 * n)
+      (omega (arith, written .records, encode-length (written .form)))
+
+  -- document 02: "Planners chain rules", and the next rule doesn't turn it down with 7, nor with 5 or 6
+  pub rewritten-normal : (most : ℕ) → n ≤ most → Passed (normalRows most (take (4 * n) after))
+  rewritten-normal most h =
+      let b = filled-bare q l s (written .term) (written .filled) in
+      let c = first-normal-bare mostSweeps 1 (written .term) (written .form) (written .first) (b .0) (b .1) in
+      let g : goodRecords 0 (encode (written .form)) ≡ true =
+      ap (goodRecords 0) (sym (append-nil (encode (written .form)))) ∙ below-good 0 (written .form) [] (c .1) refl in
+      rw written-bytes (normal-passed (written .form) most (refl, c .0) (omega (arith, written .records)) g (written .first .normal))
+
+  pub rewritten-recipe : n ≤ recipeRecords → Passed (recipeRows (take (4 * n) after))
+  rewritten-recipe h = rewritten-normal recipeRecords h
