@@ -12,7 +12,7 @@
  * is open) and a value table that the line points into.
  *
  * A negative result is minus a refusal number. The one given is the first whose cause holds, in this order: 8; pattern or left side 1, 2, 3; recipe 4
- * to 7; right side 1, 2, 3; then 9, 10 (list), or 11; 12 on the left side; 14; 12 on the right side; 13.
+ * to 7; right side 1, 2, 3; then 9, 10 (list), or 11; 12 on the left side; 14; 12 on the right side; 15; 13.
  *    1 pattern or right side: length 0, above 128 bytes, or no multiple of 4
  *    2 one of its records is bad          3 it isn't one tree, or a local lacks a binder
  *    4 recipe: length 0, above 384 bytes, or no multiple of 4
@@ -22,9 +22,10 @@
  *    9 list: the full listing has more lines than the line table has room for
  *   10 list: the lines have room, but their values have more records than the value table
  *   11 a variable that occurs has no usable value
- *   12 some part's swept form is above 256 records
- *   13 the output table is shorter than the swept form
+ *   12 some part's swept form is above 256 records; of rewrite's right side in any sweep that is made
+ *   13 the output table is shorter than what is to be written
  *   14 rewrite: the assignment isn't a match of the left side
+ *   15 rewrite: 64 sweeps of the filled right side reach no normal form
  */
 #ifndef ONESTEP_H
 #define ONESTEP_H
@@ -53,7 +54,8 @@ int64_t onestep_check(const uint8_t *pattern, size_t pattern_length, const uint8
 int64_t onestep_sweep(const uint8_t *pattern, size_t pattern_length, const uint8_t *line, size_t line_length, const uint8_t *values,
                       size_t values_length, uint8_t *output, size_t output_length, uint8_t *work, size_t work_length);
 
-/* If the assignment is a match of left and the recipe, writes the swept form of the filled right side, as onestep_sweep does. */
+/* If the assignment is a match of left and the recipe, sweeps the filled right side again and again, at least once, writes the first form that is
+ * normal, and gives its number of records; bytes behind it stay. With at most 96 records it is a recipe: it can be lent to onestep_list. */
 int64_t onestep_rewrite(const uint8_t *left, size_t left_length, const uint8_t *right, size_t right_length, const uint8_t *recipe,
                         size_t recipe_length, const uint8_t *line, size_t line_length, const uint8_t *values, size_t values_length,
                         uint8_t *output, size_t output_length, uint8_t *work, size_t work_length);

@@ -2,6 +2,7 @@
  *
  *   stack list PATTERN RECIPE     lists with full tables
  *   stack sweep N                 sweeps N nested abstractions
+ *   stack rewrite RIGHT VALUE..   rewrites a recipe that is a constant; the values are those of the first variables
  *
  * Prints the bytes of stack used, the thread's own start included, and the answer: `matches`, `records` or `refused`, and its number. A call that takes over
  * two seconds is ended with status 3; status 2 says that nothing was called. */
@@ -17,8 +18,9 @@
 
 enum { STACK = 4 << 20, MARK = 0xA5, NOT_CALLED = 2, NO_ANSWER = 3 };
 
-static uint8_t first[512], second[512], lines[ONESTEP_TABLE], values[ONESTEP_TABLE], work[ONESTEP_TABLE];
-static size_t first_length, second_length;
+static const uint8_t constant[4] = {3, 0, 0, 1};
+static uint8_t first[1024], second[1024], lines[ONESTEP_TABLE], values[ONESTEP_TABLE], output[1024], work[ONESTEP_TABLE];
+static size_t first_length, second_length, values_length;
 static int64_t answer;
 
 static size_t read_table(const char *path, uint8_t *table) {
@@ -27,9 +29,17 @@ static size_t read_table(const char *path, uint8_t *table) {
         perror(path);
         exit(NOT_CALLED);
     }
-    size_t length = fread(table, 1, 512, file);
+    size_t length = fread(table, 1, 1024, file);
     fclose(file);
     return length;
+}
+
+/* Puts a value behind the others, and its first record and count into the line. */
+static void add_value(const char *path, size_t variable) {
+    size_t length = read_table(path, values + values_length), record = values_length / 4, count = length / 4;
+    const uint8_t entry[4] = {record >> 8, record, count >> 8, count};
+    memcpy(lines + 4 * variable, entry, sizeof entry);
+    values_length += length;
 }
 
 static void *list(void *unused) {
@@ -40,7 +50,14 @@ static void *list(void *unused) {
 
 static void *sweep(void *unused) {
     (void)unused;
-    answer = onestep_sweep(first, first_length, lines, ONESTEP_LINE, values, 0, second, sizeof second, work, ONESTEP_TABLE);
+    answer = onestep_sweep(first, first_length, lines, ONESTEP_LINE, values, 0, output, sizeof output, work, ONESTEP_TABLE);
+    return NULL;
+}
+
+static void *rewrite(void *unused) {
+    (void)unused;
+    answer = onestep_rewrite(constant, sizeof constant, first, first_length, constant, sizeof constant, lines, ONESTEP_LINE, values, values_length, output,
+                             sizeof output, work, ONESTEP_TABLE);
     return NULL;
 }
 
@@ -51,12 +68,19 @@ static void give_up(int unused) {
 
 int main(int count, char **words) {
     if (count < 3) return NOT_CALLED;
-    int is_list = strcmp(words[1], "list") == 0;
-    if (is_list) {
+    void *(*call)(void *);
+    if (strcmp(words[1], "list") == 0) {
         if (count < 4) return NOT_CALLED;
+        call = list;
         first_length = read_table(words[2], first);
         second_length = read_table(words[3], second);
+    } else if (strcmp(words[1], "rewrite") == 0) {
+        if (count > 3 + ONESTEP_LINE / 4) return NOT_CALLED;
+        call = rewrite;
+        first_length = read_table(words[2], first);
+        for (int i = 3; i < count; i++) add_value(words[i], i - 3);
     } else {
+        call = sweep;
         size_t depth = strtoul(words[2], NULL, 10);
         for (size_t i = 0; i < depth; i++) first[4 * i] = 1;
         first[4 * depth] = 2;
@@ -71,10 +95,10 @@ int main(int count, char **words) {
     pthread_attr_setstack(&attributes, stack, STACK);
     signal(SIGALRM, give_up);
     alarm(2);
-    if (pthread_create(&thread, &attributes, is_list ? list : sweep, NULL) != 0) return NOT_CALLED;
+    if (pthread_create(&thread, &attributes, call, NULL) != 0) return NOT_CALLED;
     pthread_join(thread, NULL);
     size_t at = 0;
     while (at < STACK && stack[at] == MARK) at++;
-    printf("%zu %s %lld\n", STACK - at, answer < 0 ? "refused" : is_list ? "matches" : "records", (long long)(answer < 0 ? -answer : answer));
+    printf("%zu %s %lld\n", STACK - at, answer < 0 ? "refused" : call == list ? "matches" : "records", (long long)(answer < 0 ? -answer : answer));
     return 0;
 }

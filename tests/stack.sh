@@ -1,5 +1,6 @@
 #!/bin/sh
-# Measures the stack that calls of the library take: every case of the benchmark that ends within two seconds, and the deepest sweep.
+# Measures the stack that calls of the library take: every case of the benchmark that ends within two seconds, the deepest sweep, and the deepest that a
+# rewrite repeats.
 #
 #   tests/stack.sh [path of the static library]
 #
@@ -38,3 +39,29 @@ sort -n "$build/all" | tail -3
 count() { grep -c "$1" "$build/all" || true; }
 echo "cases: $(count .), refused for want of room: $(count ', refused'), without an answer: $(count ', no answer')"
 measure 'sweep of 31 nested abstractions' 'records 32' sweep 31
+
+# copies N WORDS: the words, N times.
+copies() {
+    i=0
+    while [ "$i" -lt "$1" ]; do printf '%s ' "$2" && i=$((i + 1)); done
+}
+# term NAME TEXT: a file of records.
+term() {
+    printf '%s\n' "$2" >"$build/text"
+    "$here/../examples/records.sh" "$build/text" >"$build/$1"
+}
+# sweep_again NAME N BEFORE LOCAL BEHIND: a rewrite whose first swept form has 256 records, and in the midst of them a redex, so that all are swept again.
+# Each of the two values puts its argument, LOCAL, between N copies of BEFORE and of BEHIND.
+sweep_again() {
+    term right '@ p0 @ p1 \ k2'
+    term value_0 "\\ $(copies "$2" "$3") $4 $(copies "$2" "$5")"
+    term value_1 "\\ $(copies "$2" "$3") @ $4 k1 $(copies "$2" "$5")"
+    measure "rewrite that sweeps $((2 * $2)) nested $1 again" 'records 253' rewrite "$build/right" "$build/value_0" "$build/value_1"
+}
+{
+    sweep_again abstractions 126 '\' '#126' ''
+    sweep_again heads 63 '@' '#0' 'k1'
+    sweep_again arguments 63 '@ k1' '#0' ''
+    sweep_again 'abstractions and arguments' 42 '\ @ k1' '#42' ''
+} >"$build/again"
+sort -n "$build/again" | tail -1

@@ -61,6 +61,7 @@ fn main() {
     print_noise("before");
     let mut all_right = families::print(&cases, arguments.limit);
     all_right &= operations::print(&cases);
+    all_right &= operations::print_by_sweeps();
     all_right &= growth::print_by_records(arguments.limit);
     all_right &= growth::print_by_lines(arguments.limit);
     all_right &= growth::print_long_listings(arguments.limit);

@@ -1,4 +1,4 @@
-//! Check, sweep and rewrite on the first line of each case that has one, against document 01's sweep in plain Rust.
+//! Check, sweep and rewrite on the first line of each case that has one, against document 01's sweep in plain Rust; and rewrites that take many sweeps.
 
 use crate::cases::Case;
 use crate::library::{self, Tables, Work, LINE, TABLE};
@@ -101,4 +101,66 @@ fn plain_sweep(pattern: &[u8], line: &[u8], values: &[u8]) -> Vec<u8> {
         Some(&values[first..first + count])
     });
     bytes_of(&sweep(&pattern, &filled))
+}
+
+/// Numbers of sweeps that rewrites take; 64 is the most that is allowed.
+const SWEEPS: [usize; 5] = [1, 2, 4, 16, 64];
+
+/// Prints how long rewrites take that need several sweeps; yes if each wrote its normal form.
+pub fn print_by_sweeps() -> bool {
+    println!("\n## Rewrite, by the sweeps that it takes\n");
+    println!("`@ p0 p1` for the right side, where p0 and p1 are `\\ @ #0` repeated, about `k1`: each sweep takes one such step off. Median µs per call; the");
+    println!("ratio is: the same sweeps in plain Rust, to the library's rewrite.\n");
+    println!("{:<8} {:>9} {:>12} {:>12}", "sweeps", "records", "rewrite µs", "ratio");
+    SWEEPS.iter().fold(true, |all_right, &sweeps| measure_sweeps(sweeps) && all_right)
+}
+
+/// `\ @ #0` so many times, and then `k1`.
+fn steps(count: usize) -> Vec<Record> {
+    let mut term = [record(ABSTRACTION, 0), record(APPLICATION, 0), record(LOCAL, 0)].repeat(count);
+    term.push(record(CONSTANT, 1));
+    term
+}
+
+/// One row of the table; no, and a message, where the answer is wrong.
+fn measure_sweeps(sweeps: usize) -> bool {
+    // the left side drops its arguments, so that any values are a match
+    let (left, right, recipe) = (bytes_of(&parse("@ @ \\ \\ k1 p0 p1")), bytes_of(&parse("@ p0 p1")), bytes_of(&parse("k1")));
+    let (first, second) = (steps(sweeps.div_ceil(2)), steps(sweeps / 2));
+    let mut filled = Listing::new();
+    filled.keep(&std::array::from_fn(|variable| [Some(&first[..]), Some(&second[..])].get(variable).copied().flatten()));
+    let mut tables = Tables::new();
+    filled.lay_out(&mut tables);
+    let (line, values) = (tables.lines[..LINE].to_vec(), tables.values[..4 * filled.records()].to_vec());
+    let records = 1 + filled.records();
+
+    let (mut work, mut output) = (Work::new(), vec![0; TABLE]);
+    let normal = bytes_of(&parse("@ k1 k1"));
+    let (written, time) = once(|| library::rewrite(&left, &right, &recipe, &line, &values, &mut output, &mut work));
+    let (plain, made) = plain_rewrite(&right, &line, &values);
+    if written != 3 || output[..12] != normal[..] || plain != normal || made != sweeps {
+        println!("{sweeps} sweeps: rewrite {written}, plain Rust made {made}: WRONG");
+        return false;
+    }
+    let times = in_turns(vec![
+        Timed::new(time, || {
+            library::rewrite(&left, &right, &recipe, &line, &values, &mut output, &mut work);
+        }),
+        Timed::new(time, || {
+            black_box(plain_rewrite(&right, &line, &values));
+        }),
+    ]);
+    println!("{sweeps:<8} {records:>9} {:>12.2} {:>12.2}", times[0].median, times[1].median / times[0].median);
+    true
+}
+
+/// The right side swept until normal, and how many sweeps that took.
+fn plain_rewrite(right: &[u8], line: &[u8], values: &[u8]) -> (Vec<u8>, usize) {
+    let mut form = records_of(&plain_sweep(right, line, values));
+    let mut sweeps = 1;
+    while !is_normal(&form) {
+        form = sweep(&form, &[None; VARIABLES]);
+        sweeps += 1;
+    }
+    (bytes_of(&form), sweeps)
 }

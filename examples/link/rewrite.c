@@ -35,6 +35,7 @@ static const char *const causes[] = {
     "a swept form is above 256 records",
     "the output table is too short",
     "the line is not a match of the left side",
+    "64 sweeps of the right side reach no normal form",
 };
 
 static int read_term(struct term *term, const char *folder, const char *name) {

@@ -2,11 +2,12 @@
 
 use crate::damage::damage;
 use crate::lister::{self, Line};
-use crate::operations::{Call, Operation};
+use crate::operations::{sweep_until_normal, Call, Operation};
 use crate::random::Random;
-use crate::sweep::{sweep, MOST_SWEPT_RECORDS};
+use crate::sweep::{sweep, MOST_SWEEPS, MOST_SWEPT_RECORDS};
 use crate::tables::*;
 use crate::terms::{abstraction, application, Term, Term::*, VARIABLES};
+use std::iter::successors;
 
 /// The constants and variables that one call draws from: few, so that equal ones are common.
 struct Palette {
@@ -362,7 +363,9 @@ fn assignment_call(random: &mut Random, operation: Operation) -> Call {
     }
     let terms: Vec<&Term> = if operation == Operation::Rewrite { vec![&left, &right] } else { vec![&left] };
     let mut line = assign(random, &terms, &palette);
-    if random.chance(25) {
+    if operation == Operation::Rewrite && random.chance(15) {
+        add_sweeps(random, &mut left, &mut right, &mut line, &palette);
+    } else if random.chance(25) {
         let near = if operation == Operation::Rewrite && random.chance(60) { &mut right } else { &mut left };
         grow(random, near, &mut line, &palette);
     }
@@ -397,13 +400,12 @@ fn assignment_call(random: &mut Random, operation: Operation) -> Call {
             }
         });
     }
-    let written = if operation == Operation::Rewrite { &right } else { &left };
-    let output = if operation == Operation::Check {
-        Vec::new()
-    } else {
-        let length = output_length(random, sweep(&written.fill(&line), 1 << 16));
-        random.bytes(length)
+    let length = match operation {
+        Operation::Sweep => output_length(random, sweep(&left.fill(&line), 1 << 16)),
+        Operation::Rewrite => output_length(random, sweep_until_normal(&right, &line).ok().map(|(normal, _)| normal)),
+        _ => 0,
     };
+    let output = random.bytes(length);
     let (lines, values) = place(random, &line);
     let is_rewrite = operation == Operation::Rewrite;
     Call {
@@ -415,6 +417,90 @@ fn assignment_call(random: &mut Random, operation: Operation) -> Call {
         values,
         output,
         work: work_area(random),
+    }
+}
+
+/// Puts a part into the right side that takes several sweeps: a value applied to another, each as it is or as the value of a variable, of one variable if
+/// they are equal. The left side may throw these values away.
+fn add_sweeps(random: &mut Random, left: &mut Term, right: &mut Term, line: &mut Line, palette: &Palette) {
+    let (head, argument) = slow_pair(random, palette);
+    let mut unused: Vec<usize> = (0..VARIABLES).filter(|variable| line[*variable].is_none()).collect();
+    let mut side = |random: &mut Random, value: &Term| {
+        if unused.is_empty() || (value.size() < 10 && random.chance(50)) {
+            return value.clone();
+        }
+        let variable = unused.swap_remove(random.below(unused.len()));
+        line[variable] = Some(value.clone());
+        if random.chance(30) {
+            *left = application(abstraction(left.shift(1, 0)), Variable(variable));
+        }
+        Variable(variable)
+    };
+    let head_side = side(random, &head);
+    let argument_side = if head == argument && random.chance(50) { head_side.clone() } else { side(random, &argument) };
+    let slow = application(head_side, argument_side);
+    let other = right.clone();
+    *right = match random.below(10) {
+        0 => application(slow, other),
+        1 => application(application(constant(random, palette), other), slow),
+        2 => application(abstraction(constant(random, palette)), slow),
+        3 => abstraction(slow),
+        4 => application(abstraction(application(Local(0), other.shift(1, 0))), slow),
+        // Behind two values of such sizes that the longest of the swept forms has about 256 records.
+        5..=6 => {
+            let next = |form: &Term| sweep(form, MOST_SWEPT_RECORDS);
+            let forms = successors(next(&application(head, argument)), next).take(MOST_SWEEPS);
+            let longest = forms.map(|form| form.size()).max().unwrap_or(0);
+            let room = (MOST_SWEPT_RECORDS + random.below(3)).saturating_sub(longest + 3);
+            let [first, second] = [room / 2, room - room / 2].map(|size| {
+                let value = normal_term(random, size.max(3), 0, true, palette);
+                side(random, &value)
+            });
+            application(application(first, second), slow)
+        }
+        _ => slow,
+    };
+}
+
+/// A head and an argument, both values, whose application takes several sweeps, or never gets normal.
+fn slow_pair(random: &mut Random, palette: &Palette) -> (Term, Term) {
+    // In the form of a head it may stand anywhere.
+    let size = random.pick(&[1, 1, 1, 3, 4, 5, 8, 20, 50]);
+    let rest = normal_term(random, size, 0, true, palette);
+    match random.below(3) {
+        // `\ @ #0` again and again: a sweep takes the first one off the head, and head and argument change places. So with m of them in the head and n in
+        // the argument there are 2m sweeps, or 2n + 1 if m is above n.
+        0 => {
+            let least = match random.below(3) {
+                0 => random.between(1, 4),
+                1 => random.between(5, 30),
+                _ => random.between(MOST_SWEEPS / 2 - 1, MOST_SWEEPS / 2),
+            };
+            let chain = |links: usize| (0..links).fold(rest.clone(), |chain, _| abstraction(application(Local(0), chain)));
+            (chain(least + random.below(3)), chain(least + random.below(3)))
+        }
+        // A local applied to itself: each sweep gives the application again, alone or beside the rest or below an abstraction. There is no normal form.
+        1 => {
+            let twice = application(Local(0), Local(0));
+            let value = abstraction(match random.below(5) {
+                0 => twice,
+                1 => application(twice, Local(0)),
+                2 => application(twice, rest),
+                3 => application(rest, twice),
+                _ => abstraction(twice.shift(1, 0)),
+            });
+            (value.clone(), value)
+        }
+        // A numeral applied to another, which gives a power.
+        _ => {
+            let numeral = |times: usize| {
+                let body = (0..times).fold(Local(0), |body, _| application(Local(1), body));
+                abstraction(abstraction(body))
+            };
+            // Not 1, which is no value: it holds an abstraction over `#1 #0`.
+            let times = [0, 2, 2, 2, 3, 3, 4, 5];
+            (numeral(random.pick(&times)), numeral(random.pick(&times)))
+        }
     }
 }
 
@@ -455,8 +541,9 @@ fn grow(random: &mut Random, term: &mut Term, line: &mut Line, palette: &Palette
     }
 }
 
-fn output_length(random: &mut Random, swept: Option<Term>) -> usize {
-    let exact = swept.map_or(40, |swept| swept.size()) * RECORD_BYTES;
+/// The length of the output table: exact for what is to be written, one record too few, or any.
+fn output_length(random: &mut Random, written: Option<Term>) -> usize {
+    let exact = written.map_or(40, |written| written.size()) * RECORD_BYTES;
     let length = match random.below(12) {
         0..=3 => exact,
         4 => exact - RECORD_BYTES,

@@ -1,4 +1,5 @@
-//! Calls at the limits of document 01: as long as a table may be, and one longer; the most lines; the longest target and the longest value.
+//! Calls at the limits of documents 01 and 02: as long as a table may be, and one longer; the most lines; the longest target and the longest value; the
+//! most sweeps, and the longest swept form of each.
 
 use crate::compare::{compare, describe};
 use crate::lister::Line;
@@ -35,6 +36,33 @@ pub fn run() -> Result<usize, String> {
         // The same, thrown away.
         (sweep(&thrown_away(&application(p0.clone(), Variable(1))), &[copies(76), abstractions(101, &k1)]), 1),
         (sweep(&thrown_away(&application(p0.clone(), Variable(1))), &[copies(76), abstractions(102, &k1)]), -12),
+        // Two sweeps, for case 10 goes on to `k0`; 64 and 65; a form that sweeps to itself and isn't normal.
+        (rewrite(r"@ \ @ #0 k0 \ #0", &[]), 1),
+        (rewrite("@ p0 p1", &chains(32, 32)), 3),
+        (rewrite("@ p0 p1", &chains(33, 32)), -15),
+        (rewrite(r"@ \ @ #0 #0 \ @ #0 #0", &[]), -15),
+        // A first swept form of 256 records and one of 257: normal, and `@ \ @ k5 k5 @ p0 p1`, which the second sweep makes short.
+        (rewrite("@ p0 p1", &[copies(76), abstractions(101, &k1)]), 256),
+        (rewrite("@ p0 p1", &[copies(76), abstractions(102, &k1)]), -12),
+        (rewrite(r"@ \ @ #0 @ p0 p1 \ @ k5 k5", &[copies(76), abstractions(96, &k1)]), 3),
+        (rewrite(r"@ \ @ #0 @ p0 p1 \ @ k5 k5", &[copies(76), abstractions(97, &k1)]), -12),
+        // A second one of 256 records and one of 257, written and thrown away.
+        (rewrite("@ p0 p1", &doubling(1)), 256),
+        (rewrite("@ p0 p1", &doubling(2)), -12),
+        (rewrite(r"@ \ @ #0 @ p0 p1 \ k5", &doubling(1)), 1),
+        (rewrite(r"@ \ @ #0 @ p0 p1 \ k5", &doubling(2)), -12),
+        // A 64th one of 256 records and one of 257: `@ p1 p1` has 15, and each sweep adds 3, behind a value of 48 or 49.
+        (rewrite("@ p0 @ p1 p1", &[application(Constant(0), abstractions(45, &k1)), Term::from_text(r"\ @ @ #0 #0 \ k1")]), -15),
+        (rewrite("@ p0 @ p1 p1", &[application(Constant(0), abstractions(46, &k1)), Term::from_text(r"\ @ @ #0 #0 \ k1")]), -12),
+        // Room for what is written but not for the forms before it, and for one record less. No room at all comes behind 12 and 15.
+        (with_output(3, rewrite("@ p0 p1", &chains(32, 32))), 3),
+        (with_output(2, rewrite("@ p0 p1", &chains(32, 32))), -13),
+        (with_output(3, rewrite(r"@ \ @ #0 @ p0 p1 \ @ k5 k5", &[copies(76), abstractions(96, &k1)])), 3),
+        (with_output(2, rewrite(r"@ \ @ #0 @ p0 p1 \ @ k5 k5", &[copies(76), abstractions(96, &k1)])), -13),
+        (with_output(256, rewrite("@ p0 p1", &doubling(1))), 256),
+        (with_output(255, rewrite("@ p0 p1", &doubling(1))), -13),
+        (with_output(0, rewrite("@ p0 p1", &doubling(2))), -12),
+        (with_output(0, rewrite("@ p0 p1", &chains(33, 32))), -15),
     ];
     let count = calls.len();
     for (call, answer) in calls {
@@ -83,6 +111,18 @@ fn thrown_away(term: &Term) -> Term {
     application(abstraction(Constant(5)), term.clone())
 }
 
+/// Two values, each so many times `\ @ #0` and then `k1`. A sweep of the first applied to the second takes one `\ @ #0` off the head, and head and
+/// argument change places. So there are 2m sweeps, or 2n + 1 if m is above n.
+fn chains(m: usize, n: usize) -> [Term; 2] {
+    [m, n].map(|links| (0..links).fold(Constant(1), |chain, _| abstraction(application(Local(0), chain))))
+}
+
+/// Two values. The first applied to the second sweeps to the second applied to A, which has 127 records, and that to `@ A A` below so many abstractions.
+fn doubling(binders: usize) -> [Term; 2] {
+    let twice = application(Local(binders), Local(binders));
+    [abstraction(application(Local(0), copies(63))), abstractions(binders + 1, &twice)]
+}
+
 fn list(pattern: &Term, recipe: &Term) -> Call {
     Call {
         operation: Operation::List,
@@ -98,6 +138,16 @@ fn list(pattern: &Term, recipe: &Term) -> Call {
 
 fn with_lines(count: usize, call: Call) -> Call {
     Call { lines: vec![9; count * LINE_BYTES], ..call }
+}
+
+fn with_output(records: usize, call: Call) -> Call {
+    Call { output: vec![9; records * RECORD_BYTES], ..call }
+}
+
+/// A rewrite with these values for the first variables, of a left side that has none and so is a match.
+fn rewrite(right: &str, values: &[Term]) -> Call {
+    let left = Constant(1);
+    Call { operation: Operation::Rewrite, right: encode(&Term::from_text(right)), recipe: encode(&left), ..sweep(&left, values) }
 }
 
 /// A sweep with these values for the first variables.

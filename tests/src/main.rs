@@ -1,11 +1,11 @@
-//! Compares the static library with an independent implementation of document 01, written without its code, on random calls of all four
+//! Compares the static library with an independent implementation of documents 01 and 02, written without its code, on random calls of all four
 //! operations from a fixed seed: the answer and every byte of every lent table.
 //!
 //! - terms, sweep, lister: terms as trees, the sweep, and the plain lister (the equations of one-step matching, all subsets, no pruning)
-//! - tables, operations: bytes and their validity, and the four operations with the refusals in the document's order
+//! - tables, operations: bytes and their validity, and the four operations with the refusals in the documents' order
 //! - library, compare: the C interface, and one call of it compared
 //! - random, generate, damage: random numbers, random calls, and damage to them
-//! - cases, limits: fixed calls, the cases 1 to 11 of the document and the limits
+//! - cases, limits: fixed calls, the cases 1 to 11 of document 01 and the limits
 //! - definition: listings set against the definition of a full listing, by enumerating small values: one in four of those compared, and those that the
 //!   plain lister is too slow for
 //!
@@ -66,6 +66,10 @@ fn options() -> Options {
 
 const OPERATIONS: [Operation; 4] = [Operation::List, Operation::Check, Operation::Sweep, Operation::Rewrite];
 
+/// The rows of what was written, by how many sweeps gave it: from this number on, up to the next row's.
+const SWEEPS: [(usize, &str); 5] =
+    [(1, "after 1 sweep"), (2, "after 2 sweeps"), (3, "after 3 to 9 sweeps"), (10, "after 10 to 63 sweeps"), (sweep::MOST_SWEEPS, "after 64 sweeps")];
+
 /// Counts of calls, one for each operation.
 type Calls = [u64; 4];
 
@@ -78,6 +82,8 @@ struct Counts {
     calls: Calls,
     /// By what was answered (the number orders the rows), then for each operation.
     answers: BTreeMap<(usize, &'static str), Calls>,
+    /// By the rows of `SWEEPS`.
+    sweeps: [Calls; SWEEPS.len()],
     /// By refusal number.
     refusals: BTreeMap<u8, Calls>,
     /// By refusal number, table and cause.
@@ -205,6 +211,9 @@ fn count(call: &Call, outcome: &Outcome, counts: &mut Counts) {
         _ => (11, "256 records"),
     };
     counts.answers.entry(answer).or_default()[operation] += 1;
+    if let Some(row) = SWEEPS.iter().rposition(|(least, _)| *least <= outcome.sweeps) {
+        counts.sweeps[row][operation] += 1;
+    }
     if call.operation == Operation::List {
         counts.most_lines = counts.most_lines.max(outcome.answer);
         for line in outcome.lines.chunks(tables::LINE_BYTES).take(outcome.answer as usize) {
@@ -224,6 +233,9 @@ fn report(counts: &Counts) {
     for ((_, answer), calls) in &counts.answers {
         row(answer, calls);
     }
+    for ((_, sweeps), calls) in SWEEPS.iter().zip(&counts.sweeps) {
+        row(sweeps, calls);
+    }
     for (number, calls) in &counts.refusals {
         row(&format!("refused {number}"), calls);
         for ((_, table, cause), calls) in counts.causes.iter().filter(|((of, ..), _)| of == number) {
@@ -241,18 +253,30 @@ fn report(counts: &Counts) {
     );
 }
 
-/// In a long run every refusal number of every operation must have come up.
+/// In a long run every refusal number of every operation must have come up, and rewrites of every row of `SWEEPS`, and 12 on a later sweep than the first.
 fn check_coverage(compared: u64, counts: &Counts) {
     if compared < 100_000 {
         return;
     }
-    let numbers: [&[u8]; 4] =
-        [&[1, 2, 3, 4, 5, 6, 7, 8, 9, 10], &[1, 2, 3, 4, 5, 6, 7, 8, 11, 12], &[1, 2, 3, 8, 11, 12, 13], &[1, 2, 3, 4, 5, 6, 7, 8, 11, 12, 13, 14]];
+    let numbers: [&[u8]; 4] = [
+        &[1, 2, 3, 4, 5, 6, 7, 8, 9, 10],
+        &[1, 2, 3, 4, 5, 6, 7, 8, 11, 12],
+        &[1, 2, 3, 8, 11, 12, 13],
+        &[1, 2, 3, 4, 5, 6, 7, 8, 11, 12, 13, 14, 15],
+    ];
     for (operation, numbers) in OPERATIONS.iter().zip(numbers) {
         for number in numbers {
             if counts.refusals.get(number).map_or(0, |calls| calls[*operation as usize]) == 0 {
                 fail("in the coverage", &format!("no {operation:?} was refused with {number}"));
             }
         }
+    }
+    for ((_, sweeps), calls) in SWEEPS.iter().zip(&counts.sweeps) {
+        if calls[Operation::Rewrite as usize] == 0 {
+            fail("in the coverage", &format!("no Rewrite was written {sweeps}"));
+        }
+    }
+    if !counts.causes.contains_key(&(12, "right", operations::LATER_SWEEP)) {
+        fail("in the coverage", "no Rewrite was refused with 12 on a later sweep than the first");
     }
 }

@@ -1,9 +1,12 @@
-//! The four operations as document 01 describes them: for a call, the answer and every lent table afterwards.
+//! The four operations as documents 01 and 02 describe them: for a call, the answer and every lent table afterwards.
 
 use crate::lister::{self, Line};
-use crate::sweep::{sweep, MOST_SWEPT_RECORDS};
+use crate::sweep::{sweep, MOST_SWEEPS, MOST_SWEPT_RECORDS};
 use crate::tables::*;
 use crate::terms::Term;
+
+/// The cause of refusal 12 where the first sweep of the right side was within the limit.
+pub const LATER_SWEEP: &str = "later sweep above 256";
 
 #[derive(Clone, Copy, PartialEq, Eq, PartialOrd, Ord, Debug)]
 pub enum Operation {
@@ -34,6 +37,8 @@ pub struct Outcome {
     /// A count, 1 or 0 for yes or no, or minus a refusal number.
     pub answer: i64,
     pub refusal: Option<Refusal>,
+    /// How many sweeps gave the form that was written; 0 if none was.
+    pub sweeps: usize,
     pub lines: Vec<u8>,
     pub values: Vec<u8>,
     pub output: Vec<u8>,
@@ -44,7 +49,8 @@ pub enum Answer {
     /// The number of lines, and the bytes of the lines and of the values.
     Listing(usize, Vec<u8>, Vec<u8>),
     Yes(bool),
-    Written(Term),
+    /// What is written, and how many sweeps gave it.
+    Written(Term, usize),
 }
 
 /// Nothing if the plain lister needs more than `most_steps`.
@@ -63,6 +69,7 @@ pub fn outcome_of(call: &Call, answer: Result<Answer, Refusal>) -> Outcome {
     let mut outcome = Outcome {
         answer: 0,
         refusal: None,
+        sweeps: 0,
         lines: call.lines.clone(),
         values: call.values.clone(),
         output: call.output.clone(),
@@ -79,8 +86,9 @@ pub fn outcome_of(call: &Call, answer: Result<Answer, Refusal>) -> Outcome {
             outcome.values[..values.len()].copy_from_slice(&values);
         }
         Ok(Answer::Yes(yes)) => outcome.answer = i64::from(yes),
-        Ok(Answer::Written(term)) => {
+        Ok(Answer::Written(term, sweeps)) => {
             outcome.answer = term.size() as i64;
+            outcome.sweeps = sweeps;
             let bytes = encode(&term);
             outcome.output[..bytes.len()].copy_from_slice(&bytes);
         }
@@ -128,7 +136,7 @@ fn sweep_pattern(call: &Call) -> Result<Answer, Refusal> {
     let pattern = read_pattern(&call.pattern, "pattern")?;
     let values = read_assignment(call, &[&pattern])?;
     let swept = sweep_filled(&pattern, &values, "pattern")?;
-    write(call, swept)
+    write(call, swept, 1)
 }
 
 fn rewrite(call: &Call) -> Result<Answer, Refusal> {
@@ -140,8 +148,8 @@ fn rewrite(call: &Call) -> Result<Answer, Refusal> {
     if sweep_filled(&left, &values, "pattern")? != recipe {
         return refuse(14, "pattern", "no match");
     }
-    let swept = sweep_filled(&right, &values, "right")?;
-    write(call, swept)
+    let (normal, sweeps) = sweep_until_normal(&right, &values)?;
+    write(call, normal, sweeps)
 }
 
 /// Refusal 8.
@@ -185,10 +193,28 @@ fn sweep_filled(term: &Term, values: &Line, table: &'static str) -> Result<Term,
     }
 }
 
+/// Sweeps the filled right side again and again, at least once: the first form that is normal, and how many sweeps gave it. Refusals 12, of each sweep
+/// that is made, and 15.
+pub fn sweep_until_normal(right: &Term, values: &Line) -> Result<(Term, usize), Refusal> {
+    let mut form = sweep_filled(right, values, "right")?;
+    let mut sweeps = 1;
+    while !form.is_normal() {
+        if sweeps == MOST_SWEEPS {
+            return refuse(15, "right", "no normal form");
+        }
+        form = match sweep(&form, MOST_SWEPT_RECORDS) {
+            Some(swept) => swept,
+            None => return refuse(12, "right", LATER_SWEEP),
+        };
+        sweeps += 1;
+    }
+    Ok((form, sweeps))
+}
+
 /// Refusal 13.
-fn write(call: &Call, swept: Term) -> Result<Answer, Refusal> {
-    if swept.size() * RECORD_BYTES > call.output.len() {
+fn write(call: &Call, form: Term, sweeps: usize) -> Result<Answer, Refusal> {
+    if form.size() * RECORD_BYTES > call.output.len() {
         return refuse(13, "output", "too short");
     }
-    Ok(Answer::Written(swept))
+    Ok(Answer::Written(form, sweeps))
 }

@@ -3,6 +3,8 @@
 use crate::terms::{abstraction, application, Term, Term::*};
 
 pub const MOST_SWEPT_RECORDS: usize = 256;
+/// Of the right side of a rewrite (document 02).
+pub const MOST_SWEEPS: usize = 64;
 
 /// The swept form; nothing if the swept form of some part is above `limit` records.
 pub fn sweep(term: &Term, limit: usize) -> Option<Term> {
