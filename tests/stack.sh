@@ -1,6 +1,6 @@
 #!/bin/sh
-# Measures the stack that calls of the library take: every case of the benchmark that ends within two seconds, the deepest sweep, and the deepest that a
-# rewrite repeats.
+# Measures the stack that calls of the library take: every case of the benchmark that ends within two seconds, the deepest sweep, and the deepest swept forms
+# that a rewrite sweeps again.
 #
 #   tests/stack.sh [path of the static library]
 #

@@ -109,8 +109,8 @@ const SWEEPS: [usize; 5] = [1, 2, 4, 16, 64];
 /// Prints how long rewrites take that need several sweeps; yes if each wrote its normal form.
 pub fn print_by_sweeps() -> bool {
     println!("\n## Rewrite, by the sweeps that it takes\n");
-    println!("`@ p0 p1` for the right side, where p0 and p1 are `\\ @ #0` repeated, about `k1`: each sweep takes one such step off. Median µs per call; the");
-    println!("ratio is: the same sweeps in plain Rust, to the library's rewrite.\n");
+    println!("`@ p0 p1` for the right side, where p0 and p1 are `\\ @ #0` repeated, and then `k1`: each sweep takes one such step off. Records are those");
+    println!("of the filled right side, µs the median per call; the ratio is: the same sweeps in plain Rust, to the library's rewrite.\n");
     println!("{:<8} {:>9} {:>12} {:>12}", "sweeps", "records", "rewrite µs", "ratio");
     SWEEPS.iter().fold(true, |all_right, &sweeps| measure_sweeps(sweeps) && all_right)
 }

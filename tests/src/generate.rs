@@ -479,7 +479,8 @@ fn slow_pair(random: &mut Random, palette: &Palette) -> (Term, Term) {
             let chain = |links: usize| (0..links).fold(rest.clone(), |chain, _| abstraction(application(Local(0), chain)));
             (chain(least + random.below(3)), chain(least + random.below(3)))
         }
-        // A local applied to itself: each sweep gives the application again, alone or beside the rest or below an abstraction. There is no normal form.
+        // A local applied to itself, once or twice: each sweep gives the application again, alone, applied on, beside the rest or below an abstraction. There is
+        // no normal form.
         1 => {
             let twice = application(Local(0), Local(0));
             let value = abstraction(match random.below(5) {

@@ -13,7 +13,7 @@ use Rattle.terms.specs.Term.{Term, con, Normal, Occurs}
 use Rattle.terms.specs.Sweep.{sweep, largest}
 use Rattle.terms.proofs.Occurs.{occurs-below}
 use Rattle.terms.proofs.Table.{encode-one, encode-length}
-use Rattle.terms.proofs.Variables.{fill-below, below-sweep, closed-below}
+use Rattle.terms.proofs.Variables.{fill-below, below-sweep, closed-sweep-below}
 use Rattle.terms.proofs.Normalization.{none-normal-more, none-normal-now, first-normal-more, first-normal-now}
 use Rattle.terms.proofs.Normalization.{sweep-long-more, sweep-long-less, sweep-long-first, sweep-long-not}
 use Rattle.records.specs.Parts.{Tree}
@@ -65,7 +65,7 @@ module _ (l s : List ℕ) (a : List Entry) (n : ℕ) (x : Normalizable l n) wher
           let b = stored l q (take (m * 4 - 0) (drop 0 after)) (m * 4) p (omega (arith, z .fills)) (omega (arith, x .room, z .few)) in (
             z .all,
             record {
-              records = omega (arith, z .fills, ap length (z .bytes) ∙ encode-length (sweep t));
+              records = z .records;
               few = omega (arith, z .few);
               within = omega (arith, x .room, z .few, ap length p, length-sets l 0 (take (m * 4 - 0) (drop 0 after)));
               bytes = b ∙ z .bytes;
@@ -83,7 +83,7 @@ module _ (l : List ℕ) (n : ℕ) (r : Length) (q : List ℕ) (w : (t : Term) �
     tree = sweep (x .tree);
     begins = swept-records m p (x .tree) (x .begins) .1;
     room = omega (arith, x .room);
-    closed = closed-below 0 (x .tree) (x .below) (x .closed);
+    closed = closed-sweep-below 0 (x .tree) (x .below) (x .closed);
     below = below-sweep 0 (x .tree) (x .below);
   }
 

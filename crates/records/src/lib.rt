@@ -438,7 +438,7 @@ pub const VALUE_RECORDS: usize = 160;
 pub const SWEPT_RECORDS: usize = 256;
 
 // The most sweeps that are made to reach a normal form.
-pub const SWEEPS: usize = 64;
+pub const MOST_SWEEPS: usize = 64;
 
 // The bytes of a line, which has an entry of a record's length for each variable.
 pub const LINE: usize = RECORD * VARIABLES;

@@ -9,7 +9,7 @@ use Rattle.refusals.specs.declared.Verdict.{Verdict}
 use Rattle.refusals.specs.declared.Refusal.{Refusal}
 use Rattle.refusals.specs.Judged.{number, Judged}
 use Rattle.sides.specs.declared.MatchTest.{MatchTest}
-use Rattle.sides.specs.Filled.{Matched}
+use Rattle.sides.specs.Sides.{Matched}
 use Rattle.rewriting.specs.declared.CheckAnswer.{CheckAnswer}
 use Rattle.rewriting.specs.declared.SweepAnswer.{SweepAnswer}
 use Rattle.rewriting.specs.declared.RewriteAnswer.{RewriteAnswer}

@@ -24,7 +24,7 @@ use Rattle.normalizing.specs.Normalized.{Begins, Normalized}
 use Rattle.refusals.specs.declared.Refusal.{Refusal}
 use Rattle.refusals.specs.Judged.{FilledTables}
 use Rattle.refusals.specs.Lent.{overwritten}
-use Rattle.sides.specs.Filled.{SweptSide, NormalSide}
+use Rattle.sides.specs.Sides.{SweptSide, NormalSide}
 use Rattle.sides.proofs.Sides.{SideForm, swept-passed, too-long}
 use Rattle.rewriting.specs.declared.SweepAnswer.{SweepAnswer}
 use Rattle.rewriting.specs.declared.RewriteAnswer.{RewriteAnswer}
@@ -112,9 +112,9 @@ module _ (p l s : List ℕ) (x : FilledTables p l s) (r : NormalForm) (table : L
     unfolding Normalized
     normal-form = normal-as (NormalForm.Records n) e .1
 
-    normal-passed : Passed (normalFormRows (Filled p l s) 1)
+    form-passed : Passed (normalFormRows (Filled p l s) 1)
     unfolding Normalized
-    normal-passed = (
+    form-passed = (
       none-long (normal-as (NormalForm.Records n) e .0),
       (
         λ c. first-normal-reached mostSweeps 1 (x .term) (normal-form .0) (normal-form .1)
@@ -133,7 +133,7 @@ module _ (p l s : List ℕ) (x : FilledTables p l s) (r : NormalForm) (table : L
       unfolding SideNormalized
       normal-put-short h =
           let z = left-short (take (n * 4 - 0) (drop 0 table)) o b after v (normal-form .0) (normal-form .2 .bytes) h in (
-            refused-later (normalFormRows (Filled p l s) 1) (normalOutputRows (Filled p l s) 1 o) 13 normal-passed
+            refused-later (normalFormRows (Filled p l s) 1) (normalOutputRows (Filled p l s) 1 o) 13 form-passed
                 (inl ((x .term, normal-form .0, x .filled, normal-form .1, z .0), refl)),
             z .1,
           )
@@ -142,7 +142,7 @@ module _ (p l s : List ℕ) (x : FilledTables p l s) (r : NormalForm) (table : L
       unfolding SideNormalized
       normal-put-done h =
           let z = written-room (take (n * 4 - 0) (drop 0 table)) o b after v (normal-form .0) (normal-form .2 .bytes) h in (
-            passed-both (normalFormRows (Filled p l s) 1) (normalOutputRows (Filled p l s) 1 o) normal-passed
+            passed-both (normalFormRows (Filled p l s) 1) (normalOutputRows (Filled p l s) 1 o) form-passed
                 (λ c. omega (arith, z .0, ap size (form-one (c .0) (c .1) (c .2) (c .3)), c .4), tt),
             record {
               term = x .term;

@@ -11,9 +11,9 @@ use Rattle.terms.specs.Figures.{mostSweeps, recipeRecords}
 use Rattle.terms.specs.Table.{encode, goodRecords}
 use Rattle.terms.specs.Refusal.{Passed, normalRows, recipeRows}
 use Rattle.terms.proofs.Table.{encode-length, below-good}
-use Rattle.terms.proofs.Normalization.{first-normal-bare}
+use Rattle.terms.proofs.Normalization.{first-normal-closed-below}
 use Rattle.refusals.proofs.Passing.{normal-passed}
-use Rattle.sides.proofs.Sides.{filled-bare}
+use Rattle.sides.proofs.Sides.{filled-closed-below}
 use Rattle.rewriting.specs.declared.RewriteAnswer.{RewriteAnswer}
 use Rattle.rewriting.specs.Operations.{WrittenNormal, Rewritten}
 
@@ -32,8 +32,8 @@ module _ (p q r l s o w : List ℕ) (n : ℕ) (after : List ℕ) (x : Rewritten 
   -- document 02: "Planners chain rules", and the next rule doesn't turn it down with 7, nor with 5 or 6
   pub rewritten-normal : (most : ℕ) → n ≤ most → Passed (normalRows most (take (4 * n) after))
   rewritten-normal most h =
-      let b = filled-bare q l s (written .term) (written .filled) in
-      let c = first-normal-bare mostSweeps 1 (written .term) (written .form) (written .first) (b .0) (b .1) in
+      let b = filled-closed-below q l s (written .term) (written .filled) in
+      let c = first-normal-closed-below mostSweeps 1 (written .term) (written .form) (written .first) (b .0) (b .1) in
       let g : goodRecords 0 (encode (written .form)) ≡ true =
       ap (goodRecords 0) (sym (append-nil (encode (written .form)))) ∙ below-good 0 (written .form) [] (c .1) refl in
       rw written-bytes (normal-passed (written .form) most (refl, c .0) (omega (arith, written .records)) g (written .first .normal))

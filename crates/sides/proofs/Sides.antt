@@ -15,8 +15,8 @@ use Rattle.terms.specs.Sweep.{sweep, largest}
 use Rattle.terms.specs.Refusal.{Refused, Passed, Filled, Matches, sweptFormRows}
 use Rattle.terms.proofs.Occurs.{occurs-below}
 use Rattle.terms.proofs.Refusal.{filled-one}
-use Rattle.terms.proofs.Table.{encode-one, encode-length}
-use Rattle.terms.proofs.Variables.{below-fill, closed-fill, below-sweep, closed-below}
+use Rattle.terms.proofs.Table.{encode-one}
+use Rattle.terms.proofs.Variables.{below-fill, closed-fill, below-sweep, closed-sweep-below}
 use Rattle.terms.proofs.Normalization.{sweep-long-first}
 use Rattle.records.specs.Checks.{Recipe}
 use Rattle.assignments.specs.declared.Entry.{Entry}
@@ -32,7 +32,7 @@ use Rattle.normalizing.specs.Normalized.{Begins, Normalizable, Normalized}
 use Rattle.normalizing.proofs.Sweeps.{normalized-more}
 use Rattle.refusals.specs.Judged.{FilledTables}
 use Rattle.sides.specs.declared.MatchTest.{MatchTest}
-use Rattle.sides.specs.Filled.{SweptSide, Matched, NormalSide}
+use Rattle.sides.specs.Sides.{SweptSide, Matched, NormalSide}
 
 -- the entries of the line give the values that fill the pattern
 module _ (p l s : List ℕ) (a : List Entry) (r : Read l a variables) (x : FilledTables p l s) where
@@ -66,11 +66,10 @@ module _ (p l s out : List ℕ) (r : Length) (after : List ℕ) (x : FilledTable
   pub swept-as : (n : ℕ) → length out ≡ 4 * sweptRecords → r ≡ Records n → SideForm p l s n after
   swept-as n h e =
       let q = swept-table (x .term) out after r n (w (x .term) (x .filled)) e h in
-      let m = ap length (q .bytes) ∙ encode-length (sweep (x .term)) in
       record {
         term = x .term;
         filled = x .filled;
-        records = omega (arith, q .fills, m);
+        records = q .records;
         all = q .all;
         few = q .few;
         within = q .within;
@@ -112,8 +111,8 @@ module _ (p l s : List ℕ) (n : ℕ) (after : List ℕ) (x : SideForm p l s n a
   matched-no t c q z = (swept-passed p l s n after x, matches-not p l s n after x t (subst (Same (take (n * 4 - 0) (drop 0 after)) t) z q))
 
 -- a filled side is a closed term without variables
-pub filled-bare : (p l s : List ℕ) (t : Term) → Filled p l s t → Closed 0 t × Below 0 t
-filled-bare p l s t f =
+pub filled-closed-below : (p l s : List ℕ) (t : Term) → Filled p l s t → Closed 0 t × Below 0 t
+filled-closed-below p l s t f =
     rw (f .is) (
       closed-fill (f .φ) 0 (f .term) (λ i o. f .stored i o .value .0) (f .table .1),
       below-fill (f .φ) (f .term) (λ i o. f .stored i o .value .2),
@@ -140,12 +139,12 @@ module _ (p l s out : List ℕ) (r : Length) (after : List ℕ) (x : FilledTable
     pub normal-start : Normalizable after n
     normal-start =
         let y = swept-as p l s out r after x w n same-room e in
-        let b = filled-bare p l s (y .term) (y .filled) in
+        let b = filled-closed-below p l s (y .term) (y .filled) in
         record {
           tree = sweep (y .term);
           begins = first-form y;
           room = omega (arith, h);
-          closed = closed-below 0 (y .term) (b .1) (b .0);
+          closed = closed-sweep-below 0 (y .term) (b .1) (b .0);
           below = below-sweep 0 (y .term) (b .1);
         }
 

@@ -5,18 +5,18 @@
 // the first sweep, on `normalizing` for those behind it, on `assignments` to read the line, and on `refusals` for what the verdicts said of
 // the tables.
 //
-// Forms are made in a local table of 256 records. Further tables are on the stack: of each level of application in what is swept two of
-// 1,024 bytes, of each abstraction one. The levels are those of a side at the first sweep, at most 31, and those of a swept form at the
-// others, at most 255.
+// A form is made in a table of 256 records, which the caller lends or `match_recipe` has. The sweep has further ones on the stack: for each
+// level of application in what is swept two of 1,024 bytes, for each abstraction one. The levels are those of a side at the first sweep, at
+// most 31, and those of a swept form at the others, at most 255; `tests/stack.sh` measures what that takes.
 
 use normalizing::NormalForm;
+use records::MOST_SWEEPS;
 use records::RECORD;
-use records::SWEEPS;
 use sweeping::Length;
 use sweeping::SWEPT_BYTES;
 ghost use Rattle.records.specs.Checks.{Recipe};
 ghost use Rattle.refusals.specs.Judged.{FilledTables};
-ghost use Rattle.sides.specs.Filled.{SweptSide, Matched, NormalSide};
+ghost use Rattle.sides.specs.Sides.{SweptSide, Matched, NormalSide};
 
 // Whether a filled pattern sweeps to the recipe.
 pub enum MatchTest {
@@ -64,5 +64,5 @@ pub fn normalize_side(
     let Length::Records(n) = length else {
         return NormalForm::TooLong;
     };
-    normalizing::normalize(out, n, SWEEPS - 1)
+    normalizing::normalize(out, n, MOST_SWEEPS - 1)
 }

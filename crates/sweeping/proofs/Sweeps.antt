@@ -123,6 +123,7 @@ ready-fillable l s a x = record {
 
 -- a swept form of n records that stands in p from byte 0 on
 pub record SweptTable (t : Term) (p : List ℕ) (n : ℕ) : Type 0 where
+  pub records : n ≡ size (sweep t)
   pub all : largest t ≤ sweptRecords
   pub some : 1 ≤ n
   pub few : n ≤ sweptRecords
@@ -137,6 +138,7 @@ swept-table t out p r n x e h =
     let y : FormSwept t out (Records n) p = subst (λ (q : Length). FormSwept t out q p) e x in
     let b = stored out p (encode (sweep t)) (n * 4) (y .1 .2) (omega (arith, y .1 .0, encode-length (sweep t))) (omega (arith, y .1 .1)) in
     record {
+      records = y .1 .0;
       all = y .0;
       some = omega (arith, y .1 .0, size-pos (sweep t));
       few = y .1 .1;

@@ -30,7 +30,8 @@ use Rattle.sweeping.specs.declared.Length.the-variants.{Records, TooLong
 abbrev pub sweptBytes : ℕ
 sweptBytes = 4 * sweptRecords
 
--- more than is swept now: patterns and right sides have at most 32 records, a recipe of 96 with a swept form of 256 in it would have 351
+-- more than is swept now: patterns and right sides have at most 32 records, and swept forms, which are swept again, at most 256; a recipe
+-- of 96 with a swept form of 256 in it would have 351
 abbrev pub sweepRecords : ℕ
 sweepRecords = 384
 

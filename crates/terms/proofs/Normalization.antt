@@ -11,7 +11,7 @@ use Rattle.terms.specs.Term.{Term, app, lam, loc, con, size, Normal, Clo
 use Rattle.terms.specs.Sweep.{sweep, largest}
 use Rattle.terms.specs.Normalization.{sweeps, NoneNormal, FirstNormal, SweepTooLong}
 use Rattle.terms.proofs.Sweep.{sweep-largest}
-use Rattle.terms.proofs.Variables.{below-sweep, closed-below}
+use Rattle.terms.proofs.Variables.{below-sweep, closed-sweep-below}
 
 -- the first sweep is made
 module _ (least : ℕ) (t : Term) (one : least ≤ 1) (start : least ≤ 0 → ¬ Normal t) where
@@ -19,7 +19,7 @@ module _ (least : ℕ) (t : Term) (one : least ≤ 1) (start : least ≤ 0 → �
   none-normal-more n h zero l m = start l
   none-normal-more n h (suc j) l m = h j (omega arith) (omega arith)
 
-  pub none-normal-less : (n : ℕ) → NoneNormal least (suc n) t → NoneNormal 0 n (sweep t)
+  none-normal-less : (n : ℕ) → NoneNormal least (suc n) t → NoneNormal 0 n (sweep t)
   none-normal-less n h j l m = h (suc j) (omega arith) (omega arith)
 
   pub first-normal-more : (most : ℕ) (u : Term) → FirstNormal most 0 (sweep t) u → FirstNormal (suc most) least t u
@@ -64,12 +64,12 @@ module _ (t : Term) where
   none-normal-now h zero l m = h
   none-normal-now h (suc j) l m = absurd (omega arith)
 
--- a form that is normal after one sweep is the first: what was a rewrite before still is one
+-- a form that is normal after one sweep is the first: no further sweep is made
 pub first-normal-once : (most : ℕ) (t : Term) → Normal (sweep t) → FirstNormal (suc most) 1 t (sweep t)
 first-normal-once most t h =
     first-normal-more 1 t (omega arith) (λ l. absurd (omega arith)) most (sweep t) (first-normal-now (sweep t) most h)
 
--- a first normal form is reached, and there is one
+-- a first normal form is reached, and there is only one
 pub first-normal-reached : (most least : ℕ) (t u : Term) → FirstNormal most least t u → ¬ NoneNormal least (suc most) t
 first-normal-reached most least t u x n = n (x .count) (x .enough) (omega (arith, x .few)) (subst Normal (x .is) (x .normal))
 
@@ -97,12 +97,12 @@ first-normal-short most t u x h = go (x .count) (x .enough) (x .few) (x .first) 
         short (no d) = omega (arith, ap size (e ∙ sweeps-last n t), sweep-largest (sweeps n t))
 
 -- sweeps bring in no variable and no loose local
-sweeps-bare : (n : ℕ) (t : Term) → Closed 0 t → Below 0 t → Closed 0 (sweeps n t) × Below 0 (sweeps n t)
-sweeps-bare zero t c b = (c, b)
-sweeps-bare (suc n) t c b = sweeps-bare n (sweep t) (closed-below 0 t b c) (below-sweep 0 t b)
+sweeps-closed-below : (n : ℕ) (t : Term) → Closed 0 t → Below 0 t → Closed 0 (sweeps n t) × Below 0 (sweeps n t)
+sweeps-closed-below zero t c b = (c, b)
+sweeps-closed-below (suc n) t c b = sweeps-closed-below n (sweep t) (closed-sweep-below 0 t b c) (below-sweep 0 t b)
 
-pub first-normal-bare : (most least : ℕ) (t u : Term) → FirstNormal most least t u → Closed 0 t → Below 0 t → Closed 0 u × Below 0 u
-first-normal-bare most least t u x c b = rw (x .is) (sweeps-bare (x .count) t c b)
+pub first-normal-closed-below : (most least : ℕ) (t u : Term) → FirstNormal most least t u → Closed 0 t → Below 0 t → Closed 0 u × Below 0 u
+first-normal-closed-below most least t u x c b = rw (x .is) (sweeps-closed-below (x .count) t c b)
 
 -- examples: `@ \ @ #0 k0 \ #0`, document 01's case 10, takes two sweeps, and `@ \ @ #0 #0 \ @ #0 #0` never gets normal
 pub first-normal-twice : FirstNormal mostSweeps 1 (app (lam (app (loc 0) (con 0))) (lam (loc 0))) (con 0)
@@ -116,7 +116,7 @@ first-normal-twice = record { count = 2; enough = lit≤ tt; few = lit≤ tt; fi
 abbrev selfApplied : Term
 selfApplied = app (lam (app (loc 0) (loc 0))) (lam (app (loc 0) (loc 0)))
 
-pub sweeps-forever : (n : ℕ) → sweeps n selfApplied ≡ selfApplied
+sweeps-forever : (n : ℕ) → sweeps n selfApplied ≡ selfApplied
 sweeps-forever zero = refl
 sweeps-forever (suc n) = sweeps-forever n
 

@@ -1,5 +1,5 @@
--- Terms without variables, which is `Below 0`: filling leaves them as they are, a filled term is one, and so is a swept form of one. Each
--- by induction on the term. Assumes nothing.
+-- Terms without variables, which is `Below 0`: filling leaves them as they are, a filled term is one, and so is a swept form of one. A
+-- filled term is closed if the pattern is, and a swept form if the term is. Each by induction on the term. Assumes nothing.
 use mathlib.Core.Path.{_≡_, refl, ap, ap₂}
 use mathlib.Core.Bool.{cond}
 use mathlib.Core.Logic.{inl, inr}
@@ -81,5 +81,5 @@ module _ (m : ℕ) where
   below-sweep (con n) g = g
   below-sweep (var n) g = g
 
-pub closed-below : (d : ℕ) (t : Term) → Below 0 t → Closed d t → Closed d (sweep t)
-closed-below d t b c = rw (fill-below (λ i. con 0) t b) at (closed-sweep (λ i. con 0) (λ i. (tt, tt, omega arith)) d t c)
+pub closed-sweep-below : (d : ℕ) (t : Term) → Below 0 t → Closed d t → Closed d (sweep t)
+closed-sweep-below d t b c = rw (fill-below (λ i. con 0) t b) at (closed-sweep (λ i. con 0) (λ i. (tt, tt, omega arith)) d t c)

@@ -1,9 +1,10 @@
 -- Sweeping until normal, as document 02's request "Rewritten recipes that can be rewritten again" has it.
 --   sweeps n t                  t after n sweeps
 --   NoneNormal least n t        of the forms of t after `least` sweeps or more, and fewer than n, none is normal
---   FirstNormal most least t u  u is the first normal one of t's forms after `least` sweeps or more, and comes after at most `most` of them
+--   FirstNormal most least t u  u is the first normal one of t's forms after `least` sweeps or more, and comes after at most `most` sweeps
 --   SweepTooLong most least t   some sweep that is made on the way there, or to the last that is allowed, gets too long
--- "at least once" is a `least` of 1.
+-- "at least once" is a `least` of 1. A normal term sweeps to itself, so that which form comes first says which sweeps are made, and not
+-- which form is given.
 use mathlib.Core.Path.{_≡_}
 use Prim.Native.Nat.{ℕ, zero, suc, _≤_, _<_}
 use Rattle.terms.specs.Figures.{sweptRecords}
