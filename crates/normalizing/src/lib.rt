@@ -15,7 +15,8 @@ use sweeping::SWEPT_BYTES;
 ghost use Rattle.terms.specs.Term.{Term};
 ghost use Rattle.normalizing.specs.Normalized.{Begins, Normalizable, SweptAgain, Normalized};
 
-// How sweeping until normal ends: with a normal form of so many records, with a sweep that gets too long, or with no normal form.
+// How sweeping until normal ends: with a normal form of so many records, with a sweep that gets too long, or with no normal form after all
+// sweeps that are allowed.
 pub enum NormalForm {
     Records(usize),
     TooLong,
