@@ -39,7 +39,7 @@ TOP = os.path.dirname(os.path.dirname(os.path.abspath(__file__)))
 
 # Words that no file of the repository defines: the kit's, the machine's and other languages'; letters that stand for terms and numbers.
 ALLOWED = set("""
-rt RT_JOBS rustc cc od awk python3 target antt io libc os
+rt rustc cc od awk python3 target antt io libc os
 ensures requires needs search value
 matches refused ok logic proved axioms sum native built trusted nat char string read write close
 say NAME FILE FOLDER LAW X N M T P E B n k x
