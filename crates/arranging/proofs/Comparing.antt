@@ -52,12 +52,12 @@ both-ended i a b e h g = sym (take-all i a h) ∙ e ∙ take-all i b g
 
 -- a 16-bit number that stands in a table
 module _ (l : List ℕ) (at n : ℕ) (rest : List ℕ) (e : drop at l ≡ word n rest) where
-  word-read : wordAt l at ≡ n
+  pub word-read : wordAt l at ≡ n
   word-read =
       ap₂ (λ (i j : ℕ). i * 256 + j) (ap (λ (k : ℕ). getD l k 0) (omega arith) ∙ sym (getD-drop at l 0 0)) (sym (getD-drop at l 1 0))
       ∙ ap (λ (x : List ℕ). getD x 0 0 * 256 + getD x 1 0) e ∙ div-add-mod' n 256
 
-  word-behind : drop (at + 2) l ≡ rest
+  pub word-behind : drop (at + 2) l ≡ rest
   word-behind = sym (drop-drop 2 at l) ∙ ap (drop 2) e
 
 -- the first of the entries that stand in a line
@@ -75,7 +75,7 @@ module _ (L : List ℕ) (i : ℕ) (X : List ℕ) where
       sym (assigned-at L i (size v) (s .first) (sym (word-read L (4 * i + 2) (size v) r e)) (λ z. omega (arith, size-pos v))
       (sym (word-read L (4 * i) (s .first) (word (size v) r) (s .bytes))))
 
-  value-bytes : (v : Term) (l : Line) (s : Standing L i X (some v ∷ l)) → take (4 * size v) (drop (4 * s .first) X) ≡ encode v
+  pub value-bytes : (v : Term) (l : Line) (s : Standing L i X (some v ∷ l)) → take (4 * size v) (drop (4 * s .first) X) ≡ encode v
   value-bytes v l s =
       ap (take (4 * size v)) (s .values ∙ append-assoc (encode v) (lineValues l) (s .behind))
       ∙ take-at (encode v) (lineValues l ++ s .behind) (4 * size v) (encode-length v)

@@ -29,7 +29,7 @@ pub struct Tally {
 }
 
 // Writes a 16-bit number at byte `at`, high byte first; nothing else changes.
-fn put_word(out: &mut [u8], at: usize, number: usize)
+pub fn put_word(out: &mut [u8], at: usize, number: usize)
     requires { ⌜ (at + 2 ≤ length (now out)) × (number < numbers) ⌝ }
     ensures { λ _. ⌜ now (out .exit) ≡ sets (now (out .entry)) at (word number []) ⌝ }
 {

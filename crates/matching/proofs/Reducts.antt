@@ -238,7 +238,7 @@ module _ (e : Term) where
       (λ j m u c. guarded-unshift 0 j m (omega arith) u c) before (substitute-passes e) put-local Guarded guarded-sweep
       (λ j f a c. (c .0, ⊎-elim (λ p. inl (p .0)) inr (c .1))) (λ j b c. c) k q g
 
-shift-zero : (c : ℕ) (t : Term) → shift 0 c t ≡ t
+pub shift-zero : (c : ℕ) (t : Term) → shift 0 c t ≡ t
 shift-zero c (app f a) = ap₂ app (shift-zero c f) (shift-zero c a)
 shift-zero c (lam b) = ap lam (shift-zero (suc c) b)
 shift-zero c (loc n) = by-ltb (λ s. cond s (loc n) (loc (n + 0)) ≡ loc n) n c (λ l. refl) (λ l. ap loc (omega arith))

@@ -147,7 +147,7 @@ fn read(item: Item, c: u8) -> Item {
 }
 
 // Builds the table that a text writes, and gives its length.
-fn build(text: &[u8], out: &mut [u8]) -> usize
+pub fn build(text: &[u8], out: &mut [u8]) -> usize
     ensures { λ r. ⌜ Counts r (now (out .exit)) ⌝ }
 {
     let mut end = 0;

@@ -440,6 +440,11 @@ pub const SWEPT_RECORDS: usize = 256;
 // The most sweeps that are made to reach a normal form.
 pub const MOST_SWEEPS: usize = 64;
 
+// The bytes of a place of a book, which has two counts and the records of two sides, and the most places of a book.
+pub const PLACE: usize = RECORD + 2 * RECORD * PATTERN_RECORDS;
+
+pub const MOST_PLACES: usize = 64;
+
 // The bytes of a line, which has an entry of a record's length for each variable.
 pub const LINE: usize = RECORD * VARIABLES;
 

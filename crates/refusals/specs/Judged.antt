@@ -31,6 +31,8 @@ number Refusal.SweptForm = 12
 number Refusal.Output = 13
 number Refusal.NoMatch = 14
 number Refusal.NoNormalForm = 15
+number Refusal.BookSize = 16
+number Refusal.LongRecipe = 17
 
 -- "Each is given when its cause holds and no earlier one does, and at no other time."
 unfoldable pub Judged : List Row → Type 0 → Verdict → Type 0

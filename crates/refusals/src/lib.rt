@@ -42,6 +42,8 @@ pub enum Refusal {
     Output,
     NoMatch,
     NoNormalForm,
+    BookSize,
+    LongRecipe,
 }
 
 // What one step of judging the tables finds.
@@ -70,6 +72,8 @@ pub fn number_of(refusal: Refusal) -> u64
         Refusal::Output => 13,
         Refusal::NoMatch => 14,
         Refusal::NoNormalForm => 15,
+        Refusal::BookSize => 16,
+        Refusal::LongRecipe => 17,
     }
 }
 

@@ -8,6 +8,8 @@
 --   sweptRecords    "the swept form of some part [..] is above 256 records"
 --   tableBytes      "above 65,536 bytes": the most that a line, value or output table has, and what the work area has
 --   mostSweeps      document 02: "when 64 sweeps reach no normal form"
+--   placeBytes      document 02: "a lent table of 260-byte places"
+--   mostPlaces      document 02: "a book that is empty or above 64 places"
 use Prim.Native.Nat.{ℕ}
 
 abbrev pub variables : ℕ
@@ -36,3 +38,9 @@ tableBytes = 65536
 
 abbrev pub mostSweeps : ℕ
 mostSweeps = 64
+
+abbrev pub placeBytes : ℕ
+placeBytes = 260
+
+abbrev pub mostPlaces : ℕ
+mostPlaces = 64

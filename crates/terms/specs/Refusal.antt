@@ -1,5 +1,5 @@
 -- The causes of refusal, as document 01's table in the section "Operations" and document 02's requests have them, each with its number and
--- its place in the order.
+-- its place in the order. Those that a book of rules alone has, 16 and 17, stand beside that operation.
 --   Row              a refusal number, and its cause
 --   Refused rows k   "Each is given when its cause holds and no earlier one does": k is the number of the first row whose cause holds
 --   Passed rows      no row's cause holds
