@@ -3,8 +3,8 @@
 use mathlib.Core.Path.{_≡_, refl, ap, _∙_, subst}
 use mathlib.Core.Bool.{Bool, true, false}
 use mathlib.Core.List.{List, _++_}
-use mathlib.Core.Logic.{inl, inr}
-use Prim.Native.Nat.{ℕ, suc, _+_, _*_, _-_, _<_, _≤_}
+use mathlib.Core.Logic.{inl}
+use Prim.Native.Nat.{ℕ, _+_, _*_, _-_, _<_, _≤_}
 use native.Mathlib.Omega.{arith}
 use lib.ListN.{length, take, drop}
 use lib.Seq.{sets, sets-eq}
@@ -12,15 +12,16 @@ use Rattle.terms.specs.Figures.{mostSweeps}
 use Rattle.terms.specs.Term.{Term, size}
 use Rattle.terms.specs.Table.{encode}
 use Rattle.terms.specs.Sweep.{sweep}
-use Rattle.terms.specs.Normalization.{NoneNormal, FirstNormal, SweepTooLong}
+use Rattle.terms.specs.Normalization.{FirstNormal}
 use Rattle.terms.specs.Refusal.{Refused, Passed, Filled, sweptFormRows, outputRows, normalFormRows, normalOutputRows}
 use Rattle.terms.proofs.Refusal.{filled-one, refused-first, refused-later, passed-both}
-use Rattle.terms.proofs.Normalization.{first-normal-reached, first-normal-one}
+use Rattle.terms.proofs.Normalization.{first-normal-one}
 use Rattle.terms.proofs.Table.{encode-length}
 use Rattle.sweeping.specs.declared.Length.{Length}
 use Rattle.sweeping.specs.declared.Length.the-variants.{Records, TooLong}
 use Rattle.normalizing.specs.declared.NormalForm.{NormalForm}
 use Rattle.normalizing.specs.Normalized.{Begins, Normalized}
+use Rattle.normalizing.proofs.Rows.{rows-long, rows-none, rows-form, rows-passed}
 use Rattle.refusals.specs.declared.Refusal.{Refusal}
 use Rattle.refusals.specs.Judged.{FilledTables}
 use Rattle.refusals.specs.Lent.{overwritten}
@@ -84,44 +85,31 @@ module _ (p l s : List ℕ) (x : FilledTables p l s) (r : NormalForm) (table : L
   one : (t : Term) → Filled p l s t → t ≡ x .term
   one t f = filled-one p l s t (x .term) f (x .filled)
 
-  normal-as : (a : NormalForm) → r ≡ a → Normalized mostSweeps 1 (x .term) a table
-  normal-as a e = subst (λ (b : NormalForm). Normalized mostSweeps 1 (x .term) b table) e (w (x .term) (x .filled))
-
-  none-long : ¬ SweepTooLong mostSweeps 1 (x .term) → ¬ ((t : Term) × Filled p l s t × SweepTooLong mostSweeps 1 t)
-  none-long h c = h (subst (SweepTooLong mostSweeps 1) (one (c .0) (c .1)) (c .2))
+  rows-of : Normalized mostSweeps 1 (x .term) r table
+  rows-of = w (x .term) (x .filled)
 
   pub normal-put-long : (o : List ℕ) → r ≡ NormalForm.TooLong → SideNormalized p l s o (RewriteAnswer.Refused Refusal.SweptForm) o
-  unfolding SideNormalized Normalized
+  unfolding SideNormalized
   normal-put-long o e = (
     refused-first (normalFormRows (Filled p l s) 1) (normalOutputRows (Filled p l s) 1 o) 12
-        (inl ((x .term, x .filled, normal-as NormalForm.TooLong e), refl)),
+        (rows-long (Filled p l s) 1 (x .term) (x .filled) one r table rows-of e),
     refl,
   )
 
   pub normal-put-none : (o : List ℕ) → r ≡ NormalForm.NotReached → SideNormalized p l s o (RewriteAnswer.Refused Refusal.NoNormalForm) o
-  unfolding SideNormalized Normalized
-  normal-put-none o e =
-      let z = normal-as NormalForm.NotReached e in (
-        refused-first (normalFormRows (Filled p l s) 1) (normalOutputRows (Filled p l s) 1 o) 15
-            (inr (none-long (z .0), inl ((x .term, x .filled, z .1), refl))),
-        refl,
-      )
+  unfolding SideNormalized
+  normal-put-none o e = (
+    refused-first (normalFormRows (Filled p l s) 1) (normalOutputRows (Filled p l s) 1 o) 15
+        (rows-none (Filled p l s) 1 (x .term) (x .filled) one r table rows-of e),
+    refl,
+  )
 
   module _ (n : ℕ) (e : r ≡ NormalForm.Records n) where
     pub normal-form : (u : Term) × FirstNormal mostSweeps 1 (x .term) u × Begins table n u
-    unfolding Normalized
-    normal-form = normal-as (NormalForm.Records n) e .1
+    normal-form = rows-form (Filled p l s) 1 (x .term) (x .filled) one r table rows-of n e
 
     form-passed : Passed (normalFormRows (Filled p l s) 1)
-    unfolding Normalized
-    form-passed = (
-      none-long (normal-as (NormalForm.Records n) e .0),
-      (
-        λ c. first-normal-reached mostSweeps 1 (x .term) (normal-form .0) (normal-form .1)
-            (subst (NoneNormal 1 (suc mostSweeps)) (one (c .0) (c .1)) (c .2)),
-        tt,
-      ),
-    )
+    form-passed = rows-passed (Filled p l s) 1 (x .term) (x .filled) one r table rows-of n e
 
     form-one : (t u : Term) → Filled p l s t → FirstNormal mostSweeps 1 t u → u ≡ normal-form .0
     form-one t u f y =
