@@ -1,0 +1,3 @@
+pub mod Holes
+pub mod Copies
+pub mod Wholes
