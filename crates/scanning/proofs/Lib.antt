@@ -1,0 +1,4 @@
+pub mod Rules
+pub mod Parts
+pub mod Determined
+pub mod Numbers
