@@ -1,0 +1,5 @@
+pub mod Judges
+pub mod Answers
+pub mod Used
+pub mod Recipes
+pub mod Determined
