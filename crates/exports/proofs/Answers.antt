@@ -1,5 +1,5 @@
 -- The number of an answer fits 64 bits, so that it is handed on as it is: a count of lines or records is bounded by the largest table, and
--- a refusal's number is one of fifteen. Assumes nothing.
+-- a refusal's number is one of seventeen. Assumes nothing.
 use mathlib.Core.Path.{_≡_, ap, _∙_, subst}
 use mathlib.Core.List.{List, _++_}
 use mathlib.Core.Logic.{inl}
@@ -12,7 +12,8 @@ use lib.ListN.{length}
 use mir.Syntax.{w64}
 use mir.Val.{SFits, toZ, ofZ}
 use mir.ValLaws.{toZ-pos, toZ-ofZ}
-use Rattle.terms.specs.Figures.{sweptRecords, tableBytes, mostSweeps}
+use Rattle.terms.specs.Figures.{recipeRecords, sweptRecords, tableBytes, mostSweeps}
+use Rattle.terms.specs.Term.{size}
 use Rattle.terms.specs.Sweep.{largest}
 use Rattle.terms.specs.Refusal.{Passed, sweptFormRows, outputRows, unmatchedRows}
 use Rattle.terms.proofs.Refusal.{passed-first, passed-later}
@@ -24,6 +25,8 @@ use Rattle.refusals.proofs.Numbers.{number-most}
 use Rattle.rewriting.specs.declared.SweepAnswer.{SweepAnswer}
 use Rattle.rewriting.specs.declared.RewriteAnswer.{RewriteAnswer}
 use Rattle.rewriting.specs.Operations.{lentForSweep, lentForRewrite, rightSideRows, Written, Swept, Rewritten}
+use Rattle.book.specs.declared.BookAnswer.{BookAnswer}
+use Rattle.book.specs.Operations.{WrittenRecipe, Booked}
 use Rattle.enumeration.specs.declared.ListAnswer.{ListAnswer}
 use Rattle.enumeration.specs.Written.{WrittenLines}
 use Rattle.matcher.specs.Operations.{lentForList, Listed}
@@ -70,6 +73,18 @@ rewritten-few p q r l s o w a after x n e =
     let f = y .1 in
     let h = first-normal-short mostSweeps (f .term) (f .form) (f .first) (λ g. u .0 (f .term, f .filled, g)) in
     omega (arith, f .records, h)
+
+-- a new recipe has at most 96
+pub booked-few : (b r o w : List ℕ) (a : BookAnswer) (after : List ℕ) → Booked b r o w a after → (n c : ℕ) → a ≡ BookAnswer.Records n c
+    → n ≤ tableBytes
+unfolding Booked
+booked-few b r o w a after x n c e =
+    let f = subst (λ (d : BookAnswer). Booked b r o w d after) e x .1 in
+    go f (decLt recipeRecords (size (f .form)))
+  where
+    go : (f : WrittenRecipe b r o n c after) → Dec (recipeRecords < size (f .form)) → n ≤ tableBytes
+    go f (yes d) = absurd (f .room .0 d)
+    go f (no d) = omega (arith, f .records)
 
 -- the numbers of answers fit
 pub fits-records : (n : ℕ) → n ≤ tableBytes → SFits w64 (pos n)

@@ -1,6 +1,7 @@
--- The number of an exported answer says which answer it is: the codes of each of the four functions are one to one. A code from 0 on is a
--- count, or yes and no, and one below 0 is minus the number of one refusal. So -9 is list's answer 9. Assumes nothing.
-use mathlib.Core.Path.{_≡_, refl, sym, ap, _∙_}
+-- The number of an exported answer says which answer it is: the codes of each function are one to one, the book's with the number of
+-- pairs. A code from 0 on is a count, or yes and no, and one below 0 is minus the number of one refusal. So -9 is list's answer 9. Assumes
+-- nothing.
+use mathlib.Core.Path.{_≡_, refl, sym, ap, ap₂, _∙_}
 use mathlib.Core.List.{List}
 use Prim.Native.Nat.{ℕ, zero, suc, _<_}
 use native.Mathlib.Omega.{arith}
@@ -11,9 +12,11 @@ use Rattle.refusals.proofs.Numbers.{ofNumber, of-number, number-positive}
 use Rattle.rewriting.specs.declared.CheckAnswer.{CheckAnswer}
 use Rattle.rewriting.specs.declared.SweepAnswer.{SweepAnswer}
 use Rattle.rewriting.specs.declared.RewriteAnswer.{RewriteAnswer}
+use Rattle.book.specs.declared.BookAnswer.{BookAnswer}
 use Rattle.enumeration.specs.declared.ListAnswer.{ListAnswer}
 use Rattle.matcher.specs.Operations.{Listed, NineExactly}
-use Rattle.exports.specs.Answers.{refusalCode, listCode, checkCode, sweepCode, rewriteCode, ListedAs, NineAs}
+use Rattle.exports.specs.Answers.{refusalCode, listCode, checkCode, sweepCode, rewriteCode, bookCode, pairsAfter}
+use Rattle.exports.specs.Answers.{ListedAs, NineAs}
 
 -- answers that are counts or refusals, read back from their codes
 module _ {A : Type 0} (counted : ℕ → A) (refused : Refusal → A) where
@@ -51,6 +54,17 @@ rewrite-code-inj = answer-inj RewriteAnswer.Records RewriteAnswer.Refused rewrit
     back : (a : RewriteAnswer) → answer RewriteAnswer.Records RewriteAnswer.Refused (rewriteCode a) ≡ a
     back (RewriteAnswer.Records n) = refl
     back (RewriteAnswer.Refused c) = answer-refusal RewriteAnswer.Records RewriteAnswer.Refused c
+
+-- with the number of pairs
+pub book-code-inj : (before : ℕ) (a b : BookAnswer) → bookCode a ≡ bookCode b → pairsAfter before a ≡ pairsAfter before b → a ≡ b
+book-code-inj before a b e p = sym (back a) ∙ ap₂ given p e ∙ back b
+  where
+    given : ℕ → ℤ → BookAnswer
+    given c = answer (λ n. BookAnswer.Records n c) BookAnswer.Refused
+
+    back : (a : BookAnswer) → given (pairsAfter before a) (bookCode a) ≡ a
+    back (BookAnswer.Records n c) = refl
+    back (BookAnswer.Refused c) = answer-refusal (λ n. BookAnswer.Records n before) BookAnswer.Refused c
 
 -- 1 is yes, 0 no
 abbrev said : ℕ → CheckAnswer

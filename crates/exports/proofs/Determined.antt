@@ -5,8 +5,10 @@ use mathlib.Core.List.{List}
 use Prim.Native.Nat.{ℕ}
 use lib.IntN.{ℤ}
 use Rattle.rewriting.proofs.Determined.{checked-one, swept-one, rewritten-one}
+use Rattle.book.proofs.Determined.{booked-one}
 use Rattle.matcher.proofs.Determined.{listed-one}
-use Rattle.exports.specs.Answers.{listCode, checkCode, sweepCode, rewriteCode, ListedAs, CheckedAs, SweptAs, RewrittenAs}
+use Rattle.exports.specs.Answers.{listCode, checkCode, sweepCode, rewriteCode, bookCode, pairsAfter}
+use Rattle.exports.specs.Answers.{ListedAs, CheckedAs, SweptAs, RewrittenAs, BookedAs}
 
 pub listed-as-one : (p r l s w : List ℕ) (j k : ℤ) (m n x y : List ℕ) → ListedAs p r l s w j m x → ListedAs p r l s w k n y
     → (j ≡ k) × (m ≡ n) × (x ≡ y)
@@ -24,3 +26,9 @@ pub rewritten-as-one : (p q r l s o w : List ℕ) (j k : ℤ) (m n : List ℕ) �
     → (j ≡ k) × (m ≡ n)
 rewritten-as-one p q r l s o w j k m n f g =
     let e = rewritten-one p q r l s o w (f .0) (g .0) m n (f .1) (g .1) in (f .2 ∙ ap rewriteCode (e .0) ∙ sym (g .2), e .1)
+
+pub booked-as-one : (b r o w : List ℕ) (c : ℕ) (j k : ℤ) (m n : List ℕ) (x y : ℕ) → BookedAs b r o w c j m x → BookedAs b r o w c k n y
+    → (j ≡ k) × (m ≡ n) × (x ≡ y)
+booked-as-one b r o w c j k m n x y f g =
+    let e = booked-one b r o w (f .0) (g .0) m n (f .1) (g .1) in
+    (f .2 ∙ ap bookCode (e .0) ∙ sym (g .2), e .1, f .3 ∙ ap (pairsAfter c) (e .0) ∙ sym (g .3))

@@ -1,7 +1,8 @@
 -- The operations' answers as one number: lines, records, or 1 and 0 for yes and no, or minus the refusal number.
 --   refusalCode c   minus the documents' number of the refusal c
---   listCode a, checkCode a, sweepCode a, rewriteCode a   the number of an answer
---   ListedAs, CheckedAs, SweptAs, RewrittenAs   some answer that the operation may give has this number
+--   listCode a, checkCode a, sweepCode a, rewriteCode a, bookCode a   the number of an answer
+--   pairsAfter c a  the number of pairs that a book's answer reports, or the number c that stood there before
+--   ListedAs, CheckedAs, SweptAs, RewrittenAs, BookedAs   some answer that the operation may give has this number
 --   NineAs k        k is minus 9 exactly if no earlier cause holds and every full listing has more lines than were lent
 use mathlib.Core.Path.{_≡_}
 use mathlib.Core.List.{List}
@@ -14,6 +15,8 @@ use Rattle.rewriting.specs.declared.CheckAnswer.{CheckAnswer}
 use Rattle.rewriting.specs.declared.SweepAnswer.{SweepAnswer}
 use Rattle.rewriting.specs.declared.RewriteAnswer.{RewriteAnswer}
 use Rattle.rewriting.specs.Operations.{Checked, Swept, Rewritten}
+use Rattle.book.specs.declared.BookAnswer.{BookAnswer}
+use Rattle.book.specs.Operations.{Booked}
 use Rattle.enumeration.specs.declared.ListAnswer.{ListAnswer}
 use Rattle.matcher.specs.Operations.{Listed, TooMany}
 
@@ -37,6 +40,14 @@ abbrev pub rewriteCode : RewriteAnswer → ℤ
 rewriteCode (RewriteAnswer.Records n) = pos n
 rewriteCode (RewriteAnswer.Refused c) = refusalCode c
 
+abbrev pub bookCode : BookAnswer → ℤ
+bookCode (BookAnswer.Records n c) = pos n
+bookCode (BookAnswer.Refused c) = refusalCode c
+
+abbrev pub pairsAfter : ℕ → BookAnswer → ℕ
+pairsAfter before (BookAnswer.Records n c) = c
+pairsAfter before (BookAnswer.Refused c) = before
+
 abbrev pub ListedAs : List ℕ → List ℕ → List ℕ → List ℕ → List ℕ → ℤ → List ℕ → List ℕ → Type 0
 ListedAs p r l s w k lines-after values-after = (a : ListAnswer) × Listed p r l s w a lines-after values-after × (k ≡ listCode a)
 
@@ -51,3 +62,6 @@ SweptAs p l s o w k after = (a : SweepAnswer) × Swept p l s o w a after × (k �
 
 abbrev pub RewrittenAs : List ℕ → List ℕ → List ℕ → List ℕ → List ℕ → List ℕ → List ℕ → ℤ → List ℕ → Type 0
 RewrittenAs p q r l s o w k after = (a : RewriteAnswer) × Rewritten p q r l s o w a after × (k ≡ rewriteCode a)
+
+abbrev pub BookedAs : List ℕ → List ℕ → List ℕ → List ℕ → ℕ → ℤ → List ℕ → ℕ → Type 0
+BookedAs b r o w before k after pairs = (a : BookAnswer) × Booked b r o w a after × (k ≡ bookCode a) × (pairs ≡ pairsAfter before a)

@@ -1,16 +1,18 @@
 // The operations for C and Rust: each table as a pointer and a length, the answer as one number.
 //
-// `include/onestep.h` documents the four functions. Each calls its operation and gives the number of the answer: lines or records written,
-// 1 or 0 for yes or no, or minus the documents' number of a refusal. The crate promises that the number is that of an answer which the
-// operation may give on these tables, that -9 is given exactly if list's 9 is due, and that the tables and the work area are left as the
-// operation leaves them. It rests on `matcher` and `rewriting`; the static library is built from it.
+// `include/onestep.h` documents the five functions. Each calls its operation and gives the number of the answer: lines or records written,
+// 1 or 0 for yes or no, or minus the documents' number of a refusal; the book's number of pairs is written behind a pointer, and a refusal
+// leaves it as it was. The crate promises that the number is that of an answer which the operation may give on these tables, that -9 is
+// given exactly if list's 9 is due, and that the tables and the work area are left as the operation leaves them. It rests on `matcher`,
+// `rewriting` and `book`; the static library is built from it.
 //
-// The answers are stated by `listCode`, `checkCode`, `sweepCode` and `rewriteCode`; no two answers of an operation have one number
-// (`proofs/Codes`), so that the number says which it is, and no two numbers meet a promise on the same tables (`proofs/Determined`). The
-// crate stands by itself because the kit builds a static library only from a crate that the same command checks: `rt staticlib exports`
-// after `rt ci` proves these five functions again, and not the crates below. A kit that builds a static library from an rlib would change
-// that.
+// The answers are stated by `listCode`, `checkCode`, `sweepCode`, `rewriteCode` and `bookCode`; no two answers of an operation have one
+// number, or, of the book, one number and one number of pairs (`proofs/Codes`), so that these say which it is; and no two numbers meet a
+// promise on the same tables (`proofs/Determined`). The crate stands by itself because the kit builds a static library only from a crate
+// that the same command checks: `rt staticlib exports` after `rt ci` proves these six functions again, and not the crates below. A kit that
+// builds a static library from an rlib would change that.
 
+use book::BookAnswer;
 use enumeration::ListAnswer;
 use refusals::Refusal;
 use rewriting::CheckAnswer;
@@ -18,7 +20,7 @@ use rewriting::RewriteAnswer;
 use rewriting::SweepAnswer;
 ghost use mathlib.Core.Path.{_≡_};
 ghost use Rattle.refusals.specs.Lent.{cleared};
-ghost use Rattle.exports.specs.Answers.{refusalCode, ListedAs, NineAs, CheckedAs, SweptAs, RewrittenAs};
+ghost use Rattle.exports.specs.Answers.{refusalCode, ListedAs, NineAs, CheckedAs, SweptAs, RewrittenAs, BookedAs};
 
 // Minus the documents' number of a refusal.
 fn refusal_code(refusal: Refusal) -> i64
@@ -106,5 +108,27 @@ pub extern "C" fn onestep_rewrite(
     match answer {
         RewriteAnswer::Records(n) => n as i64,
         RewriteAnswer::Refused(c) => refusal_code(c),
+    }
+}
+
+#[no_mangle]
+pub extern "C" fn onestep_book(
+    book: &[u8],
+    recipe: &[u8],
+    out: &mut [u8],
+    work: &mut [u8],
+    pairs: &mut u64,
+) -> i64
+    ensures answer { λ r. ⌜ BookedAs (now (book .entry)) (now (recipe .entry)) (now (out .entry)) (now (work .entry)) (now (pairs .entry)) r
+        (now (out .exit)) (now (pairs .exit)) ⌝ }
+    ensures area { λ _. ⌜ now (work .exit) ≡ cleared (now (work .entry)) ⌝ }
+{
+    let answer = book::apply(book, recipe, out, work);
+    match answer {
+        BookAnswer::Records(n, c) => {
+            *pairs = c as u64;
+            n as i64
+        }
+        BookAnswer::Refused(c) => refusal_code(c),
     }
 }
