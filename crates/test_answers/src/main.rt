@@ -1,21 +1,22 @@
-// The answers of list, check, sweep and rewrite, case by case.
+// The answers of list, check, sweep, rewrite and the book of rules, case by case.
 //
 // The program reads a table of cases from standard input, runs the operations on them, and prints a line for each: its name, the
 // operation, the answer, and whether the bytes behind the answer (`rest`: the whole output table, if the answer is a refusal) and the work
-// area are as they were. The table that is kept beside it has document 01's cases, rewrites that take several sweeps, every refusal that
-// the operations can give, both sides of each limit, and the order of the refusals. It promises that it is safe and that it ends;
-// `matcher` and `rewriting` promise the answers and a refusal's number. It rests on `matcher`, on `test_rewriting` for the other three
-// operations, on `notation` to read the cases, and on `test_report` to print what came of them.
+// area are as they were. The table that is kept beside it has document 01's cases, rewrites that take several sweeps, books of rules, every
+// refusal that the operations can give, both sides of each limit, and the order of the refusals. It promises that it is safe and that it
+// ends; `matcher`, `rewriting` and `book` promise the answers and a refusal's number. It rests on `matcher`, on `test_rewriting` and
+// `test_book` for the other operations, on `notation` to read the cases, and on `test_report` to print what came of them.
 //
 // A case is one line of fields, each ended by `;` or the line:
 //     NAME; list; PATTERN; RECIPE; LINES; VALUES; WORK
 //     NAME; check; PATTERN; RECIPE; LINE; VALUES; WORK
 //     NAME; sweep; PATTERN; LINE; VALUES; OUTPUT; WORK
 //     NAME; rewrite; LEFT; RIGHT; RECIPE; LINE; VALUES; OUTPUT; WORK
+//     NAME; book; BOOK; RECIPE; OUTPUT; WORK
 // WORK, OUTPUT and, of list, LINES and VALUES are numbers of bytes; without one the work area has its right length. The others are tables,
-// in the items of `notation`. Any other line is a heading, and printed as it is.
+// in the items of `notation`, and BOOK in the entries of `test_book`. Any other line is a heading, and printed as it is.
 // The values that list wrote are taken to end where the first byte is as it was before the call.
-// Cases behind the first 65,536 bytes, and bytes of a table behind the room that `test_report` has for it, are cut off.
+// Cases behind the first 65,536 bytes, and bytes of a table behind the room that `test_report` or `test_book` has for it, are cut off.
 
 use enumeration::ListAnswer;
 use libc::STDIN_FILENO;
@@ -26,6 +27,7 @@ use notation::lend_field;
 use notation::letter_of;
 use notation::say_heading;
 use records::TABLE_BYTES;
+use test_book::apply;
 use test_report::marked;
 use test_report::say_listing;
 use test_report::say_operation;
@@ -75,6 +77,7 @@ fn run(case: &[u8]) {
         b'c' => check(case),
         b's' => sweep(case),
         b'r' => rewrite(case),
+        b'b' => apply(case),
         _ => say_heading(case),
     }
 }
