@@ -32,6 +32,6 @@ if [ "$status" -ge 124 ]; then
     # The library crashed or did not come back: make the calls again, keeping the last one.
     echo "DIFFERENCE: ended with status $status; the last call:"
     timeout --foreground 900 "$build/compare" calls="$calls" trace="$build/call" "$@" >/dev/null 2>&1 || true
-    if [ -f "$build/call" ]; then cat "$build/call"; else echo "one of the fixed calls (src/cases.rs, src/limits.rs)"; fi
+    if [ -f "$build/call" ]; then cat "$build/call"; else echo "one of the fixed calls (src/cases.rs, src/limits.rs, src/book/limits.rs)"; fi
 fi
 exit "$status"

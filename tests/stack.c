@@ -3,6 +3,7 @@
  *   stack list PATTERN RECIPE     lists with full tables
  *   stack sweep N                 sweeps N nested abstractions
  *   stack rewrite RIGHT VALUE..   rewrites a recipe that is a constant; the values are those of the first variables
+ *   stack book LEFT RIGHT RECIPE  rewrites the recipe by a book of one rule
  *
  * Prints the bytes of stack used, the thread's own start included, and the answer: `matches`, `records` or `refused`, and its number. A call that takes over
  * two seconds is ended with status 3; status 2 says that nothing was called. */
@@ -16,10 +17,10 @@
 #include <unistd.h>
 #include "../include/onestep.h"
 
-enum { STACK = 4 << 20, MARK = 0xA5, NOT_CALLED = 2, NO_ANSWER = 3 };
+enum { STACK = 4 << 20, MARK = 0xA5, NOT_CALLED = 2, NO_ANSWER = 3, PLACE = 260, SIDE = 128 };
 
 static const uint8_t constant[4] = {3, 0, 0, 1};
-static uint8_t first[1024], second[1024], lines[ONESTEP_TABLE], values[ONESTEP_TABLE], output[1024], work[ONESTEP_TABLE];
+static uint8_t first[1024], second[1024], lines[ONESTEP_TABLE], values[ONESTEP_TABLE], output[1024], work[ONESTEP_TABLE], place[PLACE];
 static size_t first_length, second_length, values_length;
 static int64_t answer;
 
@@ -32,6 +33,14 @@ static size_t read_table(const char *path, uint8_t *table) {
     size_t length = fread(table, 1, 1024, file);
     fclose(file);
     return length;
+}
+
+/* Puts a side into the place, and its count. */
+static void add_side(const char *path, size_t side) {
+    size_t length = read_table(path, first);
+    if (length > SIDE) exit(NOT_CALLED);
+    memcpy(place + 4 + side * SIDE, first, length);
+    place[2 * side + 1] = length / 4;
 }
 
 /* Puts a value behind the others, and its first record and count into the line. */
@@ -61,6 +70,13 @@ static void *rewrite(void *unused) {
     return NULL;
 }
 
+static void *book(void *unused) {
+    (void)unused;
+    uint64_t pairs;
+    answer = onestep_book(place, sizeof place, second, second_length, output, sizeof output, work, ONESTEP_TABLE, &pairs);
+    return NULL;
+}
+
 static void give_up(int unused) {
     (void)unused;
     _exit(NO_ANSWER);
@@ -79,6 +95,12 @@ int main(int count, char **words) {
         call = rewrite;
         first_length = read_table(words[2], first);
         for (int i = 3; i < count; i++) add_value(words[i], i - 3);
+    } else if (strcmp(words[1], "book") == 0) {
+        if (count < 5) return NOT_CALLED;
+        call = book;
+        add_side(words[2], 0);
+        add_side(words[3], 1);
+        second_length = read_table(words[4], second);
     } else {
         call = sweep;
         size_t depth = strtoul(words[2], NULL, 10);

@@ -1,6 +1,6 @@
 #!/bin/sh
-# Measures the stack that calls of the library take: every case of the benchmark that ends within two seconds, the deepest sweep, and the deepest swept forms
-# that a rewrite sweeps again.
+# Measures the stack that calls of the library take: every case of the benchmark that ends within two seconds, the deepest sweep, the deepest swept forms
+# that a rewrite sweeps again, and the deepest wholes that a book sweeps.
 #
 #   tests/stack.sh [path of the static library]
 #
@@ -65,3 +65,30 @@ sweep_again() {
     sweep_again 'abstractions and arguments' 42 '\ @ k1' '#42' ''
 } >"$build/again"
 sort -n "$build/again" | tail -1
+
+# The case that takes the most to list, as a pair of a book.
+name=$(grep ', matches [1-9]' "$build/all" | sort -n | tail -1 | sed 's/^[0-9]*  \(.*\),.*/\1/')
+term right k1
+measure "book that lists $name" 'records 1' book "$cases/$name.pattern.rec" "$build/right" "$cases/$name.recipe.rec"
+
+# sweep_whole NAME N BEFORE LOCAL BEHIND: a book that puts a form of 254 records at a head of a recipe of 96, 4N deep, so that the whole has a redex and
+# 328 records. The value puts its argument, LOCAL, between N copies of BEFORE and of BEHIND, and the form has it 14 times. What the sweep gives is too long.
+sweep_whole() {
+    term left '@ k5 p0'
+    term right "\\ $(copies 14 '@ p0') k1"
+    term recipe "$(copies $((4 * $2)) "$3") @ @ k5 \\ $(copies "$2" "$3") $4 $(copies "$2" "$5") k1 $(copies $((4 * $2)) "$5")"
+    measure "book that sweeps $((18 * $2)) nested $1" 'refused 12' book "$build/left" "$build/right" "$build/recipe"
+}
+{
+    sweep_whole abstractions 18 '\' '#18' ''
+    sweep_whole heads 9 '@' '#0' 'k1'
+    sweep_whole arguments 9 '@ k1' '#0' ''
+    sweep_whole 'abstractions and arguments' 6 '\ @ k1' '#6' ''
+} >"$build/whole"
+sort -n "$build/whole" | tail -1
+
+# The longest whole: a form of 256 records in the place of one.
+term left k5
+term right '\ \ \ @ @ \ \ @ #1 @ #1 @ #1 @ #1 @ #1 @ #1 #0 \ @ @ k1 #0 #0 k1'
+term recipe "$(copies 93 '\') @ k5 k1"
+measure 'book that sweeps a whole of 351 records' 'refused 12' book "$build/left" "$build/right" "$build/recipe"

@@ -10,14 +10,14 @@ const GUARD: usize = 64;
 const GUARD_BYTE: u8 = 0xC7;
 
 /// A table between two guards. The shift moves it to any address, also an odd one.
-struct Lent {
+pub struct Lent {
     buffer: Vec<u8>,
     start: usize,
     length: usize,
 }
 
 impl Lent {
-    fn new(table: &[u8], shift: usize) -> Lent {
+    pub fn new(table: &[u8], shift: usize) -> Lent {
         let start = GUARD + shift;
         let mut buffer = Vec::with_capacity(start + table.len() + GUARD);
         buffer.resize(start, GUARD_BYTE);
@@ -26,16 +26,16 @@ impl Lent {
         Lent { buffer, start, length: table.len() }
     }
 
-    fn table(&self) -> &[u8] {
+    pub fn table(&self) -> &[u8] {
         &self.buffer[self.start..self.start + self.length]
     }
 
-    fn table_mut(&mut self) -> &mut [u8] {
+    pub fn table_mut(&mut self) -> &mut [u8] {
         &mut self.buffer[self.start..self.start + self.length]
     }
 
     /// What differs from the expected table or its guards, if anything does.
-    fn difference(&self, name: &str, expected: &[u8]) -> Option<String> {
+    pub fn difference(&self, name: &str, expected: &[u8]) -> Option<String> {
         let is_guard = |bytes: &[u8]| bytes.iter().all(|byte| *byte == GUARD_BYTE);
         if !is_guard(&self.buffer[..self.start]) {
             return Some(format!("bytes before the table {name} were written"));
@@ -117,7 +117,7 @@ pub fn compare(call: &Call, outcome: &Outcome, shift: usize) -> Result<(), Strin
     no_difference(differences)
 }
 
-fn no_difference(differences: Vec<String>) -> Result<(), String> {
+pub fn no_difference(differences: Vec<String>) -> Result<(), String> {
     if differences.is_empty() {
         Ok(())
     } else {
@@ -176,6 +176,6 @@ pub fn describe(call: &Call) -> String {
     text
 }
 
-fn hex(bytes: &[u8]) -> String {
+pub fn hex(bytes: &[u8]) -> String {
     bytes.iter().map(|byte| format!("{byte:02x}")).collect()
 }

@@ -21,7 +21,7 @@ pub fn damage(random: &mut Random, call: &mut Call) {
 }
 
 /// Damages the table of a term: its length, a record, or its shape.
-fn damage_term(random: &mut Random, table: &mut Vec<u8>, most_records: usize) {
+pub fn damage_term(random: &mut Random, table: &mut Vec<u8>, most_records: usize) {
     let records = table.len() / RECORD_BYTES;
     match random.below(13) {
         0 => {

@@ -10,9 +10,9 @@ use crate::terms::{abstraction, application, Term, Term::*, VARIABLES};
 use std::iter::successors;
 
 /// The constants and variables that one call draws from: few, so that equal ones are common.
-struct Palette {
-    constants: Vec<u16>,
-    variables: Vec<usize>,
+pub struct Palette {
+    pub constants: Vec<u16>,
+    pub variables: Vec<usize>,
 }
 
 pub fn call(random: &mut Random, most_steps: usize) -> Call {
@@ -37,7 +37,7 @@ pub fn call(random: &mut Random, most_steps: usize) -> Call {
 
 // Palettes and terms of a given size.
 
-fn palette(random: &mut Random) -> Palette {
+pub fn palette(random: &mut Random) -> Palette {
     let mut constants = match random.below(8) {
         0 => vec![0, 255, 256, 65_535],
         1 => vec![random.below(65_536) as u16, random.below(65_536) as u16],
@@ -55,7 +55,7 @@ fn palette(random: &mut Random) -> Palette {
     Palette { constants, variables }
 }
 
-fn constant(random: &mut Random, palette: &Palette) -> Term {
+pub fn constant(random: &mut Random, palette: &Palette) -> Term {
     Constant(random.pick(&palette.constants))
 }
 
@@ -70,7 +70,7 @@ fn leaf(random: &mut Random, depth: usize, palette: &Palette, variables: bool) -
 }
 
 /// A term of exactly `size` records, redexes welcome; with variables if asked. `abstractions` is how many times in a hundred a node is one.
-fn any_term(random: &mut Random, size: usize, depth: usize, palette: &Palette, variables: bool, abstractions: usize) -> Term {
+pub fn any_term(random: &mut Random, size: usize, depth: usize, palette: &Palette, variables: bool, abstractions: usize) -> Term {
     if size == 1 {
         return leaf(random, depth, palette, variables);
     }
@@ -83,7 +83,7 @@ fn any_term(random: &mut Random, size: usize, depth: usize, palette: &Palette, v
 }
 
 /// A normal term of exactly `size` records without variables. A head (never asked for 2 records) is no abstraction.
-fn normal_term(random: &mut Random, size: usize, depth: usize, is_head: bool, palette: &Palette) -> Term {
+pub fn normal_term(random: &mut Random, size: usize, depth: usize, is_head: bool, palette: &Palette) -> Term {
     if size == 1 {
         return leaf(random, depth, palette, false);
     }
@@ -106,7 +106,7 @@ fn normal_term(random: &mut Random, size: usize, depth: usize, is_head: bool, pa
 }
 
 /// A value; half of them are abstractions, so that heads reduce.
-fn value(random: &mut Random, size: usize, palette: &Palette) -> Term {
+pub fn value(random: &mut Random, size: usize, palette: &Palette) -> Term {
     let mut value = normal_term(random, size, 0, false, palette);
     for _ in 0..2 {
         if !value.is_abstraction() {
@@ -117,7 +117,7 @@ fn value(random: &mut Random, size: usize, palette: &Palette) -> Term {
 }
 
 /// A pattern or right side of up to about `most` records.
-fn pattern(random: &mut Random, most: usize, palette: &Palette) -> Term {
+pub fn pattern(random: &mut Random, most: usize, palette: &Palette) -> Term {
     let size = random.between(1, most);
     let abstractions = random.pick(&[10, 25, 25, 45]);
     let term = any_term(random, size, 0, palette, true, abstractions);
@@ -135,7 +135,7 @@ fn pattern(random: &mut Random, most: usize, palette: &Palette) -> Term {
 }
 
 /// Turns some parts of a recipe into variables, or applications of variables.
-fn generalise(random: &mut Random, term: &Term, palette: &Palette) -> Term {
+pub fn generalise(random: &mut Random, term: &Term, palette: &Palette) -> Term {
     if random.chance(12) {
         let variable = Variable(random.pick(&palette.variables));
         return match random.below(3) {
@@ -304,7 +304,7 @@ fn small_shape(random: &mut Random, recipe: &Term, palette: &Palette) -> Term {
 }
 
 /// One of the constants of a recipe, or `k0`.
-fn some_constant(random: &mut Random, recipe: &Term) -> Term {
+pub fn some_constant(random: &mut Random, recipe: &Term) -> Term {
     match recipe {
         Application(head, argument) => {
             if random.chance(50) {
@@ -463,7 +463,7 @@ fn add_sweeps(random: &mut Random, left: &mut Term, right: &mut Term, line: &mut
 }
 
 /// A head and an argument, both values, whose application takes several sweeps, or never gets normal.
-fn slow_pair(random: &mut Random, palette: &Palette) -> (Term, Term) {
+pub fn slow_pair(random: &mut Random, palette: &Palette) -> (Term, Term) {
     // In the form of a head it may stand anywhere.
     let size = random.pick(&[1, 1, 1, 3, 4, 5, 8, 20, 50]);
     let rest = normal_term(random, size, 0, true, palette);
@@ -543,7 +543,7 @@ fn grow(random: &mut Random, term: &mut Term, line: &mut Line, palette: &Palette
 }
 
 /// The length of the output table: exact for what is to be written, one record too few, or any.
-fn output_length(random: &mut Random, written: Option<Term>) -> usize {
+pub fn output_length(random: &mut Random, written: Option<Term>) -> usize {
     let exact = written.map_or(40, |written| written.size()) * RECORD_BYTES;
     let length = match random.below(12) {
         0..=3 => exact,
@@ -606,7 +606,7 @@ fn place(random: &mut Random, line: &Line) -> (Vec<u8>, Vec<u8>) {
 }
 
 /// A work area full of one byte, of anything, or of zeros.
-fn work_area(random: &mut Random) -> Vec<u8> {
+pub fn work_area(random: &mut Random) -> Vec<u8> {
     match random.below(10) {
         0 => vec![0; MOST_TABLE_BYTES],
         1 => random.bytes(MOST_TABLE_BYTES),

@@ -33,6 +33,13 @@ extern "C" {
         output: *mut u8, output_length: usize,
         work: *mut u8, work_length: usize,
     ) -> i64;
+    fn onestep_book(
+        book: *const u8, book_length: usize,
+        recipe: *const u8, recipe_length: usize,
+        output: *mut u8, output_length: usize,
+        work: *mut u8, work_length: usize,
+        pairs: *mut u64,
+    ) -> i64;
 }
 
 pub fn list(pattern: &[u8], recipe: &[u8], lines: &mut [u8], values: &mut [u8], work: &mut [u8]) -> i64 {
@@ -82,6 +89,18 @@ pub fn rewrite(left: &[u8], right: &[u8], recipe: &[u8], line: &[u8], values: &[
             values.as_ptr(), values.len(),
             output.as_mut_ptr(), output.len(),
             work.as_mut_ptr(), work.len(),
+        )
+    }
+}
+
+pub fn book(book: &[u8], recipe: &[u8], output: &mut [u8], work: &mut [u8], pairs: &mut u64) -> i64 {
+    unsafe {
+        onestep_book(
+            book.as_ptr(), book.len(),
+            recipe.as_ptr(), recipe.len(),
+            output.as_mut_ptr(), output.len(),
+            work.as_mut_ptr(), work.len(),
+            pairs,
         )
     }
 }

@@ -98,12 +98,12 @@ fn longest_value() -> Result<(), String> {
     compare(&call, &outcome, 0).map_err(|difference| difference + "\n" + &describe(&call))
 }
 
-fn abstractions(count: usize, body: &Term) -> Term {
+pub fn abstractions(count: usize, body: &Term) -> Term {
     (0..count).fold(body.clone(), |term, _| abstraction(term))
 }
 
 /// `k0` applied to so many copies of `k1`.
-fn copies(count: usize) -> Term {
+pub fn copies(count: usize) -> Term {
     (0..count).fold(Constant(0), |term, _| application(term, Constant(1)))
 }
 

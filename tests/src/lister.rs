@@ -23,14 +23,36 @@ struct Goal {
 struct Search {
     lines: Vec<Line>,
     steps_left: usize,
+    /// Whether an application with a rigid head is split at once.
+    is_cut: bool,
 }
 
 /// The lines in no particular order; nothing if they take more than `most_steps` steps (records of the targets taken or made).
 pub fn list(pattern: &Term, recipe: &Term, most_steps: usize) -> Option<Vec<Line>> {
-    let mut search = Search { lines: Vec::new(), steps_left: most_steps };
+    search(pattern, recipe, most_steps, false)
+}
+
+/// The same lines, with one cut, for the many pairs of a book that no assignment matches: an application whose head is rigid goes with the head and the
+/// argument of the target alone, the head first. (b) and (c) ask its head to sweep to an abstraction, which a constant or a local never does, whatever it
+/// is applied to.
+pub fn list_with_cut(pattern: &Term, recipe: &Term, most_steps: usize) -> Option<Vec<Line>> {
+    search(pattern, recipe, most_steps, true)
+}
+
+fn search(pattern: &Term, recipe: &Term, most_steps: usize, is_cut: bool) -> Option<Vec<Line>> {
+    let mut search = Search { lines: Vec::new(), steps_left: most_steps, is_cut };
     let first = Goal { pattern: pattern.clone(), target: recipe.clone() };
     search.solve(vec![first], Line::default())?;
     Some(search.lines)
+}
+
+/// Whether the term is a constant or a local, applied to any number of arguments.
+fn is_rigid(term: &Term) -> bool {
+    match term {
+        Application(head, _) => is_rigid(head),
+        Local(_) | Constant(_) => true,
+        Abstraction(_) | Variable(_) => false,
+    }
 }
 
 impl Search {
@@ -67,6 +89,13 @@ impl Search {
                 };
                 goals.push(Goal { pattern: (*body).clone(), target });
                 self.solve(goals, line)?;
+            }
+            Application(head, argument) if self.is_cut && is_rigid(&head) => {
+                if let Application(target_head, target_argument) = &target {
+                    goals.push(Goal { pattern: (*argument).clone(), target: (**target_argument).clone() });
+                    goals.push(Goal { pattern: (*head).clone(), target: (**target_head).clone() });
+                    self.solve(goals, line)?;
+                }
             }
             Application(head, argument) => {
                 if let Application(target_head, target_argument) = &target {

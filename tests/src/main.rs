@@ -1,19 +1,21 @@
-//! Compares the static library with an independent implementation of documents 01 and 02, written without its code, on random calls of all four
+//! Compares the static library with an independent implementation of documents 01 and 02, written without its code, on random calls of all five
 //! operations from a fixed seed: the answer and every byte of every lent table.
 //!
 //! - terms, sweep, lister: terms as trees, the sweep, and the plain lister (the equations of one-step matching, all subsets, no pruning)
-//! - tables, operations: bytes and their validity, and the four operations with the refusals in the documents' order
+//! - tables, operations: bytes and their validity, and list, check, sweep and rewrite with the refusals in the documents' order
+//! - book: the book of rules, with its own calls
 //! - library, compare: the C interface, and one call of it compared
 //! - random, generate, damage: random numbers, random calls, and damage to them
 //! - cases, limits: fixed calls, the cases 1 to 11 of document 01 and the limits
 //! - definition: listings set against the definition of a full listing, by enumerating small values: one in four of those compared, and those that the
 //!   plain lister is too slow for
 //!
-//! Options: calls=N, seed=N, steps=N (the limit of the plain lister: of a call that needs more the library's own listing is set against the definition,
-//! and the call isn't counted as compared), only=N (the one call of that number, described), trace=FILE (writes each call to the file before it is made:
-//! after a crash the file holds the call).
+//! Options: calls=N, books=N (calls of the book; unless given, one for eight of the others), seed=N, steps=N (the limit of the plain lister: of a call that
+//! needs more the library's own listing is set against the definition, and the call isn't counted as compared), only=N, book=N (the one call of that number,
+//! described, of the four operations or of the book), trace=FILE (writes each call to the file before it is made: after a crash the file holds the call).
 #![deny(unsafe_code)]
 
+mod book;
 mod cases;
 mod compare;
 mod damage;
@@ -33,30 +35,51 @@ mod terms;
 use operations::{answer_listing, expected, outcome_of, Call, Operation, Outcome};
 use random::Random;
 use std::collections::BTreeMap;
+use std::thread;
 
 /// One listing in this many is set against the definition too.
 const EVERY_LISTING: u64 = 4;
+/// The stack of the thread that makes the calls of the book: a call takes up to 0.8 MB, and the terms are trees here.
+const STACK: usize = 16 << 20;
 /// With so many assignments at most.
 const MOST_TRIES: usize = 400;
 
 struct Options {
     calls: u64,
+    books: Option<u64>,
     seed: u64,
     steps: usize,
     only: Option<u64>,
+    book: Option<u64>,
     trace: Option<String>,
 }
 
+impl Options {
+    /// How many random calls of the book: unless given, one for eight of the others.
+    fn books(&self) -> u64 {
+        self.books.unwrap_or(self.calls / 8)
+    }
+
+    /// Writes a call to the file of the trace, if there is one.
+    fn trace(&self, describe: impl FnOnce() -> String) {
+        if let Some(file) = &self.trace {
+            std::fs::write(file, describe()).expect("the trace can be written");
+        }
+    }
+}
+
 fn options() -> Options {
-    let mut options = Options { calls: 200_000, seed: 20_010_412, steps: 20_000, only: None, trace: None };
+    let mut options = Options { calls: 200_000, books: None, seed: 20_010_412, steps: 20_000, only: None, book: None, trace: None };
     for argument in std::env::args().skip(1) {
         let (name, value) = argument.split_once('=').unwrap_or_else(|| panic!("not name=value: {argument}"));
         let number = || value.parse::<u64>().unwrap_or_else(|_| panic!("no number: {argument}"));
         match name {
             "calls" => options.calls = number(),
+            "books" => options.books = Some(number()),
             "seed" => options.seed = number(),
             "steps" => options.steps = number() as usize,
             "only" => options.only = Some(number()),
+            "book" => options.book = Some(number()),
             "trace" => options.trace = Some(value.to_string()),
             _ => panic!("no such option: {argument}"),
         }
@@ -105,22 +128,48 @@ fn main() {
         Ok(calls) => println!("calls at the limits: {calls}, all equal"),
         Err(difference) => fail("in the calls at the limits", &difference),
     }
+    match book::limits::run() {
+        Ok(calls) => println!("calls of the book at its limits: {calls}, all equal"),
+        Err(difference) => fail("in the calls of the book at its limits", &difference),
+    }
+    if options.book.is_some() || options.trace.is_some() {
+        book::calls::run(&options);
+    }
+    if options.book.is_some() {
+        return;
+    }
+    thread::scope(|threads| {
+        // beside the others, since either takes long; a trace has one call at a time, so that there they were made before
+        let books = (options.only.is_none() && options.trace.is_none())
+            .then(|| thread::Builder::new().stack_size(STACK).spawn_scoped(threads, || book::calls::run(&options)).expect("a thread"));
+        let compared = compare_calls(&options, &mut counts);
+        if let Some(books) = books {
+            books.join().expect("the calls of the book end");
+        }
+        if options.only.is_none() {
+            report(&counts);
+            check_coverage(compared, &counts);
+            println!("all {compared} random calls equal");
+        }
+    });
+}
+
+/// Makes the calls of the four operations, and gives how many were compared.
+fn compare_calls(options: &Options, counts: &mut Counts) -> u64 {
     // Calls are numbered from 0; skipped ones don't count, so that the number of calls compared is the number asked for.
     let mut compared = 0;
     let mut number = options.only.unwrap_or(0);
     while compared < options.calls {
         let mut random = Random::for_call(options.seed, number);
         let call = generate::call(&mut random, options.steps);
-        if let Some(file) = &options.trace {
-            std::fs::write(file, format!("call {number}\n{}", compare::describe(&call))).expect("the trace can be written");
-        }
+        options.trace(|| format!("call {number}\n{}", compare::describe(&call)));
         let place = format!("in call {number} (seed {})", options.seed);
         let outcome = expected(&call, options.steps);
         let shift = random.below(8);
         match outcome {
             None => {
                 counts.skipped += 1;
-                if let Err(wrong) = check_skipped(&call, shift, &mut counts) {
+                if let Err(wrong) = check_skipped(&call, shift, counts) {
                     fail(&place, &format!("{wrong}\n{}", compare::describe(&call)));
                 }
             }
@@ -128,23 +177,21 @@ fn main() {
                 if let Err(difference) = compare::compare(&call, &outcome, shift) {
                     fail(&place, &format!("{difference}\n{}", compare::describe(&call)));
                 }
-                if let Err(wrong) = check_by_definition(&call, &outcome, number, options.steps, &mut counts) {
+                if let Err(wrong) = check_by_definition(&call, &outcome, number, options.steps, counts) {
                     fail(&place, &format!("not a full listing: {wrong}\n{}", compare::describe(&call)));
                 }
-                count(&call, &outcome, &mut counts);
+                count(&call, &outcome, counts);
                 compared += 1;
             }
         }
         if options.only.is_some() {
             println!("call {number}\n{}", compare::describe(&call));
             println!("answer {:?}", expected(&call, options.steps).map(|outcome| outcome.answer));
-            return;
+            break;
         }
         number += 1;
     }
-    report(&counts);
-    check_coverage(compared, &counts);
-    println!("all {compared} random calls equal");
+    compared
 }
 
 fn fail(place: &str, difference: &str) -> ! {
@@ -161,6 +208,11 @@ fn check_by_definition(call: &Call, outcome: &Outcome, number: u64, steps: usize
     let recipe = tables::read_recipe(&call.recipe).expect("it was valid");
     let mut lines = lister::list(&pattern, &recipe, steps).expect("it was listed before");
     tables::sort_lines(&mut lines);
+    let mut cut = lister::list_with_cut(&pattern, &recipe, usize::MAX).expect("no step limit");
+    tables::sort_lines(&mut cut);
+    if cut != lines {
+        return Err("the lister with the cut has other lines".into());
+    }
     counts.tries_by_definition += definition::check(&pattern, &recipe, &lines, MOST_TRIES)?;
     counts.listings_by_definition += 1;
     Ok(())

@@ -186,7 +186,7 @@ fn read_assignment(call: &Call, terms: &[&Term]) -> Result<Line, Refusal> {
 }
 
 /// Refusal 12.
-fn sweep_filled(term: &Term, values: &Line, table: &'static str) -> Result<Term, Refusal> {
+pub fn sweep_filled(term: &Term, values: &Line, table: &'static str) -> Result<Term, Refusal> {
     match sweep(&term.fill(values), MOST_SWEPT_RECORDS) {
         Some(swept) => Ok(swept),
         None => refuse(12, table, "swept part above 256"),

@@ -1,0 +1,54 @@
+//! Makes one call of the library and compares the answer, the number of pairs and every lent table, byte for byte, with what the book should do.
+
+use super::*;
+use crate::compare::{hex, no_difference, Lent};
+use crate::library;
+
+/// Stands before and behind the number of pairs, where nobody may write.
+const GUARD_NUMBER: u64 = 0xC7C7_C7C7_C7C7_C7C7;
+
+/// Calls the library; the difference if there is one. `shift` sets the addresses of the tables.
+pub fn compare(call: &Call, outcome: &Outcome, shift: usize) -> Result<(), String> {
+    let book = Lent::new(&call.book, shift % 8);
+    let recipe = Lent::new(&call.recipe, (shift + 1) % 8);
+    let mut output = Lent::new(&call.output, (shift + 2) % 8);
+    let mut work = Lent::new(&call.work, (shift + 3) % 8);
+    let mut numbers = [GUARD_NUMBER, call.pairs, GUARD_NUMBER];
+    let answer = library::book(book.table(), recipe.table(), output.table_mut(), work.table_mut(), &mut numbers[1]);
+    let mut differences = Vec::new();
+    if answer != outcome.answer {
+        differences.push(format!("answer: expected {} {:?}, library {answer}", outcome.answer, outcome.refusal));
+    }
+    if numbers != [GUARD_NUMBER, outcome.pairs, GUARD_NUMBER] {
+        differences.push(format!("pairs: expected {}, library {} between {:x} and {:x}", outcome.pairs, numbers[1], numbers[0], numbers[2]));
+    }
+    let tables = [
+        book.difference("book", &call.book),
+        recipe.difference("recipe", &call.recipe),
+        output.difference("output", &outcome.output),
+        work.difference("work", &outcome.work),
+    ];
+    differences.extend(tables.into_iter().flatten());
+    no_difference(differences)
+}
+
+/// The call in hexadecimal, and its rules and its recipe in the notation of document 01 where they can be read.
+pub fn describe(call: &Call) -> String {
+    let mut text = format!("the book, pairs before the call {}\n", call.pairs);
+    for (name, table) in [("book", &call.book), ("recipe", &call.recipe)] {
+        text += &format!("  {name} ({} bytes) {}\n", table.len(), hex(table));
+    }
+    for (name, table) in [("output", &call.output), ("work", &call.work)] {
+        text += &format!("  {name} ({} bytes) {}..\n", table.len(), hex(&table[..table.len().min(64)]));
+    }
+    for (number, place) in call.book.chunks_exact(PLACE_BYTES).enumerate() {
+        text += &match read_rule(place) {
+            Ok(Rule { left, right }) => format!("    rule {number}: {} becomes {}\n", left.text(), right.text()),
+            Err(refusal) => format!("    rule {number}: {refusal:?}\n"),
+        };
+    }
+    if let Ok(recipe) = read_recipe(&call.recipe) {
+        text += &format!("    recipe: {}\n", recipe.text());
+    }
+    text
+}
