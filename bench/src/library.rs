@@ -55,6 +55,17 @@ extern "C" {
         work: *mut u8,
         work_length: usize,
     ) -> i64;
+    fn onestep_book(
+        book: *const u8,
+        book_length: usize,
+        recipe: *const u8,
+        recipe_length: usize,
+        output: *mut u8,
+        output_length: usize,
+        work: *mut u8,
+        work_length: usize,
+        pairs: *mut u64,
+    ) -> i64;
 }
 
 /// Bytes of a full line table, value table, output table or work area.
@@ -85,7 +96,7 @@ impl Work {
     }
 }
 
-// SAFETY of the four calls: each table is lent with its own length. Tables that are written come as `&mut`, so they overlap nothing
+// SAFETY of the five calls: each table is lent with its own length. Tables that are written come as `&mut`, so they overlap nothing
 // else, and nobody else reaches them during the call. That is what `onestep.h` asks of a caller.
 
 pub fn list(pattern: &[u8], recipe: &[u8], out: &mut Tables, work: &mut Work) -> i64 {
@@ -157,5 +168,11 @@ pub fn rewrite(left: &[u8], right: &[u8], recipe: &[u8], line: &[u8], values: &[
             work.0.as_mut_ptr(),
             work.0.len(),
         )
+    }
+}
+
+pub fn book(book: &[u8], recipe: &[u8], output: &mut [u8], work: &mut Work, pairs: &mut u64) -> i64 {
+    unsafe {
+        onestep_book(book.as_ptr(), book.len(), recipe.as_ptr(), recipe.len(), output.as_mut_ptr(), output.len(), work.0.as_mut_ptr(), work.0.len(), pairs)
     }
 }

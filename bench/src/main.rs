@@ -5,6 +5,7 @@
 //! CASES is the folder of cases; the limit is what one search of (a), (b) or (c) may take (2000). With `--hard` only the tables of hard and of random cases
 //! are printed, and with `--show` some of the random cases that were stopped. `--case`, `--part` and `--from` are for the child processes.
 
+mod book;
 mod cases;
 mod families;
 mod full_size;
@@ -62,6 +63,7 @@ fn main() {
     let mut all_right = families::print(&cases, arguments.limit);
     all_right &= operations::print(&cases);
     all_right &= operations::print_by_sweeps();
+    all_right &= book::print();
     all_right &= growth::print_by_records(arguments.limit);
     all_right &= growth::print_by_lines(arguments.limit);
     all_right &= growth::print_long_listings(arguments.limit);
