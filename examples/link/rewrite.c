@@ -35,7 +35,9 @@ static const char *const causes[] = {
     "a swept form is above 256 records",
     "the output table is too short",
     "the line is not a match of the left side",
-    "64 sweeps of the right side reach no normal form",
+    "64 sweeps reach no normal form",
+    "the book has no place, or more than 64",
+    "the new recipe is above 96 records",
 };
 
 static int read_term(struct term *term, const char *folder, const char *name) {

@@ -22,7 +22,7 @@ const VARIABLES: usize = 8;
 const LINE: usize = ENTRY * VARIABLES;
 const TABLE: usize = 65_536;
 
-const CAUSES: [&str; 15] = [
+const CAUSES: [&str; 17] = [
     "the pattern or right side has no record, more than 32, or a record cut short",
     "a record of the pattern or right side is bad",
     "the pattern or right side is not one term, or a local has no binder",
@@ -37,7 +37,9 @@ const CAUSES: [&str; 15] = [
     "a swept form is above 256 records",
     "the output table is too short",
     "the line is not a match of the left side",
-    "64 sweeps of the right side reach no normal form",
+    "64 sweeps reach no normal form",
+    "the book has no place, or more than 64",
+    "the new recipe is above 96 records",
 ];
 
 /// A count, or why the operation refused.

@@ -1,6 +1,7 @@
 #!/bin/sh
 # run.sh [path of the static library]: builds rewrite.c and rewrite.rs, runs both on the examples and on some terms that are refused, and compares what they
-# print with the file `printed`, which was checked by hand. The library is target/staticlib/libexports.a unless given.
+# print with the file `printed`; builds and runs book.c, and compares what it prints with the file `printed_book`. Both files were checked by hand. The
+# library is target/staticlib/libexports.a unless given.
 set -eu
 here=$(cd "$(dirname "$0")" && pwd)
 top=$here/../..
@@ -12,6 +13,7 @@ trap 'rm -rf "$room"' EXIT
 trap 'exit 1' HUP INT TERM
 cc -std=c11 -Wall -Wextra -Werror -I"$top/include" "$here/rewrite.c" "$library" -o "$room/rewrite_c"
 rustc --edition 2021 -O -D warnings "$here/rewrite.rs" -C link-arg="$library" -o "$room/rewrite_rs"
+cc -std=c11 -Wall -Wextra -Werror -I"$top/include" "$here/book.c" "$library" -o "$room/book_c"
 
 # term NAME TEXT: a file of records in the folder of the terms that are refused.
 term() {
@@ -38,6 +40,11 @@ run_all() {
     "$1" "$room/refused" || echo "status $?"
 }
 
+# compare PROGRAM STORED: what PROGRAM printed, with the file STORED.
+compare() {
+    diff "$here/$2" "$room/printed" || { echo "examples/link: $1 prints something else than the file '$2'" >&2; exit 1; }
+}
+
 for folder in "$here"/../*/; do
     for text in "$folder"*.txt; do
         [ -f "$text" ] || continue
@@ -46,6 +53,8 @@ for folder in "$here"/../*/; do
 done
 for program in rewrite_c rewrite_rs; do
     run_all "$room/$program" >"$room/printed"
-    diff "$here/printed" "$room/printed" || { echo "examples/link: $program prints something else than the file 'printed'" >&2; exit 1; }
+    compare "$program" printed
 done
-echo "examples/link: the C and the Rust program print what they should"
+"$room/book_c" >"$room/printed" || echo "status $?" >>"$room/printed"
+compare book_c printed_book
+echo "examples/link: the programs print what they should"
