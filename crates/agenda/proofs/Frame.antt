@@ -1,7 +1,7 @@
 -- What stands below `top` stays where the bytes below it are kept, and a goal that is written above it can be read. From the bytes that
 -- are kept a part is read again, and the rest follows goal by goal. Assumes nothing.
 --   Kept W X top   the bytes of W and X below `top` are the same
-use mathlib.Core.Path.{_≡_, sym, ap, ap₂, _∙_, subst}
+use mathlib.Core.Path.{_≡_, sym, ap, ap₂, _∙_, subst, subst₂}
 use mathlib.Core.Option.{Option, none, some}
 use mathlib.Core.List.{List, [], _∷_, _++_, append-assoc}
 use Prim.Native.Nat.{ℕ, suc, _+_, _*_, _%_, _<_, _≤_}
@@ -18,6 +18,8 @@ use Rattle.terms.proofs.Table.{encode-length}
 use Rattle.matching.specs.Goals.{Goal, Goal.match, Goal.build, Listable}
 use Rattle.records.specs.Parts.{Part}
 use Rattle.records.proofs.Parts.{part}
+use Rattle.heights.specs.Heights.{heights, HeightsAt}
+use Rattle.heights.proofs.Heights.{heights-length}
 use Rattle.assignments.specs.declared.Entry.{Entry}
 use Rattle.assignments.specs.declared.Entry.the-variants.{Open, Assigned}
 use Rattle.assignments.specs.Held.{EntryHeld, Holds}
@@ -25,7 +27,8 @@ use Rattle.shifting.proofs.Lowering.{take-sets}
 use Rattle.agenda.specs.declared.Agenda.{Agenda}
 use Rattle.agenda.specs.declared.StoredGoal.{StoredGoal}
 use Rattle.agenda.specs.Stored.{storedBytes, StoredAt}
-use Rattle.agenda.specs.State.{goalBytes, Target, GoalAt, Chain, State, targetAt, nextAt, argumentAt}
+use Rattle.agenda.specs.State.{goalBytes, heightsPlace, HeightsBeside, Target, GoalAt, Chain, State}
+use Rattle.agenda.specs.State.{originAt, targetAt, nextAt, argumentAt}
 
 pub byte-below : (W X : List ℕ) (top i : ℕ) → i < top → take top X ≡ take top W → getD X i 0 ≡ getD W i 0
 byte-below W X top i h e = sym (getD-take top X i 0 h) ∙ ap (λ (l : List ℕ). getD l i 0) e ∙ getD-take top W i 0 h
@@ -61,9 +64,34 @@ module _ (W X : List ℕ) (top : ℕ) (k : Kept W X top) where
   pub next-kept : (at : ℕ) → at + goalBytes ≤ top → nextAt X at ≡ nextAt W at
   next-kept at h = ap (4 *_) (word-kept (at + 4) (omega arith))
 
+  origin-kept : (at : ℕ) → at + goalBytes ≤ top → originAt X at ≡ originAt W at
+  origin-kept at h = ap (4 *_) (word-kept (at + 2) (omega arith))
+
+  targetAt-kept : (at : ℕ) → at + goalBytes ≤ top → targetAt X at ≡ targetAt W at
+  targetAt-kept at h = ap₂ (λ (x y : ℕ). x + 4 * y) (origin-kept at h) (byte-kept (at + 1) (omega arith))
+
+  argument-kept : (at : ℕ) → at + goalBytes ≤ top → argumentAt X at ≡ argumentAt W at
+  argument-kept at h = ap (4 *_) (word-kept (at + 6) (omega arith))
+
+  heights-kept : (i : ℕ) (t : Term) → i + size t ≤ top → HeightsAt W i t → HeightsAt X i t
+  heights-kept i t h x = record {
+    rest = drop (size t) (drop i X);
+    bytes = sym (take-append-drop (size t) (drop i X))
+        ∙ ap (_++ drop (size t) (drop i X)) (bytes-kept i (size t) h ∙ ap (take (size t)) (x .bytes)
+        ∙ take-at (heights t) (x .rest) (size t) (heights-length t));
+  }
+
   module _ (higher : ℕ) (up : top ≤ higher) where
-    pub target-kept : (n at : ℕ) (t : Term) → Target W top n at t → Target X higher n at t
-    target-kept n at t x = record {
+    beside-kept : (b at : ℕ) (t : Term) → at + 4 * size t ≤ top → HeightsBeside W b at t → HeightsBeside X b at t
+    beside-kept b at t h x = record {
+      low = x .low;
+      from = x .from;
+      within = x .within;
+      heights = heights-kept (heightsPlace b at) t (omega (arith, x .low, x .from, x .within)) (x .heights);
+    }
+
+    pub target-kept : (n b at : ℕ) (t : Term) → Target W top n b at t → Target X higher n b at t
+    target-kept n b at t x = record {
       part = part-kept at t (x .below) (x .part);
       below = omega (arith, x .below);
       normal = x .normal;
@@ -71,24 +99,25 @@ module _ (W X : List ℕ) (top : ℕ) (k : Kept W X top) where
       few = x .few;
       closed = x .closed;
       short = x .short;
+      heights = beside-kept b at t (x .below) (x .heights);
     }
 
     module _ (P : List ℕ) where
       goal-kept : (at : ℕ) (g : Goal) → at + goalBytes ≤ top → GoalAt P W top at g → GoalAt P X higher at g
       goal-kept at (match p t) h x = record {
-        kind = byte-kept (at + 1) (omega arith) ∙ x .kind;
+        kind = argument-kept at h ∙ x .kind;
         part = subst (λ (i : ℕ). Part P (4 * i) p) (sym (byte-kept at (omega arith))) (x .part);
-        target = subst (λ (i : ℕ). Target X higher (size p) (4 * i) t) (sym (word-kept (at + 2) (omega arith)))
-            (target-kept (size p) (targetAt W at) t (x .target));
+        target = subst₂ (λ (b i : ℕ). Target X higher (size p) b i t) (sym (origin-kept at h)) (sym (targetAt-kept at h))
+            (target-kept (size p) (originAt W at) (targetAt W at) t (x .target));
         suits = x .suits;
       }
       goal-kept at (build f t e) h x = record {
-        kind = byte-kept (at + 1) (omega arith) ∙ x .kind;
+        kind = λ i. x .kind (sym (argument-kept at h) ∙ i);
         part = subst (λ (i : ℕ). Part P (4 * i) f) (sym (byte-kept at (omega arith))) (x .part);
-        target = subst (λ (i : ℕ). Target X higher (suc (size f)) (4 * i) t) (sym (word-kept (at + 2) (omega arith)))
-            (target-kept (suc (size f)) (targetAt W at) t (x .target));
-        argument = subst (λ (i : ℕ). Target X higher (suc (size f)) (4 * i) e) (sym (word-kept (at + 6) (omega arith)))
-            (target-kept (suc (size f)) (argumentAt W at) e (x .argument));
+        target = subst₂ (λ (b i : ℕ). Target X higher (suc (size f)) b i t) (sym (origin-kept at h)) (sym (targetAt-kept at h))
+            (target-kept (suc (size f)) (originAt W at) (targetAt W at) t (x .target));
+        argument = subst (λ (i : ℕ). Target X higher (suc (size f)) i i e) (sym (argument-kept at h))
+            (target-kept (suc (size f)) (argumentAt W at) (argumentAt W at) e (x .argument));
         suits = x .suits;
       }
 
@@ -173,26 +202,30 @@ kept-then W X Y top higher h x y = record {
 pub length-stored : (vs W X : List ℕ) (at : ℕ) → X ≡ sets W at vs → length X ≡ length W
 length-stored vs W X at e = ap length e ∙ length-sets W at vs
 
--- an stored goal that was stored
+-- a goal that was stored
 module _ (W X : List ℕ) (at : ℕ) (r : StoredGoal) (e : X ≡ sets W at (storedBytes r)) (room : at + goalBytes ≤ length W) where
   byte : (i j : ℕ) → i < goalBytes → j ≡ at + i → getD X j 0 ≡ getD (storedBytes r) i 0
   byte i j h q = ap₂ (λ (l : List ℕ) (n : ℕ). getD l n 0) e q ∙ getD-stored (storedBytes r) W at i (omega arith) (omega arith)
 
-  pub goal-stored : r .part % 4 ≡ 0 → r .target % 4 ≡ 0 → r .next % 4 ≡ 0 → r .argument % 4 ≡ 0 → StoredAt X at r
-  goal-stored a b c d = record {
+  pub goal-stored : r .part % 4 ≡ 0 → r .origin % 4 ≡ 0 → r .origin ≤ r .target → r .target % 4 ≡ 0 → r .next % 4 ≡ 0 → r .argument % 4 ≡ 0
+      → StoredAt X at r
+  goal-stored a b from c d f = record {
     part = omega (arith, byte 0 at (omega arith) (omega arith));
-    kind = sym (byte 1 (at + 1) (omega arith) (omega arith));
-    target = omega (arith, byte 2 (at + 2) (omega arith) (omega arith), byte 3 (at + 2 + 1) (omega arith) (omega arith));
+    origin = origin;
+    target = omega (arith, origin, byte 1 (at + 1) (omega arith) (omega arith));
     next = omega (arith, byte 4 (at + 4) (omega arith) (omega arith), byte 5 (at + 4 + 1) (omega arith) (omega arith));
     argument = omega (arith, byte 6 (at + 6) (omega arith) (omega arith), byte 7 (at + 6 + 1) (omega arith) (omega arith));
   }
+    where
+      origin : r .origin ≡ originAt X at
+      origin = omega (arith, byte 2 (at + 2) (omega arith) (omega arith), byte 3 (at + 2 + 1) (omega arith) (omega arith))
 
 -- and the list that it begins
 module _ (K : Goal → Type 0) (P X : List ℕ) (top at : ℕ) (r : StoredGoal) (x : StoredAt X at r) (low : 0 < at) (room : at + goalBytes ≤ top)
     (even : at % 4 ≡ 0) (falls : r .next < at) where
   pub chain-match :
-      (p t : Term) (gs : List Goal) → r .kind ≡ 0 → K (match p t) → Part P (r .part) p → Target X top (size p) (r .target) t
-      → Listable variables (OccursIn P) (match p t)
+      (p t : Term) (gs : List Goal) → r .argument ≡ 0 → K (match p t) → Part P (r .part) p
+      → Target X top (size p) (r .origin) (r .target) t → Listable variables (OccursIn P) (match p t)
       → Chain K P X top (r .next) gs → Chain K P X top at (match p t ∷ gs)
   chain-match p t gs k q y z s c = (
     record {
@@ -202,9 +235,9 @@ module _ (K : Goal → Type 0) (P X : List ℕ) (top at : ℕ) (r : StoredGoal) 
       even = even;
       falls = omega (arith, x .next);
       goal = record {
-        kind = sym (x .kind) ∙ k;
+        kind = sym (x .argument) ∙ k;
         part = subst (λ (i : ℕ). Part P i p) (x .part) y;
-        target = subst (λ (i : ℕ). Target X top (size p) i t) (x .target) z;
+        target = subst₂ (λ (b i : ℕ). Target X top (size p) b i t) (x .origin) (x .target) z;
         suits = s;
       };
     },
@@ -212,10 +245,10 @@ module _ (K : Goal → Type 0) (P X : List ℕ) (top at : ℕ) (r : StoredGoal) 
   )
 
   pub chain-build :
-      (f t e : Term) (gs : List Goal) → r .kind ≡ 1 → K (build f t e) → Part P (r .part) f → Target X top (suc (size f)) (r .target) t
-      → Target X top (suc (size f)) (r .argument) e
-      → Listable variables (OccursIn P) (build f t e) → Chain K P X top (r .next) gs → Chain K P X top at (build f t e ∷ gs)
-  chain-build f t e gs k q y z w s c = (
+      (f t e : Term) (gs : List Goal) → K (build f t e) → Part P (r .part) f → Target X top (suc (size f)) (r .origin) (r .target) t
+      → Target X top (suc (size f)) (r .argument) (r .argument) e → Listable variables (OccursIn P) (build f t e)
+      → Chain K P X top (r .next) gs → Chain K P X top at (build f t e ∷ gs)
+  chain-build f t e gs q y z w s c = (
     record {
       kind = q;
       low = low;
@@ -223,10 +256,10 @@ module _ (K : Goal → Type 0) (P X : List ℕ) (top at : ℕ) (r : StoredGoal) 
       even = even;
       falls = omega (arith, x .next);
       goal = record {
-        kind = sym (x .kind) ∙ k;
+        kind = λ i. omega (arith, i, x .argument, w .heights .low);
         part = subst (λ (i : ℕ). Part P i f) (x .part) y;
-        target = subst (λ (i : ℕ). Target X top (suc (size f)) i t) (x .target) z;
-        argument = subst (λ (i : ℕ). Target X top (suc (size f)) i e) (x .argument) w;
+        target = subst₂ (λ (b i : ℕ). Target X top (suc (size f)) b i t) (x .origin) (x .target) z;
+        argument = subst (λ (i : ℕ). Target X top (suc (size f)) i i e) (x .argument) w;
         suits = s;
       };
     },

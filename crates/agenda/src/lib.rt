@@ -1,16 +1,17 @@
 // The agenda of a search: its goals in the work area.
 //
 // A goal is a part of the pattern and a target that it has to sweep to. Goals, targets and assigned values stand in the work area below
-// `top`, where nothing is changed, so that all branches of a search share them and going back costs nothing. The crate reads and writes
-// goals, and tells what their heads and locals show. Its definitions say what an agenda means, what a step may make of it, and that the
-// work area suffices; the steps themselves are the crates above it. It rests on `matching` for the mathematics, on `records` and
-// `shifting` for single terms, and on `assignments` for how entries hold a line.
+// `top`, where nothing is changed, so that all branches of a search share them and going back costs nothing. When a target is written the
+// heights of all its parts are kept in front of it, so that one byte tells whether the part that a goal goes on with is closed.
+// The crate reads and writes goals, keeps heights, and tells what the heads and locals of goals show. Its definitions say what an agenda
+// means, what a step may make of it, and that the work area suffices; the steps themselves are the crates above it. It rests on `matching`
+// for the mathematics, on `records`, `heights` and `shifting` for single terms, and on `assignments` for how entries hold a line.
 //
 // What the work area has yet to hold is a sum over the goals: a goal may still take up 2,000 bytes for each record of its part of the
-// pattern, and each step takes what it writes from its goal's share. 32 records, a recipe of 96 and the first goal come to 64,400 of 65,536
-// bytes. The bound on targets, 160 records, and that on loose locals are stated for each goal by the size of its part. Longer patterns or
-// recipes would change that. Types that several crates of the search share stand here: the kit wants no type whose name is a function's but
-// for its capital.
+// pattern, and each step takes what it writes from its goal's share. 32 records, a recipe of 96 with its heights and the first goal come to
+// 64,560 of 65,536 bytes. The bound on targets, 160 records, and that on loose locals are stated for each goal by the size of its part.
+// Longer patterns or recipes would change that. Types that several crates of the search share stand here: the kit wants no type whose name
+// is a function's but for its capital.
 
 pub mod heads;
 pub mod locals;
@@ -20,10 +21,13 @@ use records::RECORD;
 use records::VALUE_RECORDS;
 use sweeping::SWEPT_BYTES;
 ghost use mathlib.Core.Path.{_≡_};
-ghost use Prim.Native.Nat.{_+_, _≤_};
+ghost use Prim.Native.Nat.{_+_, _-_, _≤_};
 ghost use lib.ListN.{length};
 ghost use lib.Seq.{sets};
-ghost use Rattle.agenda.specs.State.{goalBytes};
+ghost use Rattle.terms.specs.Term.{Term};
+ghost use Rattle.records.specs.Parts.{Part};
+ghost use Rattle.heights.specs.Heights.{heights};
+ghost use Rattle.agenda.specs.State.{goalBytes, heightBytes, heightsPlace, WrittenTarget};
 ghost use Rattle.agenda.specs.Stored.{storedBytes, StoredAt, StoredFits, storedMatch, storedBuild};
 
 // Where a search stands in the work area: the first free byte, and where its two lists of goals begin (0: none is left). Easy goals have
@@ -86,22 +90,18 @@ pub enum Plan {
     Bodies(usize),
 }
 
-// A goal of a list: the part of the pattern, its kind, its target, the next goal (0: none) and, of a goal to build, the argument's target.
-// All but the kind are positions in bytes; what stands in the work area is record numbers.
+// A goal of a list: the part of the pattern, where the target begins that its own is a part of, its target, the next goal (0: none) and the
+// argument's target (0: none). All are positions in bytes; what stands in the work area is record numbers, that of the target counted from
+// the origin on.
+//
+// Without an argument the part has to sweep to the target. A goal to build has one: its part has to sweep to an abstraction that uses its
+// local and comes to the target with the argument put in.
 pub struct StoredGoal {
     pub part: usize,
-    pub kind: u8,
+    pub origin: usize,
     pub target: usize,
     pub next: usize,
     pub argument: usize,
-}
-
-impl StoredGoal {
-    // The part sweeps to the target.
-    pub const MATCH: u8 = 0;
-
-    // The part sweeps to an abstraction that uses its local and comes to the target with the argument put in.
-    pub const BUILD: u8 = 1;
 }
 
 // The bytes of a goal in the work area.
@@ -110,13 +110,16 @@ pub const GOAL: usize = 8;
 // The most bytes of a target.
 pub const TARGET_BYTES: usize = RECORD * VALUE_RECORDS;
 
-// The goal that a part sweeps to a target.
-pub fn match_goal(part: usize, target: usize, next: usize) -> StoredGoal
-    ensures { λ r. ⌜ r ≡ storedMatch part target next ⌝ }
+// The bytes in front of a target, where the heights of its parts are kept.
+pub const HEIGHT_BYTES: usize = VALUE_RECORDS;
+
+// The goal that a part sweeps to a target, which is one that begins at `origin` or a part of it.
+pub fn match_goal(part: usize, origin: usize, target: usize, next: usize) -> StoredGoal
+    ensures { λ r. ⌜ r ≡ storedMatch part origin target next ⌝ }
 {
     StoredGoal {
         part,
-        kind: StoredGoal::MATCH,
+        origin,
         target,
         next,
         argument: 0,
@@ -124,12 +127,18 @@ pub fn match_goal(part: usize, target: usize, next: usize) -> StoredGoal
 }
 
 // The goal that a part builds a target from an argument's target.
-pub fn build_goal(part: usize, target: usize, next: usize, argument: usize) -> StoredGoal
-    ensures { λ r. ⌜ r ≡ storedBuild part target next argument ⌝ }
+pub fn build_goal(
+    part: usize,
+    origin: usize,
+    target: usize,
+    next: usize,
+    argument: usize,
+) -> StoredGoal
+    ensures { λ r. ⌜ r ≡ storedBuild part origin target next argument ⌝ }
 {
     StoredGoal {
         part,
-        kind: StoredGoal::BUILD,
+        origin,
         target,
         next,
         argument,
@@ -142,10 +151,11 @@ pub fn goal_at(work: &[u8], at: usize) -> StoredGoal
     ensures is { λ r. ⌜ StoredAt (now (work .entry)) at r ⌝ }
     ensures fits { λ r. ⌜ StoredFits r ⌝ }
 {
+    let origin = records::word_at(work, at + 2) * RECORD;
     StoredGoal {
         part: records::wide(work[at]) * RECORD,
-        kind: work[at + 1],
-        target: records::word_at(work, at + 2) * RECORD,
+        origin,
+        target: origin + records::wide(work[at + 1]) * RECORD,
         next: records::word_at(work, at + 4) * RECORD,
         argument: records::word_at(work, at + 6) * RECORD,
     }
@@ -157,15 +167,36 @@ pub fn put_goal(work: &mut [u8], at: usize, goal: StoredGoal)
     ensures { λ _. ⌜ now (work .exit) ≡ sets (now (work .entry)) at (storedBytes goal) ⌝ }
 {
     let part = goal.part / RECORD;
-    let target = goal.target / RECORD;
+    let distance = (goal.target - goal.origin) / RECORD;
+    let origin = goal.origin / RECORD;
     let next = goal.next / RECORD;
     let argument = goal.argument / RECORD;
     work[at] = (part % 256) as u8;
-    work[at + 1] = goal.kind;
-    work[at + 2] = (target / 256 % 256) as u8;
-    work[at + 3] = (target % 256) as u8;
+    work[at + 1] = (distance % 256) as u8;
+    work[at + 2] = (origin / 256 % 256) as u8;
+    work[at + 3] = (origin % 256) as u8;
     work[at + 4] = (next / 256 % 256) as u8;
     work[at + 5] = (next % 256) as u8;
     work[at + 6] = (argument / 256 % 256) as u8;
     work[at + 7] = (argument % 256) as u8;
+}
+
+// Keeps the heights of all parts of the target from byte `at` up to byte `end` in front of it, when its last record is written.
+pub fn keep_heights(work: &mut [u8], at: usize, end: usize)
+    requires { ⌜ WrittenTarget (now work) at end ⌝ }
+    ensures { λ _. ⌜ ((t : Term) → Part (now (work .entry)) at t
+        → now (work .exit) ≡ sets (now (work .entry)) (at - heightBytes) (heights t)) ⌝ }
+{
+    let mut heights = [0u8; VALUE_RECORDS];
+    heights::heights_into(&work[at..end], &mut heights);
+    let n = (end - at) / RECORD;
+    copying::copy_into(&heights[0..n], work, at - HEIGHT_BYTES);
+}
+
+// Where the heights of the goal's target are kept.
+pub fn heights_place(goal: StoredGoal) -> usize
+    requires { ⌜ (heightBytes ≤ goal .origin) × StoredFits goal ⌝ }
+    ensures { λ r. ⌜ r ≡ heightsPlace (goal .origin) (goal .target) ⌝ }
+{
+    goal.origin - HEIGHT_BYTES + (goal.target - goal.origin) / RECORD
 }

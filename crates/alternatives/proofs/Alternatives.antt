@@ -9,8 +9,8 @@ use native.Mathlib.Omega.{arith}
 use lib.ListN.{length, getD, take, drop, replicate, length-take}
 use lib.Seq.{sets}
 use Rattle.terms.specs.Figures.{variables, patternRecords, valueRecords, tableBytes}
-use Rattle.terms.specs.Term.{Term, app, size, shift}
-use Rattle.terms.specs.Table.{recordBytes, encode}
+use Rattle.terms.specs.Term.{Term, app, size, shift, Closed}
+use Rattle.terms.specs.Table.{encode}
 use Rattle.terms.specs.Listing.{Line}
 use Rattle.terms.specs.Refusal.{OccursIn}
 use Rattle.terms.specs.Heads.{rigid}
@@ -38,23 +38,25 @@ use Rattle.agenda.specs.declared.Branch.{Branch}
 use Rattle.agenda.specs.declared.StoredGoal.{StoredGoal}
 use Rattle.agenda.specs.declared.Skeleton.{Skeleton}
 use Rattle.agenda.specs.declared.Ways.{Ways}
-use Rattle.agenda.specs.Stored.{storedBytes, StoredAt}
-use Rattle.agenda.specs.State.{goalBytes, targetBytes, Target, State, Bounds, Easy, Deferred, Chain, relinking}
+use Rattle.agenda.specs.Stored.{storedBytes, StoredAt, StoredFits}
+use Rattle.agenda.specs.State.{goalBytes, targetBytes, HeightsBeside, Target, State, Bounds, Easy, Deferred, Chain, relinking}
 use Rattle.agenda.specs.Moves.{Move, Moved, Failed, Branched}
 use Rattle.abstractions.proofs.Depths.{depths-at, depth-written}
 use Rattle.abstractions.specs.Occurrences.{DepthSource, WroteDepths}
 use Rattle.arguments.specs.Ways.{Way, HasWays, HasDepths, HeadLacks, Fitting}
 use Rattle.deciding.specs.Refuting.{SkeletonSource, PartSkeleton}
-use Rattle.builds.specs.Builds.{Pushes, StoredPushed, afterStored}
+use Rattle.builds.specs.Builds.{Pushes, StoredPushed, afterStored, targetEnd}
+use Rattle.builds.proofs.Pushing.{pushed-state, pushed-falls, pushed-bounds}
 use Rattle.arguments.specs.Applications.{ApplicationDeferred, WaysCounted}
 use Rattle.agenda.specs.Stored.{storedMatch}
 use Rattle.agenda.specs.Locals.{Locals, Lacks}
 use Rattle.agenda.proofs.Lacking.{all-marks-at, locals-at, lacks-at}
-use Rattle.agenda.proofs.Frame.{Kept, part-kept, part-stored, target-kept, chain-kept, holds-kept, kept-sets, kept-then, length-stored}
+use Rattle.agenda.proofs.Frame.{Kept, target-kept, chain-kept, holds-kept, kept-sets, kept-then, length-stored}
 use Rattle.agenda.proofs.Frame.{goal-stored, chain-match}
+use Rattle.agenda.proofs.Targets.{beside-head, beside-argument}
 use Rattle.deciding.proofs.Refutations.{line-values, extended-values, source-at, skeleton-at}
 use Rattle.arguments.proofs.Applications.{argument-from, ApplicationSite, StoredBounds, MatchState, application-site, application-opened}
-use Rattle.arguments.proofs.Applications.{from-application}
+use Rattle.arguments.proofs.Applications.{from-application, fits-match}
 use Rattle.arguments.proofs.Applications.{stored-bounds, argument-whole-slice, way-failed, branch-next, branch-failed, stored-as}
 
 -- what is known before the ways are gone through
@@ -105,6 +107,29 @@ module _ (P W : List ℕ) (s : Agenda) (a : List Entry) (x : ApplicationDeferred
         let v = application-site P W s a r gs hs l f b t y z .target in
         depths-at W (r .target) 0 valueRecords 0 t (v .part) (omega (arith, v .short)) (omega (arith, v .short)))
 
+    -- the fields of the goals for the target's own parts fit
+    module _ (k : getD W (r .target) 0 ≡ 0) (i : StoredGoal) where
+      pub argument-goal-fits : (h e : ℕ) → Ends P (r .part + 4) h → Ends W (r .target + 4) e → i ≡ storedMatch h (r .origin) e (s .easy)
+          → StoredFits i
+      argument-goal-fits h e eh ee q = from-application P W s a x (StoredFits i) (λ gs hs l f b t z.
+          let g = application-site P W s a r gs hs l f b t y z .target in
+          let o = application W (r .target) t (g .part) k in
+          let n = ee .exact (o .f) (o .head) in
+          let bounds = x .ready .bounds in
+          fits-match i h (r .origin) e (s .easy) q (omega (arith, eh .within, bounds .short))
+          (omega (arith, g .heights .from, g .below, bounds .top)) (omega (arith, g .heights .from))
+          (omega (arith, g .heights .within, ap size (o .is), o .argument .some)) (omega (arith, bounds .easy-room, bounds .top)))
+
+      pub head-goal-fits : i ≡ storedMatch (r .part + 4) (r .origin) (r .target + 4) (s .top) → StoredFits i
+      head-goal-fits q = from-application P W s a x (StoredFits i) (λ gs hs l f b t z.
+          let g = application-site P W s a r gs hs l f b t y z .target in
+          let o = application W (r .target) t (g .part) k in
+          let n = stored-bounds P W s a x r y in
+          let bounds = x .ready .bounds in
+          fits-match i (r .part + 4) (r .origin) (r .target + 4) (s .top) q (omega (arith, n .part-low, bounds .short))
+          (omega (arith, g .heights .from, g .below, bounds .top)) (omega (arith, g .heights .from))
+          (omega (arith, g .heights .within, ap size (o .is), o .head .some)) (omega (arith, bounds .top)))
+
     pub no-parts : ¬ (getD W (r .target) 0 ≡ 0) → Failed relinking P W s a (Way 0) W
     no-parts k = way-failed P W s a x r y 0 W refl (λ f b t gs hs l φ v w p.
         alternative-no-parts φ f b t (λ q. k (kind-at W (r .target) t (v .target .part) ∙ q)) (p .1 .0))
@@ -118,23 +143,27 @@ at-way P W s a i j X r e x = subst (λ (n : ℕ). Branched P W s a (Way n) X r) 
 module _ (P W : List ℕ) (s : Agenda) (a : List Entry) (r : StoredGoal) (h e : ℕ) (Y X : List ℕ) (bounds : Bounds P W s)
     (eh : Ends P (r .part + 4) h) (ee : Ends W (r .target + 4) e)
     (y : StoredAt W (s .deferred) r) (n : StoredBounds P W s r)
-    (first : Y ≡ sets W (s .top) (storedBytes (storedMatch h e (s .easy))))
-    (second : X ≡ sets Y (s .top + goalBytes) (storedBytes (storedMatch (r .part + 4) (r .target + 4) (s .top))))
+    (first : Y ≡ sets W (s .top) (storedBytes (storedMatch h (r .origin) e (s .easy))))
+    (second : X ≡ sets Y (s .top + goalBytes) (storedBytes (storedMatch (r .part + 4) (r .origin) (r .target + 4) (s .top))))
   where
+    abbrev argument-goal : StoredGoal
+    argument-goal = storedMatch h (r .origin) e (s .easy)
+
+    abbrev head-goal : StoredGoal
+    head-goal = storedMatch (r .part + 4) (r .origin) (r .target + 4) (s .top)
+
     length-Y : length Y ≡ tableBytes
-    length-Y = length-stored (storedBytes (storedMatch h e (s .easy))) W Y (s .top) first ∙ bounds .whole
+    length-Y = length-stored (storedBytes argument-goal) W Y (s .top) first ∙ bounds .whole
 
     length-X : length X ≡ tableBytes
-    length-X = length-stored (storedBytes (storedMatch (r .part + 4) (r .target + 4) (s .top))) Y X (s .top + goalBytes) second ∙ length-Y
+    length-X = length-stored (storedBytes head-goal) Y X (s .top + goalBytes) second ∙ length-Y
 
     kept-first : Kept W Y (s .top)
-    kept-first = kept-sets (storedBytes (storedMatch h e (s .easy))) W Y (s .top) (s .top) first (omega arith)
-        (omega (arith, bounds .whole, bounds .top))
+    kept-first = kept-sets (storedBytes argument-goal) W Y (s .top) (s .top) first (omega arith) (omega (arith, bounds .whole, bounds .top))
 
     kept-second : Kept Y X (s .top + goalBytes)
-    kept-second = kept-sets (storedBytes (storedMatch (r .part + 4) (r .target + 4) (s .top))) Y X (s .top + goalBytes)
-        (s .top + goalBytes) second
-        (omega arith) (omega (arith, length-Y, n .room))
+    kept-second = kept-sets (storedBytes head-goal) Y X (s .top + goalBytes) (s .top + goalBytes) second (omega arith)
+        (omega (arith, length-Y, n .room))
 
     kept-all : Kept W X (s .top)
     kept-all = kept-then W Y X (s .top) (s .top + goalBytes) (omega arith) kept-first kept-second
@@ -152,7 +181,7 @@ module _ (P W : List ℕ) (s : Agenda) (a : List Entry) (r : StoredGoal) (h e : 
         let nh : h ≡ r .part + 4 + 4 * size f = eh .exact f (c .0) in
         let ne : e ≡ r .target + 4 + 4 * size t = ee .exact t (d .0) in
         let o = listable-parts variables (OccursIn P) f b t u (v .suits) in
-        let head : Target W (s .top) (size f) (r .target + 4) t = record {
+        let head : Target W (s .top) (size f) (r .origin) (r .target + 4) t = record {
           part = d .0;
           below = omega (arith, g .below);
           normal = g .normal .1;
@@ -160,8 +189,9 @@ module _ (P W : List ℕ) (s : Agenda) (a : List Entry) (r : StoredGoal) (h e : 
           few = omega (arith, g .few);
           closed = closed-more (patternRecords - size (app f b)) (patternRecords - size f) t (omega arith) (g .closed .0);
           short = omega (arith, g .short);
+          heights = beside-head W (r .origin) (r .target) (app t u) (g .heights) t u refl;
         } in
-        let argument : Target W (s .top) (size b) e u = record {
+        let argument : Target W (s .top) (size b) (r .origin) e u = record {
           part = argument-from W (r .target) e t u ee (g .part);
           below = omega (arith, g .below);
           normal = g .normal .2;
@@ -169,26 +199,26 @@ module _ (P W : List ℕ) (s : Agenda) (a : List Entry) (r : StoredGoal) (h e : 
           few = omega (arith, g .few);
           closed = closed-more (patternRecords - size (app f b)) (patternRecords - size b) u (omega arith) (g .closed .1);
           short = omega (arith, g .short);
+          heights = subst (λ (i : ℕ). HeightsBeside W (r .origin) i u) (sym ne)
+              (beside-argument W (r .origin) (r .target) (app t u) (g .heights) t u refl);
         } in
-        let one : StoredAt Y (s .top) (storedMatch h e (s .easy)) =
-        goal-stored W Y (s .top) (storedMatch h e (s .easy)) first (omega (arith, bounds .whole, n .room))
-        (omega (arith, v .part-even)) (omega (arith, v .target-even)) (bounds .easy-even) (omega arith) in
-        let two : StoredAt X (s .top + goalBytes) (storedMatch (r .part + 4) (r .target + 4) (s .top)) =
-        goal-stored Y X (s .top + goalBytes) (storedMatch (r .part + 4) (r .target + 4) (s .top)) second (omega (arith, length-Y, n .room))
-        (omega (arith, v .part-even)) (omega (arith, v .target-even)) (bounds .even) (omega arith) in
+        let one : StoredAt Y (s .top) argument-goal =
+        goal-stored W Y (s .top) argument-goal first (omega (arith, bounds .whole, n .room)) (omega (arith, v .part-even))
+        (v .origin-even) (omega (arith, g .heights .from)) (omega (arith, v .target-even)) (bounds .easy-even) refl in
+        let two : StoredAt X (s .top + goalBytes) head-goal =
+        goal-stored Y X (s .top + goalBytes) head-goal second (omega (arith, length-Y, n .room)) (omega (arith, v .part-even))
+        (v .origin-even) (omega (arith, g .heights .from)) (omega (arith, v .target-even)) (bounds .even) refl in
         let inner : Chain Easy P Y (s .top + goalBytes) (s .top) (match b u ∷ gs) =
-        chain-match Easy P Y (s .top + goalBytes) (s .top) (storedMatch h e (s .easy)) one (omega (arith, bounds .start)) (omega arith)
-        (bounds .even)
+        chain-match Easy P Y (s .top + goalBytes) (s .top) argument-goal one (omega (arith, bounds .start)) (omega arith) (bounds .even)
         (omega (arith, bounds .easy-room))
         b u gs refl tt (argument-from P (r .part) h f b eh (v .part))
-        (target-kept W Y (s .top) kept-first (s .top + goalBytes) (omega arith) (size b) e u argument) (o .1)
+        (target-kept W Y (s .top) kept-first (s .top + goalBytes) (omega arith) (size b) (r .origin) e u argument) (o .1)
         (chain-kept W Y (s .top) kept-first (s .top + goalBytes) (omega arith) P Easy (s .easy) gs (z .easy)) in
         record {
           easy = chain-match Easy P X (s .top + 2 * goalBytes) (s .top + goalBytes)
-              (storedMatch (r .part + 4) (r .target + 4) (s .top)) two (omega arith)
-              (omega arith) (omega (arith, bounds .even)) (omega arith)
+              head-goal two (omega arith) (omega arith) (omega (arith, bounds .even)) (omega arith)
               f t (match b u ∷ gs) refl tt (c .0)
-              (target-kept W X (s .top) kept-all (s .top + 2 * goalBytes) (omega arith) (size f) (r .target + 4) t head) (o .0)
+              (target-kept W X (s .top) kept-all (s .top + 2 * goalBytes) (omega arith) (size f) (r .origin) (r .target + 4) t head) (o .0)
               (chain-kept Y X (s .top + goalBytes) kept-second (s .top + 2 * goalBytes) (omega arith) P Easy (s .top)
               (match b u ∷ gs) inner);
           deferred = chain-kept W X (s .top) kept-all (s .top + 2 * goalBytes) (omega arith) P Deferred (r .next) hs
@@ -236,14 +266,14 @@ pub way-parts-pushed :
     (P W : List ℕ) (s : Agenda) (a : List Entry) (r : StoredGoal) (h e : ℕ) (Y X : List ℕ) (i j : StoredGoal)
     (x : ApplicationDeferred P W s a)
     → StoredAt W (s .deferred) r
-    → Ends P (r .part + 4) h → Ends W (r .target + 4) e → i ≡ storedMatch h e (s .easy)
-    → j ≡ storedMatch (r .part + 4) (r .target + 4) (s .top)
+    → Ends P (r .part + 4) h → Ends W (r .target + 4) e → i ≡ storedMatch h (r .origin) e (s .easy)
+    → j ≡ storedMatch (r .part + 4) (r .origin) (r .target + 4) (s .top)
     → Y ≡ sets W (s .top) (storedBytes i) → X ≡ sets Y (s .top + goalBytes) (storedBytes j) → getD W (r .target) 0 ≡ 0
     → Move relinking P W s a (Way 0) X (record { top = s .top + 2 * goalBytes; easy = s .top + goalBytes; deferred = r .next }) a
 way-parts-pushed P W s a r h e Y X i j x y eh ee p q first second =
     way-parts P W s a r h e Y X (x .ready .bounds) eh ee y (stored-bounds P W s a x r y)
-    (stored-as W Y (s .top) i (storedMatch h e (s .easy)) p first)
-    (stored-as Y X (s .top + goalBytes) j (storedMatch (r .part + 4) (r .target + 4) (s .top)) q second) x
+    (stored-as W Y (s .top) i (storedMatch h (r .origin) e (s .easy)) p first)
+    (stored-as Y X (s .top + goalBytes) j (storedMatch (r .part + 4) (r .origin) (r .target + 4) (s .top)) q second) x
 
 -- a head that lacks a local of the target is no abstraction over it
 pub constant-lacking : (P W : List ℕ) (s : Agenda) (a : List Entry) (w : Ways) → ApplicationDeferred P W s a → WaysCounted P W s a w
@@ -296,85 +326,52 @@ module _ (P W : List ℕ) (s : Agenda) (a : List Entry) (x : ApplicationDeferred
             (omega (arith, p .1));
       }
 
-  module _ (c : List ℕ) (w : Raised c) (i : StoredGoal) (ei : i ≡ storedMatch (r .part + 4) (r .target) (r .next)) where
-    pub constant-pushes : Pushes W s i c
-    constant-pushes = let n = stored-bounds P W s a x r y in rw ei (record {
-      whole = x .ready .bounds .whole;
-      room = omega (arith, n .room, w .short);
-      easy = omega (arith, x .ready .bounds .easy-room, x .ready .bounds .top);
-      part = omega (arith, n .part-low, x .ready .bounds .short);
-    })
+  module _ (c : List ℕ) (w : Raised c) where
+    abbrev dropped : StoredGoal
+    dropped = storedMatch (r .part + 4) (r .origin) (r .target) (r .next)
+
+    constant-below : (f b t : Term) → ApplicationSite P W s r f b t → (d : ℕ) → patternRecords - size (app f b) ≤ d → Closed d (constant t)
+    constant-below f b t v d h = constant-closed d t (closed-more (patternRecords - size (app f b)) d t h (v .target .closed))
+
+    room : Pushes W s dropped c
+    room = from-application P W s a x (Pushes W s dropped c) (λ gs hs l f b t z.
+        let v = application-site P W s a r gs hs l f b t y z in
+        let n = stored-bounds P W s a x r y in
+        let bounds = x .ready .bounds in
+        record {
+          whole = bounds .whole;
+          room = omega (arith, n .room, w .short);
+          even = bounds .even;
+          easy = omega (arith, bounds .easy-room, bounds .top);
+          easy-even = bounds .easy-even;
+          part = omega (arith, n .part-low, bounds .short);
+          part-even = omega (arith, v .part-even);
+          body = shift 1 0 t;
+          table = w .is f b t v;
+          few = omega (arith, v .target .short, size-shift 1 0 t);
+          closed = constant-below f b t v patternRecords (omega arith);
+        })
 
     -- the goal that it leaves
-    module _ (X : List ℕ) (q : X ≡ sets (sets W (s .top) (recordBytes 1 0 c)) (s .top + 4 + length c)
-        (storedBytes (storedMatch (r .part + 4) (s .top) (s .easy)))) where
-      abbrev at : ℕ
-      at = s .top + 4 + length c
-
-      abbrev X₁ : List ℕ
-      X₁ = sets W (s .top) (recordBytes 1 0 c)
-
-      abbrev next-stored : StoredGoal
-      next-stored = storedMatch (r .part + 4) (s .top) (s .easy)
-
+    module _ (X : List ℕ) (s′ : Agenda) (p : StoredPushed W s dropped c X s′) where
       abbrev last : Agenda
-      last = record { top = at + goalBytes; easy = at; deferred = r .next }
-
-      whole-X₁ : length X₁ ≡ tableBytes
-      whole-X₁ = length-stored (recordBytes 1 0 c) W X₁ (s .top) refl ∙ x .ready .bounds .whole
-
-      kept-target : Kept W X₁ (s .top)
-      kept-target =
-          kept-sets (recordBytes 1 0 c) W X₁ (s .top) (s .top) refl (omega arith)
-          (omega (arith, x .ready .bounds .whole, x .ready .bounds .top))
-
-      kept-goal : Kept X₁ X at
-      kept-goal =
-          kept-sets (storedBytes next-stored) X₁ X at at q (omega arith)
-          (omega (arith, whole-X₁, stored-bounds P W s a x r y .room, w .short))
-
-      kept-both : Kept W X (s .top)
-      kept-both = kept-then W X₁ X (s .top) at (omega arith) kept-target kept-goal
+      last = afterStored s dropped (targetEnd s c)
 
       constant-state :
           (gs hs : List Goal) (l : Line) (f b t : Term) → ApplicationSite P W s r f b t → MatchState P W s a gs l f b t hs
           → State 0 P X last a (match f (constant t) ∷ gs) hs l
       constant-state gs hs l f b t v z =
           let g = v .target in
-          let n = stored-bounds P W s a x r y in
-          let bounds = x .ready .bounds in
-          let k : length c ≡ 4 * size (shift 1 0 t) = ap length (w .is f b t v) ∙ encode-length (shift 1 0 t) in
-          let j : size (shift 1 0 t) ≡ size t = size-shift 1 0 t in
-          let u = application-parts P (r .part) f b (v .part) in
-          let written : Part X (s .top) (constant t) =
-          part-kept X₁ X at kept-goal (s .top) (constant t) (omega arith)
-          (subst (λ (d : List ℕ). Part (sets W (s .top) d) (s .top) (constant t)) (ap (recordBytes 1 0) (sym (w .is f b t v)))
-          (part-stored (constant t) W (s .top) (omega (arith, bounds .whole, n .room, g .short)))) in
-          let target : Target X (at + goalBytes) (size f) (s .top) (constant t) = record {
-            part = written;
-            below = omega arith;
+          pushed-state P W s dropped c X (x .ready .bounds) room s′ p (y .next) a (match (app f b) t) gs hs l f (shift 1 0 t) z
+          (w .is f b t v) (application-parts P (r .part) f b (v .part) .0)
+          (record {
             normal = constant-normal t (g .normal);
             ground = constant-ground t (g .ground);
             few = omega (arith, g .few);
-            closed = constant-closed (patternRecords - size f) t
-                (closed-more (patternRecords - size (app f b)) (patternRecords - size f) t (omega arith) (g .closed));
-            short = omega (arith, g .short);
-          } in
-          let stored-goal : StoredAt X at next-stored =
-          goal-stored X₁ X at next-stored q (omega (arith, whole-X₁, n .room, w .short)) (omega (arith, v .part-even)) (bounds .even)
-          (bounds .easy-even) refl in
-          record {
-            easy = chain-match Easy P X (at + goalBytes) at next-stored stored-goal (omega (arith, bounds .start)) (omega arith)
-                (omega (arith, bounds .even)) (omega (arith, bounds .easy-room))
-                f (constant t) gs refl tt (u .0) target (listable-constant variables (OccursIn P) f b t (v .suits))
-                (chain-kept W X (s .top) kept-both (at + goalBytes) (omega arith) P Easy (s .easy) gs (z .easy));
-            deferred = chain-kept W X (s .top) kept-both (at + goalBytes) (omega arith) P Deferred (r .next) hs
-                (subst (λ (i : ℕ). Chain Deferred P W (s .top) i hs) (sym (y .next)) (z .deferred .1));
-            entries = holds-kept W X (s .top) kept-both (at + goalBytes) (omega arith) a l (z .entries);
-            line = z .line;
-            assigns = z .assigns;
-            room = omega (arith, z .room, w .short);
-          }
+            closed = constant-below f b t v (patternRecords - size f) (omega arith);
+            short = omega (arith, g .short, size-shift 1 0 t);
+          })
+          (listable-constant variables (OccursIn P) f b t (v .suits)) (omega (arith, w .short))
 
       constant-move : Move relinking P W s a (Way 1) X last a
       constant-move = record {
@@ -385,36 +382,18 @@ module _ (P W : List ℕ) (s : Agenda) (a : List Entry) (x : ApplicationDeferred
           state = constant-state gs us l f b t (application-site P W s a r gs us l f b t y o) o;
           same = λ φ _. (λ p. ((p .1 .0, p .0), p .1 .1, p .2), λ p. (p .0 .1, (p .0 .0, p .1), p .2));
         }) hs z;
-        kept = kept-both .same;
+        kept = p .kept;
         higher = omega arith;
-        falls = omega (arith, x .ready .bounds .top, stored-bounds P W s a x r y .room, w .short);
-        bounds = from-application P W s a x (Bounds P X last) (λ gs hs l f b t z.
-            let v = application-site P W s a r gs hs l f b t y z in
-            let n = stored-bounds P W s a x r y in
-            let bounds = x .ready .bounds in
-            let k : length c ≡ 4 * size (shift 1 0 t) = ap length (w .is f b t v) ∙ encode-length (shift 1 0 t) in
-            record {
-              whole = length-stored (storedBytes next-stored) X₁ X at q ∙ whole-X₁;
-              short = bounds .short;
-              top = omega (arith, n .room, w .short);
-              start = omega (arith, bounds .start);
-              even = omega (arith, bounds .even);
-              easy-room = omega arith;
-              easy-even = omega (arith, bounds .even);
-              deferred-room = omega (arith, n .next, bounds .deferred-room);
-              deferred-even = v .next-even;
-            });
+        falls = pushed-falls P W s dropped c X (x .ready .bounds) room s′ p (y .next);
+        bounds = pushed-bounds P W s dropped c X (x .ready .bounds) room s′ p (y .next) (stored-bounds P W s a x r y .next);
       }
 
-    pub constant-pushed : (X : List ℕ) (s′ : Agenda) → StoredPushed W s i c X s′ → Branched P W s a (Way 1) X (Branch.Next s′)
-    constant-pushed X s′ g =
-        let q : X ≡ sets (sets W (s .top) (recordBytes 1 0 c)) (s .top + 4 + length c)
-        (storedBytes (storedMatch (r .part + 4) (s .top) (s .easy))) =
-        g .stored ∙ ap
-        (λ (k : StoredGoal). sets (sets W (s .top) (recordBytes 1 0 c)) (s .top + 4 + length c)
-        (storedBytes (storedMatch (k .part) (s .top) (s .easy)))) ei in
-        let e : s′ ≡ afterStored s (storedMatch (r .part + 4) (r .target) (r .next)) (s .top + 4 + length c) =
-        g .agenda ∙ ap (λ (k : StoredGoal). afterStored s k (s .top + 4 + length c)) ei in
-        subst (λ (o : Agenda). Branched P W s a (Way 1) X (Branch.Next o)) (sym e)
-        (branch-next P W s a (Way 1) X (afterStored s (storedMatch (r .part + 4) (r .target) (r .next)) (s .top + 4 + length c))
-        (constant-move X q))
+    module _ (i : StoredGoal) (e : i ≡ storedMatch (r .part + 4) (r .origin) (r .target) (r .next)) where
+      pub constant-pushes : Pushes W s i c
+      constant-pushes = subst (λ (k : StoredGoal). Pushes W s k c) (sym e) room
+
+      pub constant-pushed : (X : List ℕ) (s′ : Agenda) → StoredPushed W s i c X s′ → Branched P W s a (Way 1) X (Branch.Next s′)
+      constant-pushed X s′ g =
+          let p = subst (λ (k : StoredGoal). StoredPushed W s k c X s′) e g in
+          subst (λ (o : Agenda). Branched P W s a (Way 1) X (Branch.Next o)) (sym (p .agenda))
+          (branch-next P W s a (Way 1) X (afterStored s dropped (targetEnd s c)) (constant-move X s′ p))

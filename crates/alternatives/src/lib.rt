@@ -69,12 +69,12 @@ fn split(pattern: &[u8], work: &mut [u8], agenda: Agenda, entries: [Entry; VARIA
     agenda::put_goal(
         work,
         agenda.top,
-        agenda::match_goal(argument, end, agenda.easy),
+        agenda::match_goal(argument, goal.origin, end, agenda.easy),
     );
     agenda::put_goal(
         work,
         agenda.top + GOAL,
-        agenda::match_goal(goal.part + RECORD, target + RECORD, agenda.top),
+        agenda::match_goal(goal.part + RECORD, goal.origin, target + RECORD, agenda.top),
     );
     Branch::Next(Agenda {
         top: agenda.top + 2 * GOAL,
@@ -103,7 +103,7 @@ fn constant_head(
     let target = goal.target;
     let moved = substitution::shift_into(&work[target..], 1, 0, &mut b, 0);
     let n = moved.end;
-    let head = agenda::match_goal(goal.part + RECORD, goal.target, goal.next);
+    let head = agenda::match_goal(goal.part + RECORD, goal.origin, goal.target, goal.next);
     Branch::Next(builds::push_abstraction(work, agenda, head, &b[0..n]))
 }
 

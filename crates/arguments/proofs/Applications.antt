@@ -2,9 +2,9 @@
 -- where they stood. A goal's weight covers what is written, since the parts of the application weigh less than it does. Assumes nothing.
 --   ApplicationSite P W s r f b t   the stored goal r, first of those deferred, is the goal that the application of f and b sweeps to t
 --   StoredBounds P W s r            what reading that goal and writing at the top needs
-use mathlib.Core.Path.{_≡_, sym, ap, _∙_, subst}
+use mathlib.Core.Path.{_≡_, sym, ap, _∙_, subst, subst₂}
 use mathlib.Core.List.{List, [], _∷_}
-use Prim.Native.Nat.{ℕ, _+_, _-_, _*_, _%_, _<_, _≤_}
+use Prim.Native.Nat.{ℕ, _+_, _*_, _%_, _<_, _≤_}
 use native.Mathlib.Omega.{arith}
 use lib.ListN.{length, take}
 use lib.Seq.{sets}
@@ -37,10 +37,11 @@ argument-from l at h f b e x =
 
 pub record ApplicationSite (P W : List ℕ) (s : Agenda) (r : StoredGoal) (f b t : Term) : Type 0 where
   pub part : Part P (r .part) (app f b)
-  pub target : Target W (s .top) (size (app f b)) (r .target) t
+  pub target : Target W (s .top) (size (app f b)) (r .origin) (r .target) t
   pub suits : Listable variables (OccursIn P) (match (app f b) t)
   pub next : r .next < s .deferred
   pub part-even : r .part % 4 ≡ 0
+  pub origin-even : r .origin % 4 ≡ 0
   pub target-even : r .target % 4 ≡ 0
   pub next-even : r .next % 4 ≡ 0
 
@@ -50,7 +51,7 @@ pub record StoredBounds (P W : List ℕ) (s : Agenda) (r : StoredGoal) : Type 0 
   pub target-low : r .target + 4 ≤ s .top
   pub part-low : r .part + 12 ≤ length P
   pub next : r .next < s .deferred
-  pub room : s .top + 5744 ≤ tableBytes
+  pub room : s .top + 5832 ≤ tableBytes
 
 module _ (P W : List ℕ) (s : Agenda) (a : List Entry) where
   abbrev pub MatchState : List Goal → Line → Term → Term → Term → List Goal → Type 0
@@ -63,10 +64,11 @@ module _ (P W : List ℕ) (s : Agenda) (a : List Entry) where
       let n = x .deferred .0 in
       record {
         part = subst (λ (i : ℕ). Part P i (app f b)) (sym (y .part)) (n .goal .part);
-        target = subst (λ (i : ℕ). Target W (s .top) (size (app f b)) i t) (sym (y .target)) (n .goal .target);
+        target = subst₂ (λ (i k : ℕ). Target W (s .top) (size (app f b)) i k t) (sym (y .origin)) (sym (y .target)) (n .goal .target);
         suits = n .goal .suits;
         next = omega (arith, y .next, n .falls);
         part-even = omega (arith, y .part);
+        origin-even = omega (arith, y .origin);
         target-even = omega (arith, y .target);
         next-even = omega (arith, y .next);
       }
@@ -83,7 +85,7 @@ module _ (P W : List ℕ) (s : Agenda) (a : List Entry) where
     application-opened gs l Q h (match (loc n) t ∷ hs) y = absurd (y .deferred .0 .kind)
     application-opened gs l Q h (match (con n) t ∷ hs) y = absurd (y .deferred .0 .kind)
     application-opened gs l Q h (match (var n) t ∷ hs) y = absurd (y .deferred .0 .kind)
-    application-opened gs l Q h (build f t e ∷ hs) y = absurd (omega (arith, x .kind, y .deferred .0 .goal .kind))
+    application-opened gs l Q h (build f t e ∷ hs) y = absurd (y .deferred .0 .goal .kind (x .kind))
 
     -- the state that a way starts from
     pub from-application : (A : Type 0) → ((gs hs : List Goal) (l : Line) (f b t : Term) → MatchState gs l f b t hs → A) → A
@@ -157,10 +159,12 @@ pub fits-as : (i j : StoredGoal) → i ≡ j → StoredFits j → StoredFits i
 fits-as i j p x = subst StoredFits (sym p) x
 
 pub fits-build :
-    (i : StoredGoal) (part target next argument : ℕ) → i ≡ storedBuild part target next argument → part < partLimit → target < 4 * numbers
-    → next < 4 * numbers → argument < 4 * numbers → StoredFits i
-fits-build i part target next argument p x y z w = rw p (record { part = x; target = y; next = z; argument = w })
+    (i : StoredGoal) (part origin target next argument : ℕ) → i ≡ storedBuild part origin target next argument → part < partLimit
+    → origin < 4 * numbers → origin ≤ target → target < origin + partLimit → next < 4 * numbers → argument < 4 * numbers → StoredFits i
+fits-build i part origin target next argument p x o f y z w =
+    rw p (record { part = x; origin = o; from = f; near = y; next = z; argument = w })
 
-pub fits-match : (i : StoredGoal) (part target next : ℕ) → i ≡ storedMatch part target next → part < partLimit → target < 4 * numbers
-    → next < 4 * numbers → StoredFits i
-fits-match i part target next p x y z = rw p (record { part = x; target = y; next = z; argument = omega arith })
+pub fits-match :
+    (i : StoredGoal) (part origin target next : ℕ) → i ≡ storedMatch part origin target next → part < partLimit → origin < 4 * numbers
+    → origin ≤ target → target < origin + partLimit → next < 4 * numbers → StoredFits i
+fits-match i part origin target next p x o f y z = fits-build i part origin target next 0 p x o f y z (omega arith)

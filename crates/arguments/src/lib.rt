@@ -3,7 +3,7 @@
 // One of the ways in which such an application comes to its target: its argument sweeps to one of the target's parts, moved out of the
 // binders above it, and its head builds the target from that. The crate tries one part of the target. It promises that the agenda it leaves
 // has exactly the assignments of that way, or that there are none. Its definitions say what the ways are, and what is known of an
-// application before they are gone through. It rests on `agenda` for goals, heads and locals, on `shifting` to move a part out of
+// application before they are gone through. It rests on `agenda` for goals, heights, heads and locals, on `shifting` to move a part out of
 // binders, on `abstractions` for what occurs earlier, on `skeletons` for what the argument may be, and on `matching` for why that is all.
 //
 // Of parts that give the same argument the first one counts. A part whose head differs from a rigid argument's is passed over before
@@ -12,6 +12,7 @@
 use agenda::Agenda;
 use agenda::Branch;
 use agenda::GOAL;
+use agenda::HEIGHT_BYTES;
 use agenda::StoredGoal;
 use agenda::TARGET_BYTES;
 use agenda::Ways;
@@ -25,8 +26,8 @@ ghost use Rattle.arguments.specs.Applications.{ApplicationDeferred, Ways
 ghost use Rattle.arguments.specs.Ways.{Way};
 ghost use Rattle.agenda.specs.Moves.{Branched};
 
-// Writes the j-th part of the term at byte `at`, moved out of the `depth` binders above it, from byte `top` on, and gives its end; or No
-// where it uses one of those binders.
+// Writes the j-th part of the term at byte `at`, moved out of the `depth` binders above it, as a target with its heights from byte `top`
+// on, and gives its end; or No where it uses one of those binders.
 fn place_argument(work: &mut [u8], top: usize, at: usize, j: usize, depth: usize) -> Walk
     requires { ⌜ ArgumentPlace (now work) top at j × DepthOf (now work) at j depth ⌝ }
     ensures { λ r. ⌜ Placed (now (work .entry)) top at j (now (work .exit)) r ⌝ }
@@ -37,12 +38,15 @@ fn place_argument(work: &mut [u8], top: usize, at: usize, j: usize, depth: usize
     let Walk::Upto(n) = moved else {
         return Walk::No;
     };
-    copying::copy_into(&e[0..n], work, top);
-    Walk::Upto(top + n)
+    let target = top + HEIGHT_BYTES;
+    copying::copy_into(&e[0..n], work, target);
+    let end = target + n;
+    agenda::keep_heights(work, target, end);
+    Walk::Upto(end)
 }
 
-// Writes two goals from byte `end` on: that the goal's head builds its target from what stands at the top, and that its argument, at byte
-// `argument` of the pattern, sweeps to that.
+// Writes two goals from byte `end` on: that the goal's head builds its target from the target that was placed at the top, and that its
+// argument, at byte `argument` of the pattern, sweeps to that.
 fn push_argument(
     work: &mut [u8],
     agenda: Agenda,
@@ -53,9 +57,11 @@ fn push_argument(
     requires { ⌜ ArgumentRoom (now work) agenda goal argument end ⌝ }
     ensures { λ r. ⌜ ArgumentPushed (now (work .entry)) agenda goal argument end (now (work .exit)) r ⌝ }
 {
-    let built = agenda::build_goal(goal.part + RECORD, goal.target, goal.next, agenda.top);
+    let found = agenda.top + HEIGHT_BYTES;
+    let head = goal.part + RECORD;
+    let built = agenda::build_goal(head, goal.origin, goal.target, goal.next, found);
     agenda::put_goal(work, end, built);
-    let swept = agenda::match_goal(argument, agenda.top, agenda.easy);
+    let swept = agenda::match_goal(argument, found, found, agenda.easy);
     agenda::put_goal(work, end + GOAL, swept);
     Agenda {
         top: end + 2 * GOAL,
@@ -96,15 +102,16 @@ pub fn find_argument(
     let bytes = skeleton.bytes;
     let n = skeleton.length;
     let top = agenda.top;
-    if !skeletons::may_be(&bytes[0..n], &work[top..]) {
+    let found = top + HEIGHT_BYTES;
+    if !skeletons::may_be(&bytes[0..n], &work[found..], &work[top..]) {
         return Branch::Failed;
     }
-    if abstractions::occurs_before(&work[target..], j, &work[top..]) {
+    if abstractions::occurs_before(&work[target..], j, &work[found..]) {
         return Branch::Failed;
     }
     let head = goal.part + RECORD;
     if ways.lacking {
-        if agenda::locals::misses_local(&pattern[head..], &work[target..], &work[top..]) {
+        if agenda::locals::misses_local(&pattern[head..], &work[target..], &work[found..]) {
             return Branch::Failed;
         }
     }

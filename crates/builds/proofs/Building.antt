@@ -3,8 +3,8 @@
 --   BuildSite P W s r f t e   the stored goal r, first of those deferred, is the goal to build f's body from t and e
 --   Bodied P W s r m b        b is the table of the body that the choices m give
 --   UsesTold P W s r m u      u says whether that body uses its local
---   Facts .. gs hs f t e      what writing the abstraction over it needs to know
-use mathlib.Core.Path.{_≡_, refl, sym, ap, _∙_, subst}
+--   Facts .. f t e            what writing the abstraction over it needs to know
+use mathlib.Core.Path.{_≡_, refl, sym, ap, _∙_, subst, subst₂}
 use mathlib.Core.Bool.{Bool, true, false}
 use mathlib.Core.Logic.{_↔_}
 use mathlib.Core.List.{List, [], _∷_}
@@ -15,8 +15,8 @@ use lib.ListN.{length, getD, take, drop}
 use lib.Seq.{sets}
 use borrow.Author.Tests.{lt-ltb, ltb-true}
 use Rattle.terms.specs.Figures.{variables, patternRecords, valueRecords, tableBytes}
-use Rattle.terms.specs.Term.{Term, lam, size, uses, isEta, shift}
-use Rattle.terms.specs.Table.{recordBytes, encode}
+use Rattle.terms.specs.Term.{Term, lam, size, uses, isEta, shift, Closed}
+use Rattle.terms.specs.Table.{encode}
 use Rattle.terms.specs.Listing.{Line}
 use Rattle.terms.specs.Refusal.{OccursIn}
 use Rattle.terms.proofs.Table.{encode-length}
@@ -39,19 +39,18 @@ use Rattle.abstractions.proofs.Bodies.{choosing-at, body-exact-at, body-bytes-a
 use Rattle.agenda.specs.declared.Agenda.{Agenda}
 use Rattle.agenda.specs.declared.Branch.{Branch}
 use Rattle.agenda.specs.declared.StoredGoal.{StoredGoal}
-use Rattle.agenda.specs.Stored.{storedBytes, StoredAt, StoredFits, storedMatch}
-use Rattle.agenda.specs.State.{goalBytes, recordWeight, targetBytes, Target, State, Bounds, Ready}
-use Rattle.agenda.specs.State.{Easy, Deferred, Chain, weights, relinking}
-use Rattle.agenda.specs.Moves.{Move, Moved, Failed, Branched, progress}
+use Rattle.agenda.specs.Stored.{StoredAt, StoredFits}
+use Rattle.agenda.specs.State.{targetBytes, Target, State, Bounds, Ready, relinking}
+use Rattle.agenda.specs.Moves.{Move, Moved, Failed, Branched}
 use Rattle.builds.specs.Choices.{ChosenBody}
-use Rattle.builds.specs.Builds.{Builds, AnyChosen, Pushes, StoredPushed, afterStored}
-use Rattle.agenda.proofs.Frame.{Kept, part-kept, chain-kept, holds-kept, kept-sets, kept-then, length-stored, part-stored, goal-stored}
-use Rattle.agenda.proofs.Frame.{chain-match}
+use Rattle.builds.specs.Builds.{Builds, AnyChosen, Pushes, Suitable, StoredPushed, afterStored, targetEnd}
+use Rattle.agenda.proofs.Frame.{length-stored}
+use Rattle.builds.proofs.Pushing.{pushed-state, pushed-falls, pushed-bounds}
 
 pub record BuildSite (P W : List ℕ) (s : Agenda) (r : StoredGoal) (f t e : Term) : Type 0 where
   pub part : Part P (r .part) f
-  pub target : Target W (s .top) (suc (size f)) (r .target) t
-  pub argument : Target W (s .top) (suc (size f)) (r .argument) e
+  pub target : Target W (s .top) (suc (size f)) (r .origin) (r .target) t
+  pub argument : Target W (s .top) (suc (size f)) (r .argument) (r .argument) e
   pub suits : Listable variables (OccursIn P) (build f t e)
   pub next : r .next < s .deferred
   pub part-even : r .part % 4 ≡ 0
@@ -87,8 +86,8 @@ module _ (P W : List ℕ) (s : Agenda) (a : List Entry) where
       let n = x .deferred .0 in
       record {
         part = subst (λ (i : ℕ). Part P i f) (sym (y .part)) (n .goal .part);
-        target = subst (λ (i : ℕ). Target W (s .top) (suc (size f)) i t) (sym (y .target)) (n .goal .target);
-        argument = subst (λ (i : ℕ). Target W (s .top) (suc (size f)) i e) (sym (y .argument)) (n .goal .argument);
+        target = subst₂ (λ (o i : ℕ). Target W (s .top) (suc (size f)) o i t) (sym (y .origin)) (sym (y .target)) (n .goal .target);
+        argument = subst (λ (i : ℕ). Target W (s .top) (suc (size f)) i i e) (sym (y .argument)) (n .goal .argument);
         suits = n .goal .suits;
         next = omega (arith, y .next, n .falls);
         part-even = omega (arith, y .part);
@@ -207,19 +206,44 @@ module _ (P W : List ℕ) (s : Agenda) (a : List Entry) where
             ap length (w .is f t e v) ∙ encode-length (body e 0 t (chosenIn m) 0) in
             omega (arith, body-size e 0 t (chosenIn m) 0, v .target .short, v .part .some)
 
+        body-below : (f t e : Term) → BuildSite P W s r f t e → (d : ℕ) → patternRecords - suc (size f) ≤ d
+            → Closed d (lam (body e 0 t (chosenIn m) 0))
+        body-below f t e v d h =
+            closed-more (suc (patternRecords - suc (size f))) (suc d) (body e 0 t (chosenIn m) 0) (omega arith)
+            (body-closed e 0 t (chosenIn m) 0 (patternRecords - suc (size f)) (omega arith) (v .target .closed))
+
         pub body-tree : Tree b × (length b ≤ tableBytes)
         body-tree = from-build (Tree b × (length b ≤ tableBytes)) (λ gs hs l f t e z.
             let v = build-site r gs hs l f t e y z in
             (tree b (body e 0 t (chosenIn m) 0) (w .is f t e v), omega (arith, body-short f t e v)))
 
+        suitable : (f t e : Term) → BuildSite P W s r f t e → isEta (body e 0 t (chosenIn m) 0) ≡ false
+            → Suitable (size f) (lam (body e 0 t (chosenIn m) 0))
+        suitable f t e v no-eta =
+            let u = v .target in
+            record {
+              normal = body-normal e t (chosenIn m) (u .normal) no-eta;
+              ground = body-ground e 0 t (chosenIn m) 0 (u .ground);
+              few = omega (arith, u .few);
+              closed = body-below f t e v (patternRecords - size f) (omega (arith, u .few));
+              short = omega (arith, u .short, body-size e 0 t (chosenIn m) 0);
+            }
+
         pub pushes : StoredFits r → Pushes W s r b
         pushes o = from-build (Pushes W s r b) (λ gs hs l f t e z.
-            let v = body-short f t e (build-site r gs hs l f t e y z) in
+            let v = build-site r gs hs l f t e y z in
             record {
               whole = ready .bounds .whole;
-              room = omega (arith, z .room, v);
+              room = omega (arith, z .room, body-short f t e v);
+              even = ready .bounds .even;
               easy = omega (arith, ready .bounds .easy-room, ready .bounds .top);
+              easy-even = ready .bounds .easy-even;
               part = o .part;
+              part-even = v .part-even;
+              body = body e 0 t (chosenIn m) 0;
+              table = w .is f t e v;
+              few = omega (arith, v .target .short, body-size e 0 t (chosenIn m) 0);
+              closed = body-below f t e v patternRecords (omega arith);
             })
 
         pub eta : (W′ : List ℕ) → W′ ≡ W → (u : Bool) → Equals b isEta u → u ≡ true → Branched P W s a (ChosenBody m) W′ Branch.Failed
@@ -228,168 +252,54 @@ module _ (P W : List ℕ) (s : Agenda) (a : List Entry) where
             body-eta φ f e t (chosenIn m) (v .target .normal) (sym (h (body e 0 t (chosenIn m) 0) (w .is f t e v)) ∙ n) (p .0))
 
 -- the abstraction over the body is the target of the head
-module _ (P W : List ℕ) (s : Agenda) (r : StoredGoal) (f t e : Term) (m b X : List ℕ) (bounds : Bounds P W s) (v : BuildSite P W s r f t e)
-    (q : X ≡ sets (sets W (s .top) (recordBytes 1 0 b)) (s .top + 4 + length b) (storedBytes (storedMatch (r .part) (s .top) (s .easy))))
-    (w : b ≡ encode (body e 0 t (chosenIn m) 0)) (room : s .top + 4 + goalBytes + length b ≤ tableBytes)
-    (no-eta : isEta (body e 0 t (chosenIn m) 0) ≡ false)
-  where
-    abbrev B : Term
-    B = body e 0 t (chosenIn m) 0
-
-    abbrev at : ℕ
-    at = s .top + 4 + length b
-
-    abbrev X₁ : List ℕ
-    X₁ = sets W (s .top) (recordBytes 1 0 b)
-
-    size-body : length b ≡ 4 * size B
-    size-body = ap length w ∙ encode-length B
-
-    length-X₁ : length X₁ ≡ tableBytes
-    length-X₁ = length-stored (recordBytes 1 0 b) W X₁ (s .top) refl ∙ bounds .whole
-
-    kept-first : Kept W X₁ (s .top)
-    kept-first = kept-sets (recordBytes 1 0 b) W X₁ (s .top) (s .top) refl (omega arith) (omega (arith, bounds .whole, room))
-
-    kept-second : Kept X₁ X at
-    kept-second = kept-sets (storedBytes (storedMatch (r .part) (s .top) (s .easy))) X₁ X at at q (omega arith)
-        (omega (arith, length-X₁, room))
-
-    pub kept-all : Kept W X (s .top)
-    kept-all = kept-then W X₁ X (s .top) at (omega arith) kept-first kept-second
-
-    pub length-X : length X ≡ tableBytes
-    length-X = length-stored (storedBytes (storedMatch (r .part) (s .top) (s .easy))) X₁ X at q ∙ length-X₁
-
-    written : Part X (s .top) (lam B)
-    written =
-        part-kept X₁ X at kept-second (s .top) (lam B) (omega (arith, size-body))
-        (subst (λ (y : List ℕ). Part (sets W (s .top) y) (s .top) (lam B)) (ap (recordBytes 1 0) (sym w))
-        (part-stored (lam B) W (s .top) (omega (arith, size-body, bounds .whole, room))))
-
-    target : Target X (at + goalBytes) (size f) (s .top) (lam B)
-    target =
-        let u = v .target in
-        record {
-          part = written;
-          below = omega (arith, size-body);
-          normal = body-normal e t (chosenIn m) (u .normal) no-eta;
-          ground = body-ground e 0 t (chosenIn m) 0 (u .ground);
-          few = omega (arith, u .few);
-          closed = closed-more (suc (patternRecords - suc (size f))) (suc (patternRecords - size f)) B (omega arith)
-              (body-closed e 0 t (chosenIn m) 0 (patternRecords - suc (size f)) (omega arith) (u .closed));
-          short = omega (arith, u .short, body-size e 0 t (chosenIn m) 0);
-        }
-
-    stored-goal : StoredAt X at (storedMatch (r .part) (s .top) (s .easy))
-    stored-goal = goal-stored X₁ X at (storedMatch (r .part) (s .top) (s .easy)) q (omega (arith, length-X₁, room)) (v .part-even)
-        (bounds .even)
-        (bounds .easy-even) refl
-
-    pub chain-pushed : (gs : List Goal) → Chain Easy P W (s .top) (s .easy) gs → Chain Easy P X (at + goalBytes) at (match f (lam B) ∷ gs)
-    chain-pushed gs c =
-        chain-match Easy P X (at + goalBytes) at (storedMatch (r .part) (s .top) (s .easy)) stored-goal (omega (arith, bounds .start))
-        (omega arith)
-        (omega (arith, bounds .even, size-body))
-        (omega (arith, bounds .easy-room)) f (lam B) gs refl tt (v .part) target
-        (listable-chosen variables (OccursIn P) f t e (chosenIn m) (v .suits) no-eta)
-        (chain-kept W X (s .top) kept-all (at + goalBytes) (omega arith) P Easy (s .easy) gs c)
-
-    pub bounds-pushed : Bounds P X (afterStored s r at)
-    bounds-pushed = record {
-      whole = length-X;
-      short = bounds .short;
-      top = omega (arith, room);
-      start = omega arith;
-      even = omega (arith, bounds .even, size-body);
-      easy-room = omega arith;
-      easy-even = omega (arith, bounds .even, size-body);
-      deferred-room = omega (arith, v .next, bounds .deferred-room);
-      deferred-even = v .next-even;
-    }
-
 module _ (P W : List ℕ) (s : Agenda) (a : List Entry) (ready : Ready relinking P W s a) (x : Builds W s) (r : StoredGoal)
-    (y : StoredAt W (s .deferred) r) (m b : List ℕ) (w : Bodied P W s r m b) (X : List ℕ)
-    (i j : Bool) (used : UsesTold P W s r m i) (no-eta : Equals b isEta j) (is-used : i ≡ true) (is-none : j ≡ false)
-    (q : X ≡ sets (sets W (s .top) (recordBytes 1 0 b)) (s .top + 4 + length b) (storedBytes (storedMatch (r .part) (s .top) (s .easy))))
+    (y : StoredAt W (s .deferred) r) (m b : List ℕ) (w : Bodied P W s r m b) (i j : Bool) (used : UsesTold P W s r m i)
+    (no-eta : Equals b isEta j) (is-used : i ≡ true) (is-none : j ≡ false) (o : StoredFits r) (X : List ℕ) (s′ : Agenda)
+    (p : StoredPushed W s r b X s′)
   where
-    abbrev last : Agenda
-    last = afterStored s r (s .top + 4 + length b)
-
     -- what holds of the goal, however it is read
-    pub record Facts (gs hs : List Goal) (f t e : Term) : Type 0 where
+    pub record Facts (f t e : Term) : Type 0 where
       pub site : BuildSite P W s r f t e
       pub is : b ≡ encode (body e 0 t (chosenIn m) 0)
       pub uses-local : uses 0 (body e 0 t (chosenIn m) 0) ≡ true
       pub normal : isEta (body e 0 t (chosenIn m) 0) ≡ false
-      pub room : s .top + 4 + length b + goalBytes + (goalBytes + recordWeight * size f + weights goalBytes gs) + weights 0 hs ≤ tableBytes
-      pub within : s .top + 4 + goalBytes + length b ≤ tableBytes
 
-    facts : (gs hs : List Goal) (l : Line) (f t e : Term) → BuildState P W s a gs l f t e hs → Facts gs hs f t e
+    facts : (gs hs : List Goal) (l : Line) (f t e : Term) → BuildState P W s a gs l f t e hs → Facts f t e
     facts gs hs l f t e z =
         let v = build-site P W s a r gs hs l f t e y z in
-        let p = w .is f t e v in
-        let n = body-short P W s a ready x r y m b w f t e v in
+        let q = w .is f t e v in
         record {
           site = v;
-          is = p;
+          is = q;
           uses-local = sym (used .is f t e v) ∙ is-used;
-          normal = sym (no-eta (body e 0 t (chosenIn m) 0) p) ∙ is-none;
-          room = omega (arith, z .room, n);
-          within = omega (arith, z .room, n);
+          normal = sym (no-eta (body e 0 t (chosenIn m) 0) q) ∙ is-none;
         }
 
-    move : Move relinking P W s a (ChosenBody m) X last a
+    room : Pushes W s r b
+    room = pushes P W s a ready x r y m b w o
+
+    move : Move relinking P W s a (ChosenBody m) X (afterStored s r (targetEnd s b)) a
     move = record {
-      go = λ gs hs l. build-opened P W s a ready x gs l (λ us. Moved P X last a (ChosenBody m gs us l)) (λ f t e us z.
+      go = λ gs hs l. build-opened P W s a ready x gs l (λ us. Moved P X (afterStored s r (targetEnd s b)) a (ChosenBody m gs us l))
+          (λ f t e us z.
           let n = facts gs us l f t e z in
-          let k = kept-all P W s r f t e m b X (ready .bounds) (n .site) q (n .is) (n .within) (n .normal) in
           record {
             gs = match f (lam (body e 0 t (chosenIn m) 0)) ∷ gs;
             hs = us;
             line = l;
-            state = record {
-              easy = chain-pushed P W s r f t e m b X (ready .bounds) (n .site) q (n .is) (n .within) (n .normal) gs (z .easy);
-              deferred = chain-kept W X (s .top) k (last .top) (omega arith) P Deferred (r .next) us
-                  (subst (λ (i : ℕ). Chain Deferred P W (s .top) i us) (sym (y .next)) (z .deferred .1));
-              entries = holds-kept W X (s .top) k (last .top) (omega arith) a l (z .entries);
-              line = z .line;
-              assigns = z .assigns;
-              room = n .room;
-            };
+            state = pushed-state P W s r b X (ready .bounds) room s′ p (y .next) a (build f t e) gs us l f (body e 0 t (chosenIn m) 0) z
+                (n .is) (n .site .part) (suitable P W s a ready x r y m b w f t e (n .site) (n .normal))
+                (listable-chosen variables (OccursIn P) f t e (chosenIn m) (n .site .suits) (n .normal))
+                (omega (arith, body-short P W s a ready x r y m b w f t e (n .site)));
             same = λ φ v. (λ o. ((o .1 .0 .0, o .0), o .1 .1, o .2), λ o. (o .0 .1, ((o .0 .0, n .uses-local), o .1), o .2));
           }) hs;
-      kept = from-build P W s a ready x (take (s .top) X ≡ take (s .top) W) (λ gs hs l f t e z.
-          let n = facts gs hs l f t e z in
-          kept-all P W s r f t e m b X (ready .bounds) (n .site) q (n .is) (n .within) (n .normal) .same);
+      kept = p .kept;
       higher = omega arith;
-      falls =
-          from-build P W s a ready x (progress last < progress s)
-          (λ gs hs l f t e z. let n = facts gs hs l f t e z in omega (arith, n .within));
-      bounds = from-build P W s a ready x (Bounds P X last) (λ gs hs l f t e z.
-          let n = facts gs hs l f t e z in
-          bounds-pushed P W s r f t e m b X (ready .bounds) (n .site) q (n .is) (n .within) (n .normal));
+      falls = pushed-falls P W s r b X (ready .bounds) room s′ p (y .next);
+      bounds = from-build P W s a ready x (Bounds P X (afterStored s r (targetEnd s b))) (λ gs hs l f t e z.
+          pushed-bounds P W s r b X (ready .bounds) room s′ p (y .next) (facts gs hs l f t e z .site .next));
     }
 
-pub stored-pushed :
-    (P W : List ℕ) (s : Agenda) (a : List Entry) (r : StoredGoal) (m b X : List ℕ) (s′ : Agenda) (i j : Bool) → Ready relinking P W s a
-    → Builds W s → StoredAt W (s .deferred) r → Bodied P W s r m b
-    → UsesTold P W s r m i → Equals b isEta j → i ≡ true → j ≡ false → StoredPushed W s r b X s′
-    → Branched P W s a (ChosenBody m) X (Branch.Next s′)
-unfolding Branched
-stored-pushed P W s a r m b X s′ i j ready x y w used no-eta is-used is-none p =
-    subst (λ (u : Agenda). Move relinking P W s a (ChosenBody m) X u a) (sym (p .agenda))
-    (move P W s a ready x r y m b w X i j used no-eta is-used is-none (p .stored))
-
--- a record, its body and a goal, stored one behind another
-pub stored-abstraction :
-    (W : List ℕ) (s : Agenda) (r : StoredGoal) (b W₁ W₂ X : List ℕ) → W₁ ≡ sets W (s .top) (recordBytes 1 0 []) → W₂ ≡ sets W₁
-    (s .top + 4) b
-    → X ≡ sets W₂ (s .top + 4 + length b) (storedBytes (storedMatch (r .part) (s .top) (s .easy)))
-    → StoredPushed W s r b X (afterStored s r (s .top + 4 + length b))
-stored-abstraction W s r b W₁ W₂ X e f g = record {
-  stored = g
-      ∙ ap (λ (l : List ℕ). sets l (s .top + 4 + length b) (storedBytes (storedMatch (r .part) (s .top) (s .easy))))
-      (Stores.written-then (recordBytes 1 0 []) b W W₁ W₂ (s .top) (s .top + 4) e f refl);
-  agenda = refl;
-}
+    pub stored-pushed : Branched P W s a (ChosenBody m) X (Branch.Next s′)
+    unfolding Branched
+    stored-pushed = subst (λ (u : Agenda). Move relinking P W s a (ChosenBody m) X u a) (sym (p .agenda)) move

@@ -1,3 +1,4 @@
+pub mod Pushing
 pub mod Building
 pub mod Planning
 pub mod Solutions

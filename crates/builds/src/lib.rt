@@ -9,6 +9,7 @@
 
 use agenda::Agenda;
 use agenda::Branch;
+use agenda::HEIGHT_BYTES;
 use agenda::Plan;
 use agenda::StoredGoal;
 use agenda::TARGET_BYTES;
@@ -27,22 +28,19 @@ ghost use Rattle.builds.specs.Choices.{ChosenBody, Planned};
 ghost use Rattle.agenda.specs.Moves.{Branched};
 ghost use Rattle.builds.specs.Builds.{Builds, AnyChosen, Pushes, StoredPushed, Solving, Solved};
 
-// Writes the abstraction over the body at the top, and the goal that the part of `goal` sweeps to it; `goal` itself is dropped.
+// Writes the abstraction over the body as a target with its heights from the top on, and the goal that the part of `goal` sweeps to it;
+// `goal` itself is dropped.
 pub fn push_abstraction(work: &mut [u8], agenda: Agenda, goal: StoredGoal, body: &[u8]) -> Agenda
     requires { ⌜ Pushes (now work) agenda goal (now body) ⌝ }
     ensures { λ r. ⌜ StoredPushed (now (work .entry)) agenda goal (now (body .entry)) (now (work .exit)) r ⌝ }
 {
-    records::put_record(work, agenda.top, Kind::ABSTRACTION, 0);
-    copying::copy_into(body, work, agenda.top + RECORD);
-    let easy = agenda.top + RECORD + body.len();
-    let target = StoredGoal {
-        part: goal.part,
-        kind: StoredGoal::MATCH,
-        target: agenda.top,
-        next: agenda.easy,
-        argument: 0,
-    };
-    agenda::put_goal(work, easy, target);
+    let target = agenda.top + HEIGHT_BYTES;
+    records::put_record(work, target, Kind::ABSTRACTION, 0);
+    copying::copy_into(body, work, target + RECORD);
+    let easy = target + RECORD + body.len();
+    agenda::keep_heights(work, target, easy);
+    let head = agenda::match_goal(goal.part, target, target, agenda.easy);
+    agenda::put_goal(work, easy, head);
     Agenda {
         top: easy + agenda::GOAL,
         easy,

@@ -79,8 +79,8 @@ assigned-not-open l a k i x q e o = open-span (sym (o .is) ∙ ap (λ (j : ℕ).
 
 -- the swept form against the targets
 module _ (W : List ℕ) (r : StoredGoal) (b : List ℕ) (x : Comparing W r b) where
-  pub compared-match : r .kind ≡ 0 → (end : ℕ) (q : Bool) → Ends W (r .target) end → Same b (take (end - r .target) (drop (r .target) W)) q
-      → FormCompared W r b q
+  pub compared-match : r .argument ≡ 0 → (end : ℕ) (q : Bool) → Ends W (r .target) end
+      → Same b (take (end - r .target) (drop (r .target) W)) q → FormCompared W r b q
   unfolding Same
   compared-match k end q m c = record {
     matches = λ _ x t e y. go q c x t e (part-bytes W (r .target) (end - r .target) t y (omega (arith, m .exact t y)));
@@ -92,7 +92,7 @@ module _ (W : List ℕ) (r : StoredGoal) (b : List ℕ) (x : Comparing W r b) wh
       go true c x t e f = encode-one x t (sym e ∙ c ∙ f)
       go false c x t e f = λ z. c (e ∙ ap encode z ∙ sym f)
 
-  module _ (n : ¬ (r .kind ≡ 0)) where
+  module _ (n : ¬ (r .argument ≡ 0)) where
     pub deferred-argument-within : r .argument ≤ length W
     deferred-argument-within = omega (arith, x .argument n .least)
 
@@ -175,8 +175,8 @@ module _ (P W : List ℕ) (s : Agenda) (a : List Entry) (ready : Ready relinking
 
   -- the swept form against the goal
   module _ (b : List ℕ) (f : SweptForm b) where
-    stands : (k i j : ℕ) (t : Term) → i ≡ j → Target W (s .top) k j t → Part W i t
-    stands k i j t p x = subst (λ (m : ℕ). Part W m t) (sym p) (x .part)
+    stands : (k b i j : ℕ) (t : Term) → i ≡ j → Target W (s .top) k b j t → Part W i t
+    stands k b i j t p x = subst (λ (m : ℕ). Part W m t) (sym p) (x .part)
 
     comparable : (gs hs : List Goal) (l : Line) (g : Goal) → GoalOpened gs l g hs → Comparing W r b
     comparable gs hs l (match u v) x =
@@ -186,8 +186,8 @@ module _ (P W : List ℕ) (s : Agenda) (a : List Entry) (ready : Ready relinking
           bytes = f .bytes;
           most = f .most;
           whole = ready .bounds .whole;
-          target = whole W (r .target) v (stands (size u) (r .target) _ v (y .target) (k .target));
-          argument = λ d. absurd (d (y .kind ∙ k .kind));
+          target = whole W (r .target) v (stands (size u) _ (r .target) _ v (y .target) (k .target));
+          argument = λ d. absurd (d (y .argument ∙ k .kind));
         }
     comparable gs hs l (build u v w) x =
         let k = x .deferred .0 .goal in
@@ -196,8 +196,8 @@ module _ (P W : List ℕ) (s : Agenda) (a : List Entry) (ready : Ready relinking
           bytes = f .bytes;
           most = f .most;
           whole = ready .bounds .whole;
-          target = whole W (r .target) v (stands (suc (size u)) (r .target) _ v (y .target) (k .target));
-          argument = λ d. whole W (r .argument) w (stands (suc (size u)) (r .argument) _ w (y .argument) (k .argument));
+          target = whole W (r .target) v (stands (suc (size u)) _ (r .target) _ v (y .target) (k .target));
+          argument = λ d. whole W (r .argument) w (stands (suc (size u)) _ (r .argument) _ w (y .argument) (k .argument));
         }
 
     pub deferred-comparing : Comparing W r b
@@ -213,13 +213,13 @@ module _ (P W : List ℕ) (s : Agenda) (a : List Entry) (ready : Ready relinking
       verdict gs hs l (match p t) x φ v k =
           let c = x .deferred .0 .goal in
           says-same _ _ u (known-match φ p (f .tree) (f .is gs hs l (match p t) x φ v k) t)
-          (m .matches (y .kind ∙ c .kind) (f .tree) t (f .bytes) (stands (size p) (r .target) _ t (y .target) (c .target)))
+          (m .matches (y .argument ∙ c .kind) (f .tree) t (f .bytes) (stands (size p) _ (r .target) _ t (y .target) (c .target)))
       verdict gs hs l (build p t e) x φ v k =
           let c = x .deferred .0 .goal in
           says-same _ _ u (known-build φ p (f .tree) (f .is gs hs l (build p t e) x φ v k) t e)
-          (m .builds (λ d. omega (arith, d, y .kind, c .kind)) (f .tree) e t (f .bytes)
-          (stands (suc (size p)) (r .argument) _ e (y .argument) (c .argument))
-          (stands (suc (size p)) (r .target) _ t (y .target) (c .target)))
+          (m .builds (λ d. c .kind (sym (y .argument) ∙ d)) (f .tree) e t (f .bytes)
+          (stands (suc (size p)) _ (r .argument) _ e (y .argument) (c .argument))
+          (stands (suc (size p)) _ (r .target) _ t (y .target) (c .target)))
 
       pub known-failed : u ≡ false → Decided relinking P W s a W Decision.Failed
       unfolding Decided

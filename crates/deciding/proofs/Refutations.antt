@@ -1,7 +1,7 @@
 -- Skeletons of parts of the pattern, the goals that they refuse and those that they decide. An assignment that extends the line gives each
 -- assigned variable its value in the work area, so that the swept part fits the skeleton: it is the skeleton where that has no hole, and a
 -- goal whose target doesn't fit has no assignment. Assumes nothing.
-use mathlib.Core.Path.{_≡_, refl, sym, ap, _∙_, subst}
+use mathlib.Core.Path.{_≡_, refl, sym, ap, _∙_, subst, subst₂}
 use mathlib.Core.Bool.{Bool, true, false}
 use mathlib.Core.List.{List}
 use Prim.Native.Nat.{ℕ, suc, _-_, _*_, _<_, _≤_}
@@ -23,13 +23,13 @@ use Rattle.matching.proofs.Lines.{extends-entry}
 use Rattle.matching.proofs.Partial.{totalOf}
 use Rattle.matching.proofs.Skeletons.{fits-exact}
 use Rattle.matching.proofs.Cuts.{fits-abstraction}
-use Rattle.records.specs.Parts.{slice, Part, Whole, Ends, Tree}
+use Rattle.records.specs.Parts.{slice, Part, Ends, Tree}
 use Rattle.records.specs.Tests.{Says, Tells, Asks, Walked}
 use Rattle.records.specs.declared.Ask.the-variants.{Bound}
 use Rattle.records.specs.declared.Walk.{Walk}
 use Rattle.records.specs.declared.Walk.the-variants.{Upto}
 use Rattle.records.proofs.Parts.{part-bytes, whole, at-start, kind-at}
-use Rattle.records.proofs.Slices.{part-slice, whole-slice, slice-length}
+use Rattle.records.proofs.Slices.{part-slice, slice-length}
 use Rattle.assignments.specs.declared.Entry.{Entry}
 use Rattle.assignments.specs.Entries.{Given}
 use Rattle.sweeping.specs.Swept.{sweptBytes}
@@ -43,8 +43,8 @@ use Rattle.skeletons.proofs.Applying.{may-build-at}
 use Rattle.agenda.specs.declared.Agenda.{Agenda}
 use Rattle.agenda.specs.declared.Decision.{Decision}
 use Rattle.agenda.specs.declared.StoredGoal.{StoredGoal}
-use Rattle.agenda.specs.Stored.{StoredAt}
-use Rattle.agenda.specs.State.{GoalAt, Sat, Bounds, Ready, relinking}
+use Rattle.agenda.specs.Stored.{StoredAt, StoredFits}
+use Rattle.agenda.specs.State.{originAt, targetAt, heightsPlace, HeightsBeside, Target, GoalAt, Sat, Bounds, Ready, relinking}
 use Rattle.agenda.specs.Moves.{Decided}
 use Rattle.deciding.specs.Refuting.{SkeletonSource, Prefix, PartSkeleton, Judges, SkeletonRefuses, Possible}
 use Rattle.deciding.proofs.Decisions.{held-given, partOf, GoalOpened, deferred-opened, from-deferred, put, SweptForm}
@@ -151,11 +151,11 @@ module _ (c : List ℕ) (n : ℕ) (k : Prefix c n) where
   skeleton-length : length (take (n - 0) (drop 0 c)) ≤ sweptBytes
   skeleton-length = omega (arith, length-take-le (n - 0) c (omega (arith, k .within)), k .most)
 
-  pub skeleton-comparable : (X : List ℕ) (at : ℕ) → Whole X at → length X ≤ tableBytes
-      → SkeletonComparable (take (n - 0) (drop 0 c)) (slice X at)
-  skeleton-comparable X at w m =
-      skeleton-comparable-at (take (n - 0) (drop 0 c)) X at (whole (take (n - 0) (drop 0 c)) 0 (k .tree) skeleton-part) w
-      (omega (arith, skeleton-length)) (omega (arith, m))
+  pub skeleton-comparable : (X : List ℕ) (b at : ℕ) (t : Term) → Part X at t → HeightsBeside X b at t → length X ≤ tableBytes
+      → SkeletonComparable (take (n - 0) (drop 0 c)) (slice X at) (slice X (heightsPlace b at))
+  skeleton-comparable X b at t p h m =
+      skeleton-comparable-at (take (n - 0) (drop 0 c)) X at X (heightsPlace b at)
+      (whole (take (n - 0) (drop 0 c)) 0 (k .tree) skeleton-part) t p (h .heights) (omega (arith, skeleton-length)) (omega (arith, m))
 
 -- whether a goal is possible
 module _ (c W : List ℕ) (r : StoredGoal) where
@@ -170,11 +170,15 @@ module _ (c W : List ℕ) (r : StoredGoal) where
   pub judged-target-within : Judges c W r → r .target ≤ length W
   judged-target-within x = omega (arith, x .target .term .least, slice-length W (r .target))
 
-  pub possible-match : r .kind ≡ 0 → (b : Bool) → MayBe c (slice W (r .target)) b → Possible c W r b
+  pub judged-target : (i : ℕ) → i ≡ heightsPlace (r .origin) (r .target) → Judges c W r
+      → SkeletonComparable c (slice W (r .target)) (slice W i)
+  judged-target i e x = subst (λ (n : ℕ). SkeletonComparable c (slice W (r .target)) (slice W n)) (sym e) (x .target)
+
+  pub possible-match : r .argument ≡ 0 → (b : Bool) → MayBe c (slice W (r .target)) b → Possible c W r b
   possible-match z true m = possible
   possible-match z false m = refused (record { matches = λ _. may-be-at c W (r .target) false refl m; builds = λ d. absurd (d z) })
 
-  module _ (d : ¬ (r .kind ≡ 0)) where
+  module _ (d : ¬ (r .argument ≡ 0)) where
     pub possible-other : ¬ (getD c 0 0 ≡ 4) → ¬ (getD c 0 0 ≡ 1) → Possible c W r false
     possible-other h o = refused (record {
       matches = λ z. absurd (d z);
@@ -183,6 +187,11 @@ module _ (c W : List ℕ) (r : StoredGoal) where
 
     pub judged-argument-within : Judges c W r → r .argument ≤ length W
     judged-argument-within x = let p = x .both d .part in omega (arith, p .some, p .within, slice-length W (r .argument))
+
+    pub judged-both : (i : ℕ) → i ≡ heightsPlace (r .origin) (r .target) → Judges c W r
+        → SkeletonApplicable c (slice W (r .argument)) (slice W (r .target)) (slice W i)
+    judged-both i e x =
+        subst (λ (n : ℕ). SkeletonApplicable c (slice W (r .argument)) (slice W (r .target)) (slice W n)) (sym e) (x .both d)
 
     pub possible-build : (b : Bool) → MayBuild c (slice W (r .argument)) (slice W (r .target)) b → Possible c W r b
     possible-build true m = possible
@@ -200,40 +209,53 @@ module _ (P W : List ℕ) (s : Agenda) (a : List Entry) (ready : Ready relinking
       source-at P (r .part) W a (partOf g) (v .part) (ready .bounds .short) (v .below) (totalOf l)
       (line-values P W s a l (ready .bounds) (x .entries) (partOf g)))
 
-  pub goal-target : Whole W (r .target)
-  goal-target = from-deferred P W s a ready deferred r y (Whole W (r .target)) (λ gs hs l g x. go g (x .deferred .0 .goal))
-    where
-      go : (g : Goal) → GoalAt P W (s .top) (s .deferred) g → Whole W (r .target)
-      go (match p t) x = whole W (r .target) t (subst (λ (i : ℕ). Part W i t) (sym (y .target)) (x .target .part))
-      go (build f t e) x = whole W (r .target) t (subst (λ (i : ℕ). Part W i t) (sym (y .target)) (x .target .part))
+  target-stands : (n : ℕ) (t : Term) → Target W (s .top) n (originAt W (s .deferred)) (targetAt W (s .deferred)) t
+      → Target W (s .top) n (r .origin) (r .target) t
+  target-stands n t = subst₂ (λ (b i : ℕ). Target W (s .top) n b i t) (sym (y .origin)) (sym (y .target))
 
   module _ (c : List ℕ) (n : ℕ) (k : PartSkeleton (slice P (r .part)) W a c n) where
-    pub judges : Judges (take (n - 0) (drop 0 c)) W r
-    judges = record {
-      target = skeleton-comparable c n (k .table) W (r .target) goal-target (omega (arith, ready .bounds .whole));
-      both = λ d. from-deferred P W s a ready deferred r y Applicable (λ gs hs l g x. go d g (x .deferred .0 .goal));
-    }
+    pub judges : StoredFits r → Judges (take (n - 0) (drop 0 c)) W r
+    judges fits = from-deferred P W s a ready deferred r y (Judges (take (n - 0) (drop 0 c)) W r)
+        (λ gs hs l g x. go g (x .deferred .0 .goal))
       where
-        Applicable : Type 0
-        Applicable = SkeletonApplicable (take (n - 0) (drop 0 c)) (slice W (r .argument)) (slice W (r .target))
+        compared : (m : ℕ) (t : Term) → Target W (s .top) m (r .origin) (r .target) t
+            → SkeletonComparable (take (n - 0) (drop 0 c)) (slice W (r .target)) (slice W (heightsPlace (r .origin) (r .target)))
+        compared m t v =
+            skeleton-comparable c n (k .table) W (r .origin) (r .target) t (v .part) (v .heights) (omega (arith, ready .bounds .whole))
 
-        go : ¬ (r .kind ≡ 0) → (g : Goal) → GoalAt P W (s .top) (s .deferred) g → Applicable
-        go d (match p t) x = absurd (d (y .kind ∙ x .kind))
-        go d (build f t e) x = record {
-          skeleton = k .table .tree;
-          argument = e;
-          bytes = k .table .bytes;
-          part = part-slice W (r .argument) e (subst (λ (i : ℕ). Part W i e) (sym (y .argument)) (x .argument .part));
-          least = skeleton-tree c n (k .table) .least;
-          few = omega (arith, skeleton-part c n (k .table) .within, skeleton-length c n (k .table));
-          argument-few = omega (arith, x .argument .short);
-          depth = patternRecords;
-          shallow = omega arith;
-          closed = k .closed;
-          argument-closed = closed-more (patternRecords - suc (size f)) patternRecords e (omega arith) (x .argument .closed);
-          target = whole-slice W (r .target) goal-target;
-          most = omega (arith, ready .bounds .whole, slice-length W (r .target));
-        }
+        go : (g : Goal) → GoalAt P W (s .top) (s .deferred) g → Judges (take (n - 0) (drop 0 c)) W r
+        go (match p t) x =
+            let v = target-stands (size p) t (x .target) in
+            record {
+              low = v .heights .low;
+              fits = fits;
+              target = compared (size p) t v;
+              both = λ d. absurd (d (y .argument ∙ x .kind));
+            }
+        go (build f t e) x =
+            let v = target-stands (suc (size f)) t (x .target) in
+            let q = compared (suc (size f)) t v in
+            record {
+              low = v .heights .low;
+              fits = fits;
+              target = q;
+              both = λ _. record {
+                skeleton = k .table .tree;
+                argument = e;
+                bytes = k .table .bytes;
+                part = part-slice W (r .argument) e (subst (λ (i : ℕ). Part W i e) (sym (y .argument)) (x .argument .part));
+                least = skeleton-tree c n (k .table) .least;
+                few = omega (arith, skeleton-part c n (k .table) .within, skeleton-length c n (k .table));
+                argument-few = omega (arith, x .argument .short);
+                depth = patternRecords;
+                shallow = omega arith;
+                closed = k .closed;
+                argument-closed = closed-more (patternRecords - suc (size f)) patternRecords e (omega arith) (x .argument .closed);
+                target = q .term;
+                most = q .term-most;
+                heights = q .heights;
+              };
+            }
 
     fits-part :
         (gs hs : List Goal) (l : Line) (g : Goal) → GoalOpened P W s a ready deferred r y gs l g hs
@@ -247,11 +269,11 @@ module _ (P W : List ℕ) (s : Agenda) (a : List Entry) (ready : Ready relinking
         → (φ : ℕ → Term) → Fits (k .table .tree) (sweep (fill φ (partOf g))) → ¬ Meets g φ
     unmet q gs hs l (match p t) x φ f e =
         let z = x .deferred .0 .goal in
-        q .matches (y .kind ∙ z .kind) (k .table .tree) t (skeleton-part c n (k .table))
+        q .matches (y .argument ∙ z .kind) (k .table .tree) t (skeleton-part c n (k .table))
         (subst (λ (i : ℕ). Part W i t) (sym (y .target)) (z .target .part)) (subst (Fits (k .table .tree)) e f)
     unmet q gs hs l (build p t e) x φ f o =
         let z = x .deferred .0 .goal in
-        q .builds (λ d. omega (arith, d, y .kind, z .kind)) (k .table .tree) e t (o .0) (skeleton-part c n (k .table))
+        q .builds (λ d. z .kind (sym (y .argument) ∙ d)) (k .table .tree) e t (o .0) (skeleton-part c n (k .table))
         (subst (λ (i : ℕ). Part W i e) (sym (y .argument)) (z .argument .part))
         (subst (λ (i : ℕ). Part W i t) (sym (y .target)) (z .target .part))
         (subst (Fits (k .table .tree)) (o .1) f) (o .2)

@@ -19,7 +19,6 @@ use Rattle.assignments.specs.declared.Entry.{Entry}
 use Rattle.assignments.specs.declared.Entry.the-variants.{Open}
 use Rattle.sweeping.specs.Swept.{sweptBytes}
 use Rattle.agenda.specs.declared.StoredGoal.{StoredGoal}
-use Rattle.agenda.specs.State.{matchKind}
 use Rattle.builds.specs.Builds.{Solves}
 
 pub record HasEntries (l : List ℕ) : Type 0 where
@@ -40,9 +39,9 @@ pub record Comparing (W : List ℕ) (r : StoredGoal) (b : List ℕ) : Type 0 whe
   pub most : length b ≤ sweptBytes
   pub whole : length W ≡ tableBytes
   pub target : Whole W (r .target)
-  pub argument : ¬ (r .kind ≡ matchKind) → Whole W (r .argument)
+  pub argument : ¬ (r .argument ≡ 0) → Whole W (r .argument)
 
 pub record FormCompared (W : List ℕ) (r : StoredGoal) (b : List ℕ) (q : Bool) : Type 0 where
-  pub matches : r .kind ≡ matchKind → (x t : Term) → b ≡ encode x → Part W (r .target) t → Says q (x ≡ t)
-  pub builds : ¬ (r .kind ≡ matchKind) → (x e t : Term) → b ≡ encode x → Part W (r .argument) e → Part W (r .target) t → Says q
+  pub matches : r .argument ≡ 0 → (x t : Term) → b ≡ encode x → Part W (r .target) t → Says q (x ≡ t)
+  pub builds : ¬ (r .argument ≡ 0) → (x e t : Term) → b ≡ encode x → Part W (r .argument) e → Part W (r .target) t → Says q
       (Solves x e t)

@@ -2,7 +2,8 @@
 --   SkeletonSource l W a     l begins with a part of a pattern, and the values of its assigned variables stand in W
 --   Prefix c n               the first n bytes of c are the table of a term
 --   PartSkeleton l W a c n   that term is a skeleton of the part that l begins with
---   Judges c W r             c is the table of a skeleton, which the targets of the goal r can be compared with
+--   Judges c W r             c is the table of a skeleton, which the targets of the goal r can be compared with, and the heights of its
+--                            target can be read
 --   SkeletonRefuses c W r    what fits the skeleton with the table c isn't what the goal r asks for
 --   Possible c W r b         unless b, the goal r is refused so
 use mathlib.Core.Path.{_≡_}
@@ -19,7 +20,8 @@ use Rattle.assignments.specs.declared.Entry.{Entry}
 use Rattle.sweeping.specs.Swept.{sweptBytes}
 use Rattle.skeletons.specs.Skeleton.{GivenValues, IsSkeleton, SkeletonComparable, SkeletonApplicable}
 use Rattle.agenda.specs.declared.StoredGoal.{StoredGoal}
-use Rattle.agenda.specs.State.{matchKind}
+use Rattle.agenda.specs.State.{heightBytes, heightsPlace}
+use Rattle.agenda.specs.Stored.{StoredFits}
 
 pub record SkeletonSource (l W : List ℕ) (a : List Entry) : Type 0 where
   pub tree : Term
@@ -42,13 +44,17 @@ pub record PartSkeleton (l W : List ℕ) (a : List Entry) (c : List ℕ) (n : �
   pub is-skeleton : (t : Term) → Part l 0 t → IsSkeleton W a t (table .tree)
 
 pub record Judges (c W : List ℕ) (r : StoredGoal) : Type 0 where
-  pub target : SkeletonComparable c (slice W (r .target))
-  pub both : ¬ (r .kind ≡ matchKind) → SkeletonApplicable c (slice W (r .argument)) (slice W (r .target))
+  pub low : heightBytes ≤ r .origin
+  pub fits : StoredFits r
+  pub target : SkeletonComparable c (slice W (r .target)) (slice W (heightsPlace (r .origin) (r .target)))
+  pub both :
+      ¬ (r .argument ≡ 0)
+      → SkeletonApplicable c (slice W (r .argument)) (slice W (r .target)) (slice W (heightsPlace (r .origin) (r .target)))
 
 pub record SkeletonRefuses (c W : List ℕ) (r : StoredGoal) : Type 0 where
-  pub matches : r .kind ≡ matchKind → (x t : Term) → Part c 0 x → Part W (r .target) t → ¬ Fits x t
+  pub matches : r .argument ≡ 0 → (x t : Term) → Part c 0 x → Part W (r .target) t → ¬ Fits x t
   pub builds :
-      ¬ (r .kind ≡ matchKind) → (x e t b : Term) → Part c 0 x → Part W (r .argument) e → Part W (r .target) t → Fits x (lam b)
+      ¬ (r .argument ≡ 0) → (x e t b : Term) → Part c 0 x → Part W (r .argument) e → Part W (r .target) t → Fits x (lam b)
       → ¬ (substitute 0 e b ≡ t)
 
 unfoldable pub Possible : List ℕ → List ℕ → StoredGoal → Bool → Type 0

@@ -62,8 +62,10 @@ pub fn is_possible(c: &[u8], work: &[u8], goal: StoredGoal) -> bool
 {
     let at = goal.target;
     let target = &work[at..];
-    if goal.kind == StoredGoal::MATCH {
-        return skeletons::may_be(c, target);
+    let place = agenda::heights_place(goal);
+    let heights = &work[place..];
+    if goal.argument == 0 {
+        return skeletons::may_be(c, target, heights);
     }
     if c[0] == Kind::VARIABLE.code {
         return true;
@@ -72,7 +74,7 @@ pub fn is_possible(c: &[u8], work: &[u8], goal: StoredGoal) -> bool
         return false;
     }
     let at = goal.argument;
-    skeletons::may_build(c, &work[at..], target)
+    skeletons::may_build(c, &work[at..], target, heights)
 }
 
 // Whether the k-th record of the part is an open variable.
@@ -114,7 +116,7 @@ fn is_met(work: &[u8], goal: StoredGoal, swept: &[u8]) -> bool
     ensures { λ r. ⌜ FormCompared (now (work .entry)) goal (now (swept .entry)) r ⌝ }
 {
     let target = goal.target;
-    if goal.kind == StoredGoal::MATCH {
+    if goal.argument == 0 {
         let end = records::end_at(work, target);
         return copying::same_bytes(swept, &work[target..end]);
     }

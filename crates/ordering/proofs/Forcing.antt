@@ -3,11 +3,11 @@
 --   Among P W top i gs    the goal that stands at byte i, among the goals gs of a list, and the list behind it
 --   GoalKnown P W top i p t   whatever deferred goal stands at byte i is that p sweeps to the target t
 --   Meant P W s r         the two goals of r: their targets, and what is known of them
-use mathlib.Core.Path.{_≡_, refl, sym, ap, ap₂, _∙_, subst}
+use mathlib.Core.Path.{_≡_, refl, sym, ap, ap₂, _∙_, subst, subst₂}
 use mathlib.Core.List.{List, [], _∷_}
 use Prim.Native.Nat.{ℕ, _+_, _-_, _*_, _%_, _<_, _≤_}
 use native.Mathlib.Omega.{arith}
-use lib.ListN.{length, getD, take, drop}
+use lib.ListN.{length, take, drop}
 use lib.Seq.{sets}
 use Rattle.terms.specs.Figures.{variables, patternRecords, valueRecords, tableBytes}
 use Rattle.terms.specs.Term.{Term, var, size, shift, Closed}
@@ -26,6 +26,7 @@ use Rattle.records.specs.declared.Walk.{Walk}
 use Rattle.records.specs.declared.Walk.the-variants.{Upto, No}
 use Rattle.records.proofs.Parts.{part-one, whole}
 use Rattle.records.proofs.Slices.{part-slice}
+use Rattle.heights.specs.Heights.{heights}
 use Rattle.assignments.specs.declared.Entry.{Entry}
 use Rattle.copying.proofs.Stores.{stored}
 use Rattle.sweeping.proofs.Contraction.{closed-fits, table-length}
@@ -39,8 +40,8 @@ use Rattle.ordering.specs.declared.repeated.Occurrences.{Occurrences}
 use Rattle.ordering.specs.declared.repeated.Search.{Search}
 use Rattle.ordering.specs.declared.repeated.Search.the-variants.{Found, Nothing}
 use Rattle.agenda.specs.Stored.{storedBytes, StoredAt, StoredFits}
-use Rattle.agenda.specs.State.{goalBytes, relinking, patternAt, targetAt, nextAt, Target, Easy}
-use Rattle.agenda.specs.State.{Deferred, Node, Chain, weight, weights, Ready}
+use Rattle.agenda.specs.State.{targetStart, goalBytes, heightBytes, relinking, patternAt, originAt, targetAt, nextAt, IsMatch}
+use Rattle.agenda.specs.State.{WrittenTarget, Target, Easy, Deferred, Node, Chain, weight, weights, Ready}
 use Rattle.agenda.specs.Moves.{Decided}
 use Rattle.agenda.specs.Stored.{storedMatch}
 use Rattle.ordering.specs.Ordering.{Reaches, Reaches.here, Reaches.further, Drops, Dropped}
@@ -48,7 +49,8 @@ use Rattle.joins.specs.Pairs.{pairsOf, Repeated, Repeats}
 use Rattle.joins.specs.Joins.{Joins, Joint, Joined, Encloses, Enclosed}
 use Rattle.ordering.specs.Repeated.{GoalsListed, Later, Twice, RepeatedFound}
 use Rattle.agenda.proofs.Frame.{Kept, part-kept, byte-kept, word-kept, next-kept, chain-kept, holds-kept, kept-sets, kept-then}
-use Rattle.agenda.proofs.Frame.{length-stored, part-stored, goal-stored, chain-match}
+use Rattle.agenda.proofs.Frame.{target-kept, length-stored, goal-stored, chain-match}
+use Rattle.agenda.proofs.Targets.{NewTarget, written-target, new-target}
 use Rattle.ordering.proofs.Ordering.{front-goal, reaches-some, reaches-kept, few-goals, weight-least}
 use Rattle.joins.proofs.Joins.{count-length, joined-ends, joined-joint, joined-no}
 
@@ -70,14 +72,14 @@ module _ {P W : List ℕ} {at : ℕ} {r : StoredGoal} (x : GoalsListed P W at) (
         short = x .short;
       }
 
-  pub listed-part : r .kind ≡ 0 → Whole P (r .part)
+  pub listed-part : r .argument ≡ 0 → Whole P (r .part)
   listed-part k =
       let f = front-goal Deferred P W (x .top) at (x .goals) (x .chain) (omega (arith, s)) in
       go (f .goal) (f .node)
     where
       go : (g : Goal) → Node Deferred P W (x .top) at g → Whole P (r .part)
       go (match p t) n = rw (y .part) (whole P _ p (n .goal .part))
-      go (build f t e) n = absurd (omega (arith, y .kind, n .goal .kind))
+      go (build f t e) n = absurd (n .goal .kind (sym (y .argument) ∙ k))
 
 module _ (P W : List ℕ) (at : ℕ) where
   pub finds-nothing : RepeatedFound P W at Nothing
@@ -92,7 +94,7 @@ module _ (P W : List ℕ) (at : ℕ) where
     some-goal : 0 < at
     some-goal = omega (arith, s)
 
-    pub later-here : (i x : ℕ) (o : Spines) (q : Pairs) → r .kind ≡ 0 → o ≡ Apart q → Repeats P x (r .part) o
+    pub later-here : (i x : ℕ) (o : Spines) (q : Pairs) → r .argument ≡ 0 → o ≡ Apart q → Repeats P x (r .part) o
         → Later P W at i x (Found (record { first = i; second = at; pairs = q }))
     unfolding Later Repeats
     later-here i x o q k e z =
@@ -100,7 +102,7 @@ module _ (P W : List ℕ) (at : ℕ) where
         record {
           first = refl;
           reaches = here some-goal refl;
-          kind = sym (y .kind) ∙ k;
+          kind = sym (y .argument) ∙ k;
           repeated = subst (λ (j : ℕ). Repeated P x j q) (y .part) w;
         }
 
@@ -110,7 +112,7 @@ module _ (P W : List ℕ) (at : ℕ) where
         record { first = z .first; reaches = further some-goal (rw (y .next) at (z .reaches)); kind = z .kind; repeated = z .repeated }
     later-further i x Nothing z = tt
 
-    pub finds-here : (o : Search) (q : Occurrences) → r .kind ≡ 0 → o ≡ Found q → Later P W (r .next) at (r .part) o
+    pub finds-here : (o : Search) (q : Occurrences) → r .argument ≡ 0 → o ≡ Found q → Later P W (r .next) at (r .part) o
         → RepeatedFound P W at (Found q)
     unfolding Later RepeatedFound
     finds-here o q k e z =
@@ -119,7 +121,7 @@ module _ (P W : List ℕ) (at : ℕ) where
         record {
           reaches = here some-goal f;
           later = subst (λ (j : ℕ). Reaches W (nextAt W j) (q .second)) f (rw (y .next) at (w .reaches));
-          first-kind = subst (λ (j : ℕ). getD W (j + 1) 0 ≡ 0) f (sym (y .kind) ∙ k);
+          first-kind = subst (IsMatch W) f (sym (y .argument) ∙ k);
           second-kind = w .kind;
           repeated = subst (λ (j : ℕ). Repeated P (patternAt W j) (patternAt W (q .second)) (q .pairs)) f
               (subst (λ (j : ℕ). Repeated P j (patternAt W (q .second)) (q .pairs)) (y .part) (w .repeated));
@@ -174,14 +176,14 @@ among P W top at i (g ∷ gs) c (further h r) =
 -- what is known of a goal, in every work area with the same bytes below `top`
 record GoalKnown (P W : List ℕ) (top i : ℕ) (p t : Term) : Type 0 where
   room : i + goalBytes ≤ top
-  kind : getD W (i + 1) 0 ≡ 0
+  kind : IsMatch W i
   part : (f : Term) → Part P (patternAt W i) f → f ≡ p
   stands : Part P (patternAt W i) p
-  target : Target W top (size p) (targetAt W i) t
+  target : Target W top (size p) (originAt W i) (targetAt W i) t
   suits : Listable variables (OccursIn P) (match p t)
 
 known :
-    (P W : List ℕ) (top i : ℕ) (p : Term) (g : Goal) → Node Deferred P W top i g → getD W (i + 1) 0 ≡ 0
+    (P W : List ℕ) (top i : ℕ) (p : Term) (g : Goal) → Node Deferred P W top i g → IsMatch W i
     → ((f : Term) → Part P (patternAt W i) f → f ≡ p)
     → (t : Term) × GoalKnown P W top i p t
 known P W top i p (match f t) n k h =
@@ -192,21 +194,22 @@ known P W top i p (match f t) n k h =
         kind = k;
         part = h;
         stands = subst (Part P (patternAt W i)) e (n .goal .part);
-        target = subst (λ (f : Term). Target W top (size f) (targetAt W i) t) e (n .goal .target);
+        target = subst (λ (f : Term). Target W top (size f) (originAt W i) (targetAt W i) t) e (n .goal .target);
         suits = subst (λ (f : Term). Listable variables (OccursIn P) (match f t)) e (n .goal .suits);
       },
     )
-known P W top i p (build f t e) n k h = absurd (omega (arith, n .goal .kind))
+known P W top i p (build f t e) n k h = absurd (n .goal .kind k)
 
 goal-is : (P W X : List ℕ) (top higher i : ℕ) (p t : Term) (g : Goal) → GoalKnown P W top i p t → Kept W X top
     → Node Deferred P X higher i g → g ≡ match p t
 goal-is P W X top higher i p t (match f u) k x n =
     let e : f ≡ p = k .part f (subst (λ (j : ℕ). Part P (4 * j) f) (byte-kept W X top x i (omega (arith, k .room))) (n .goal .part)) in
     let y : Part X (targetAt W i) u =
-    subst (λ (j : ℕ). Part X (4 * j) u) (word-kept W X top x (i + 2) (omega (arith, k .room))) (n .goal .target .part) in
+    subst₂ (λ (a b : ℕ). Part X (4 * a + 4 * b) u) (word-kept W X top x (i + 2) (omega (arith, k .room)))
+    (byte-kept W X top x (i + 1) (omega (arith, k .room))) (n .goal .target .part) in
     ap₂ match e (part-one X (targetAt W i) u t y (part-kept W X top x (targetAt W i) t (k .target .below) (k .target .part)))
 goal-is P W X top higher i p t (build f u e) k x n =
-    absurd (omega (arith, n .goal .kind, byte-kept W X top x (i + 1) (omega (arith, k .room)), k .kind))
+    absurd (n .goal .kind (ap (4 *_) (word-kept W X top x (i + 6) (omega (arith, k .room))) ∙ k .kind))
 
 meets-is : (g : Goal) (p t : Term) (φ : ℕ → Term) → g ≡ match p t → Meets g φ → Sweeps p t φ
 meets-is g p t φ e m = subst (λ (h : Goal). Meets h φ) e m
@@ -220,6 +223,10 @@ firstPart P q n = spine (var n) (firsts (pairsOf P q))
 
 abbrev secondPart : List ℕ → Pairs → ℕ → Term
 secondPart P q n = spine (var n) (seconds (pairsOf P q))
+
+-- where their value is written, and the goal that takes their place
+abbrev valueGoal : Agenda → Pairs → StoredGoal
+valueGoal s q = storedMatch (q .first) (targetStart s) (targetStart s) (s .easy)
 
 record Meant (P W : List ℕ) (s : Agenda) (r : Occurrences) (n : ℕ) : Type 0 where
   t : Term
@@ -276,8 +283,8 @@ module _ {P W : List ℕ} {s : Agenda} {a : List Entry} (x : Ready 0 P W s a) wh
     pub second-room : r .second + goalBytes ≤ length W
     second-room = omega (arith, meant .second .room, x .bounds .top, x .bounds .whole)
 
-    -- each has 2,000 bytes at least
-    room-left : s .top + 4000 ≤ tableBytes
+    -- each has 3,000 bytes at least
+    room-left : s .top + 6000 ≤ tableBytes
     room-left =
         let i = one-among (x .hs) (x .state .deferred) in
         let j = two-among (x .hs) (x .state .deferred) in
@@ -285,8 +292,8 @@ module _ {P W : List ℕ} {s : Agenda} {a : List Entry} (x : Ready 0 P W s a) wh
           arith,
           i .weighs,
           j .weighs,
-          weight-least P W (s .top) (r .first) (i .goal) (i .node .goal),
-          weight-least P W (s .top) (r .second) (j .goal) (j .node .goal),
+          weight-least P W (s .top) (r .first) (i .goal) (i .node),
+          weight-least P W (s .top) (r .second) (j .goal) (j .node),
           x .state .room,
         )
 
@@ -383,7 +390,7 @@ module _ {P W : List ℕ} {s : Agenda} {a : List Entry} (x : Ready 0 P W s a) wh
                 stored out after (encode (joint .body)) n (joint .bytes)
                 (omega (arith, encode-length (joint .body), body-size, target-size)) (omega (arith, forced-target-within))
 
-            pub forced-encloses : Encloses (take (n - 0) (drop 0 after)) (r .pairs .count) (length W) (s .top)
+            pub forced-encloses : Encloses (take (n - 0) (drop 0 after)) (r .pairs .count) (length W) (targetStart s)
             forced-encloses =
                 let t = meant .first .target in
                 let c = table-length (take (n - 0) (drop 0 after)) (joint .body) body-bytes in
@@ -405,6 +412,11 @@ module _ {P W : List ℕ} {s : Agenda} {a : List Entry} (x : Ready 0 P W s a) wh
             value : Term
             value = enclose (length (pairsOf P (r .pairs))) (joint .body)
 
+            value-closed : Closed (patternRecords - size (firstPart P (r .pairs) (y .repeated .number))) value
+            unfolding value
+            value-closed =
+                enclose-closed (pairsOf P (r .pairs)) (meant .t) (meant .u) (joint .body) (joint .is) _ (meant .first .target .closed)
+
             value-size : size value + 2 ≤ valueRecords
             unfolding value
             value-size =
@@ -418,254 +430,270 @@ module _ {P W : List ℕ} {s : Agenda} {a : List Entry} (x : Ready 0 P W s a) wh
                 )
 
             module _ {X : List ℕ} {o : ℕ}
-                (v : Enclosed (take (n - 0) (drop 0 after)) (r .pairs .count) W (s .top) X o) where
-              enclosed : Enclosed (take (n - 0) (drop 0 after)) (length (pairsOf P (r .pairs))) W (s .top) X o
-              enclosed = subst (λ (k : ℕ). Enclosed (take (n - 0) (drop 0 after)) k W (s .top) X o)
+                (v : Enclosed (take (n - 0) (drop 0 after)) (r .pairs .count) W (targetStart s) X o) where
+              enclosed : Enclosed (take (n - 0) (drop 0 after)) (length (pairsOf P (r .pairs))) W (targetStart s) X o
+              enclosed = subst (λ (k : ℕ). Enclosed (take (n - 0) (drop 0 after)) k W (targetStart s) X o)
                   (sym (count-length P (r .pairs))) v
 
-              value-stored : X ≡ sets W (s .top) (encode value)
+              value-stored : X ≡ sets W (targetStart s) (encode value)
               unfolding value
               value-stored = enclosed .bytes (joint .body) body-bytes
 
-              value-end : o ≡ s .top + 4 * size value
+              value-end : o ≡ targetStart s + 4 * size value
               unfolding value
               value-end = enclosed .end (joint .body) body-bytes
 
-              value-kept : Kept W X (s .top)
-              value-kept = kept-sets (encode value) W X (s .top) (s .top) value-stored (omega arith)
-                  (omega (arith, x .bounds .top, x .bounds .whole))
+              value-room : targetStart s + 4 * size value ≤ length W
+              value-room = omega (arith, value-size, room-left, x .bounds .whole)
 
-              value-whole : length X ≡ tableBytes
-              value-whole = length-stored (encode value) W X (s .top) value-stored ∙ x .bounds .whole
+              value-few : size value ≤ valueRecords
+              value-few = omega (arith, value-size)
 
-              value-part : Part X (s .top) value
-              value-part = subst (λ (k : List ℕ). Part k (s .top) value) (sym value-stored)
-                  (part-stored value W (s .top) (omega (arith, value-size, room-left, x .bounds .whole)))
+              pub forced-target : WrittenTarget X (targetStart s) o
+              forced-target =
+                  written-target W X X (s .top) value value-stored value-room value-few
+                  (closed-more _ patternRecords value (omega arith) value-closed) o value-end
 
-              -- and the first goal dropped
-              chain-one : (hs : List Goal) → Chain Deferred P W (s .top) (s .deferred) hs → Chain Deferred P X o (s .deferred) hs
-              chain-one hs c = chain-kept W X (s .top) value-kept o (omega (arith, value-end)) P Deferred (s .deferred) hs c
+              -- and its heights
+              module _ {H : List ℕ}
+                  (beside : (u : Term) → Part X (targetStart s) u → H ≡ sets X (targetStart s - heightBytes) (heights u)) where
+                value-made : NewTarget W H (s .top) value
+                value-made = new-target W X H (s .top) value value-stored value-room value-few beside
 
-              reaches-one : Reaches X (s .deferred) (r .first)
-              reaches-one =
-                  reaches-kept W X (s .top) value-kept P Deferred (s .deferred) (r .first) (x .hs) (x .state .deferred) (y .reaches)
+                value-kept : Kept W H (s .top)
+                value-kept = value-made .kept
 
-              later-one : Reaches X (nextAt X (r .first)) (r .second)
-              later-one =
-                  subst (λ (k : ℕ). Reaches X k (r .second)) (sym (next-kept W X (s .top) value-kept (r .first) (meant .first .room)))
-                  (reaches-kept W X (s .top) value-kept P Deferred (nextAt W (r .first)) (r .second)
-                  (one-among (x .hs) (x .state .deferred) .rest)
-                  (one-among (x .hs) (x .state .deferred) .chain) (y .later))
+                value-whole : length H ≡ tableBytes
+                value-whole = value-made .same-length ∙ x .bounds .whole
 
-              few-deferred : goalBytes * length (x .hs) ≤ relinking
-              few-deferred = omega (arith, few-goals P W (s .top) (s .deferred) (x .hs) (x .state .deferred), x .state .room)
-
-              pub forced-drops : Drops X o (s .deferred) (r .first)
-              forced-drops =
-                  let f = front-goal Deferred P X o (s .deferred) (x .hs) (chain-one (x .hs) (x .state .deferred))
-                  (reaches-some X (s .deferred) (r .first) reaches-one) in
-                  record {
-                    pattern = P;
-                    goals = x .hs;
-                    chain = chain-one (x .hs) (x .state .deferred);
-                    reaches = reaches-one;
-                    within = f .node .room;
-                    falls = f .node .falls;
-                    whole = value-whole;
-                    room = omega (arith, value-end, value-size, few-deferred, room-left);
-                    even = omega (arith, value-end, x .bounds .even);
-                  }
-
-              module _ {Y : List ℕ} {list m : ℕ} (d : Dropped X o (s .deferred) (r .first) Y list m) where
-                reaches-two : Reaches Y list (r .second)
-                reaches-two = d .later P (x .hs) (chain-one (x .hs) (x .state .deferred)) reaches-one (r .second) later-one
-
-                one-room : m ≤ o + relinking
-                one-room = omega (arith, d .go P (x .hs) (chain-one (x .hs) (x .state .deferred)) reaches-one .3 .few, few-deferred)
-
-                one-kept : Kept X Y o
-                one-kept = record {
-                  same = d .kept;
-                  from = omega (arith, value-whole, value-end, value-size, room-left);
-                  to = omega (arith, d .whole, value-whole, value-end, value-size, room-left);
-                }
-
-                pub forced-drops-two : Drops Y m list (r .second)
-                forced-drops-two =
-                    let b = d .go P (x .hs) (chain-one (x .hs) (x .state .deferred)) reaches-one in
-                    let f = front-goal Deferred P Y m list (b .1) (b .3 .chain) (reaches-some Y list (r .second) reaches-two) in
+                value-target : Target H o 1 (targetStart s) (targetStart s) value
+                unfolding value
+                value-target =
+                    let t = meant .first .target in
                     record {
-                      pattern = P;
-                      goals = b .1;
-                      chain = b .3 .chain;
-                      reaches = reaches-two;
-                      within = f .node .room;
-                      falls = f .node .falls;
-                      whole = d .whole ∙ value-whole;
-                      room = omega (
-                        arith,
-                        one-room,
-                        value-end,
-                        value-size,
-                        few-goals P Y m list (b .1) (b .3 .chain),
-                        b .3 .weighs,
-                        weight-least P X o (r .first) (b .0) (b .2 .goal),
-                        x .state .room,
-                      );
-                      even = d .even;
+                      part = value-made .part;
+                      below = omega (arith, value-end);
+                      normal = enclose-normal (pairsOf P (r .pairs)) (meant .t) (meant .u) (joint .body) (joint .is) (t .normal);
+                      ground = enclose-ground (pairsOf P (r .pairs)) (meant .t) (meant .u) (joint .body) (joint .is) (t .ground);
+                      few = omega arith;
+                      closed = closed-more _ (patternRecords - 1) value (omega (arith, part-size)) value-closed;
+                      short = value-size;
+                      heights = value-made .heights;
                     }
 
-                -- and the second, before the new goal
-                module _ {Z : List ℕ} {rest k : ℕ} (h : Dropped Y m list (r .second) Z rest k) where
-                  two-room : k ≤ m + relinking
-                  two-room =
-                      let b = d .go P (x .hs) (chain-one (x .hs) (x .state .deferred)) reaches-one in
-                      let c = h .go P (b .1) (b .3 .chain) reaches-two in
-                      omega (arith, c .3 .few, few-goals P Y m list (b .1) (b .3 .chain), b .3 .weighs, x .state .room)
+                -- and the first goal dropped
+                chain-one : (hs : List Goal) → Chain Deferred P W (s .top) (s .deferred) hs → Chain Deferred P H o (s .deferred) hs
+                chain-one hs c = chain-kept W H (s .top) value-kept o (omega (arith, value-end)) P Deferred (s .deferred) hs c
 
-                  pub forced-room : k + goalBytes ≤ tableBytes
-                  forced-room = omega (arith, two-room, one-room, value-end, value-size, room-left)
+                reaches-one : Reaches H (s .deferred) (r .first)
+                reaches-one =
+                    reaches-kept W H (s .top) value-kept P Deferred (s .deferred) (r .first) (x .hs) (x .state .deferred) (y .reaches)
 
-                  two-kept : Kept Y Z m
-                  two-kept = record {
-                    same = h .kept;
-                    from = omega (arith, d .whole, value-whole, h .higher, forced-room);
-                    to = omega (arith, h .whole, d .whole, value-whole, h .higher, forced-room);
+                later-one : Reaches H (nextAt H (r .first)) (r .second)
+                later-one =
+                    subst (λ (k : ℕ). Reaches H k (r .second)) (sym (next-kept W H (s .top) value-kept (r .first) (meant .first .room)))
+                    (reaches-kept W H (s .top) value-kept P Deferred (nextAt W (r .first)) (r .second)
+                    (one-among (x .hs) (x .state .deferred) .rest)
+                    (one-among (x .hs) (x .state .deferred) .chain) (y .later))
+
+                few-deferred : goalBytes * length (x .hs) ≤ relinking
+                few-deferred = omega (arith, few-goals P W (s .top) (s .deferred) (x .hs) (x .state .deferred), x .state .room)
+
+                pub forced-drops : Drops H o (s .deferred) (r .first)
+                forced-drops =
+                    let f = front-goal Deferred P H o (s .deferred) (x .hs) (chain-one (x .hs) (x .state .deferred))
+                    (reaches-some H (s .deferred) (r .first) reaches-one) in
+                    record {
+                      pattern = P;
+                      goals = x .hs;
+                      chain = chain-one (x .hs) (x .state .deferred);
+                      reaches = reaches-one;
+                      within = f .node .room;
+                      falls = f .node .falls;
+                      whole = value-whole;
+                      room = omega (arith, value-end, value-size, few-deferred, room-left);
+                      even = omega (arith, value-end, x .bounds .even);
+                    }
+
+                module _ {Y : List ℕ} {list m : ℕ} (d : Dropped H o (s .deferred) (r .first) Y list m) where
+                  reaches-two : Reaches Y list (r .second)
+                  reaches-two = d .later P (x .hs) (chain-one (x .hs) (x .state .deferred)) reaches-one (r .second) later-one
+
+                  one-room : m ≤ o + relinking
+                  one-room = omega (arith, d .go P (x .hs) (chain-one (x .hs) (x .state .deferred)) reaches-one .3 .few, few-deferred)
+
+                  one-kept : Kept H Y o
+                  one-kept = record {
+                    same = d .kept;
+                    from = omega (arith, value-whole, value-end, value-size, room-left);
+                    to = omega (arith, d .whole, value-whole, value-end, value-size, room-left);
                   }
 
-                  pub forced-whole : length Z ≡ tableBytes
-                  forced-whole = h .whole ∙ d .whole ∙ value-whole
-
-                  module _ (none-easy : s .easy ≡ 0) {q : StoredGoal} (g : q ≡ storedMatch (r .pairs .first) (s .top) (s .easy)) where
-                    pub forced-fits : StoredFits q
-                    forced-fits =
-                        rw g (record {
-                          part = omega (arith, y .repeated .first-ends .within, x .bounds .short);
-                          target = omega (arith, x .bounds .top);
-                          next = omega (arith, none-easy);
-                          argument = omega arith;
-                        })
-
-                    module _ {U : List ℕ} (b : U ≡ sets Z k (storedBytes q)) where
-                      bytes-stored : U ≡ sets Z k (storedBytes (storedMatch (r .pairs .first) (s .top) (s .easy)))
-                      bytes-stored = b ∙ ap (λ (c : StoredGoal). sets Z k (storedBytes c)) g
-
-                      goal-kept : Kept Z U k
-                      goal-kept = kept-sets (storedBytes q) Z U k k b (omega arith) (omega (arith, forced-whole, forced-room))
-
-                      from-value : Kept X U o
-                      from-value = kept-then X Y U o m (d .higher) one-kept (kept-then Y Z U m k (h .higher) two-kept goal-kept)
-
-                      all-kept : Kept W U (s .top)
-                      all-kept = kept-then W X U (s .top) o (omega (arith, value-end)) value-kept from-value
-
-                      value-target : Target U (k + goalBytes) 1 (s .top) value
-                      unfolding value
-                      value-target =
-                          let t = meant .first .target in
-                          record {
-                            part = part-kept X U o from-value (s .top) value (omega (arith, value-end)) value-part;
-                            below = omega (arith, value-end, d .higher, h .higher);
-                            normal = enclose-normal (pairsOf P (r .pairs)) (meant .t) (meant .u) (joint .body) (joint .is) (t .normal);
-                            ground = enclose-ground (pairsOf P (r .pairs)) (meant .t) (meant .u) (joint .body) (joint .is) (t .ground);
-                            few = omega arith;
-                            closed =
-                                closed-more (patternRecords - size (firstPart P (r .pairs) (y .repeated .number))) (patternRecords - 1)
-                                value (omega (arith, part-size))
-                                (enclose-closed (pairsOf P (r .pairs)) (meant .t) (meant .u) (joint .body) (joint .is) _ (t .closed));
-                            short = value-size;
-                          }
-
-                      goal-listable : Listable variables (OccursIn P) (match (var (y .repeated .number)) value)
-                      goal-listable = (
-                        suits-spine variables (OccursIn P) (var (y .repeated .number)) (firsts (pairsOf P (r .pairs)))
-                            (meant .first .suits .0),
-                        value-target .normal,
-                      )
-
-                      goal-chain : Chain Easy P U (k + goalBytes) k (match (var (y .repeated .number)) value ∷ [])
-                      goal-chain =
-                          let f = y .repeated .variable in
-                          chain-match Easy P U (k + goalBytes) k (storedMatch (r .pairs .first) (s .top) (s .easy))
-                          (goal-stored Z U k (storedMatch (r .pairs .first) (s .top) (s .easy)) bytes-stored
-                          (omega (arith, forced-whole, forced-room)) first-even (x .bounds .even) (x .bounds .easy-even) (omega arith))
-                          (omega (arith, x .bounds .start, value-end, d .higher, h .higher)) (omega arith) (h .even)
-                          (omega (arith, none-easy, x .bounds .start, value-end, d .higher, h .higher))
-                          (var (y .repeated .number)) value [] refl tt f value-target goal-listable none-easy
-
-                      pub forced-next : Decided 0 P W s a U (decision.Next (record { top = k + goalBytes; easy = k; deferred = rest }))
-                      unfolding Decided value
-                      forced-next = record {
-                        go = λ gs hs l st.
-                            let b₁ = d .go P hs (chain-one hs (st .deferred)) reaches-one in
-                            let b₂ = h .go P (b₁ .1) (b₁ .3 .chain) reaches-two in
-                            let g₁ = goal-is P W X (s .top) o (r .first) _ (meant .t) (b₁ .0) (meant .first) value-kept (b₁ .2) in
-                            let g₂ = goal-is P W Y (s .top) m (r .second) _ (meant .u) (b₂ .0) (meant .second)
-                            (kept-then W X Y (s .top) o (omega (arith, value-end)) value-kept one-kept) (b₂ .2) in
-                            let none = no-easy P W (s .top) (s .easy) gs none-easy (st .easy) in
-                            record {
-                              gs = match (var (y .repeated .number)) value ∷ [];
-                              hs = b₂ .1;
-                              line = l;
-                              state = record {
-                                easy = goal-chain;
-                                deferred = chain-kept Z U k goal-kept (k + goalBytes) (omega arith) P Deferred rest (b₂ .1) (b₂ .3 .chain);
-                                entries = holds-kept W U (s .top) all-kept (k + goalBytes)
-                                    (omega (arith, value-end, d .higher, h .higher)) a l (st .entries);
-                                line = st .line;
-                                assigns = st .assigns;
-                                room = omega (
-                                  arith,
-                                  st .room,
-                                  two-room,
-                                  one-room,
-                                  value-end,
-                                  value-size,
-                                  b₁ .3 .weighs,
-                                  b₂ .3 .weighs,
-                                  weight-least P X o (r .first) (b₁ .0) (b₁ .2 .goal),
-                                  weight-least P Y m (r .second) (b₂ .0) (b₂ .2 .goal),
-                                );
-                              };
-                              same = λ φ v′.
-                                  let w₁ = b₁ .3 .same φ in
-                                  let w₂ = b₂ .3 .same φ in
-                                  let f =
-                                  goals-forced (pairsOf P (r .pairs)) (y .repeated .apart) (y .repeated .number) (meant .t) (meant .u) φ
-                                  (v′ (y .repeated .number) .1) (joint .body) [] (joint .is) (meant .first .target .normal) in (
-                                    λ c.
-                                        let c₁ = w₁ .0 (c .1) in
-                                        let c₂ = w₂ .0 (c₁ .1) in (
-                                          f .0 (
-                                            meets-is (b₁ .0) _ (meant .t) φ g₁ (c₁ .0),
-                                            (meets-is (b₂ .0) _ (meant .u) φ g₂ (c₂ .0), tt),
-                                          ),
-                                          c₂ .1,
-                                          c .2,
-                                        ),
-                                    λ c.
-                                        let c₁ = f .1 (c .0) in (
-                                          subst (λ (i : List Goal). All i φ) (sym none) tt,
-                                          w₁ .1 (
-                                            is-meets (b₁ .0) _ (meant .t) φ g₁ (c₁ .0),
-                                            w₂ .1 (is-meets (b₂ .0) _ (meant .u) φ g₂ (c₁ .1 .0), c .1),
-                                          ),
-                                          c .2,
-                                        ),
-                                  );
-                            };
-                        kept = all-kept .same;
-                        higher = omega (arith, value-end, d .higher, h .higher);
-                        falls = omega (arith, value-end, d .higher, h .higher, forced-room, none-easy);
-                        bounds = record {
-                          whole = length-stored (storedBytes q) Z U k b ∙ forced-whole;
-                          short = x .bounds .short;
-                          top = forced-room;
-                          start = omega arith;
-                          even = omega (arith, h .even);
-                          easy-room = omega arith;
-                          easy-even = h .even;
-                          deferred-room = omega (arith, h .below);
-                          deferred-even = h .list-even;
-                        };
+                  pub forced-drops-two : Drops Y m list (r .second)
+                  forced-drops-two =
+                      let b = d .go P (x .hs) (chain-one (x .hs) (x .state .deferred)) reaches-one in
+                      let f = front-goal Deferred P Y m list (b .1) (b .3 .chain) (reaches-some Y list (r .second) reaches-two) in
+                      record {
+                        pattern = P;
+                        goals = b .1;
+                        chain = b .3 .chain;
+                        reaches = reaches-two;
+                        within = f .node .room;
+                        falls = f .node .falls;
+                        whole = d .whole ∙ value-whole;
+                        room = omega (
+                          arith,
+                          one-room,
+                          value-end,
+                          value-size,
+                          few-goals P Y m list (b .1) (b .3 .chain),
+                          b .3 .weighs,
+                          weight-least P H o (r .first) (b .0) (b .2),
+                          x .state .room,
+                        );
+                        even = d .even;
                       }
+
+                  -- and the second, before the new goal
+                  module _ {Z : List ℕ} {rest k : ℕ} (h : Dropped Y m list (r .second) Z rest k) where
+                    two-room : k ≤ m + relinking
+                    two-room =
+                        let b = d .go P (x .hs) (chain-one (x .hs) (x .state .deferred)) reaches-one in
+                        let c = h .go P (b .1) (b .3 .chain) reaches-two in
+                        omega (arith, c .3 .few, few-goals P Y m list (b .1) (b .3 .chain), b .3 .weighs, x .state .room)
+
+                    pub forced-room : k + goalBytes ≤ tableBytes
+                    forced-room = omega (arith, two-room, one-room, value-end, value-size, room-left)
+
+                    two-kept : Kept Y Z m
+                    two-kept = record {
+                      same = h .kept;
+                      from = omega (arith, d .whole, value-whole, h .higher, forced-room);
+                      to = omega (arith, h .whole, d .whole, value-whole, h .higher, forced-room);
+                    }
+
+                    pub forced-whole : length Z ≡ tableBytes
+                    forced-whole = h .whole ∙ d .whole ∙ value-whole
+
+                    module _ (none-easy : s .easy ≡ 0) {q : StoredGoal} (g : q ≡ valueGoal s (r .pairs)) where
+                      pub forced-fits : StoredFits q
+                      forced-fits =
+                          rw g (record {
+                            part = omega (arith, y .repeated .first-ends .within, x .bounds .short);
+                            origin = omega (arith, x .bounds .top);
+                            from = omega arith;
+                            near = omega arith;
+                            next = omega (arith, none-easy);
+                            argument = omega arith;
+                          })
+
+                      module _ {U : List ℕ} (b : U ≡ sets Z k (storedBytes q)) where
+                        bytes-stored : U ≡ sets Z k (storedBytes (valueGoal s (r .pairs)))
+                        bytes-stored = b ∙ ap (λ (c : StoredGoal). sets Z k (storedBytes c)) g
+
+                        goal-kept : Kept Z U k
+                        goal-kept = kept-sets (storedBytes q) Z U k k b (omega arith) (omega (arith, forced-whole, forced-room))
+
+                        from-value : Kept H U o
+                        from-value = kept-then H Y U o m (d .higher) one-kept (kept-then Y Z U m k (h .higher) two-kept goal-kept)
+
+                        all-kept : Kept W U (s .top)
+                        all-kept = kept-then W H U (s .top) o (omega (arith, value-end)) value-kept from-value
+
+                        goal-listable : Listable variables (OccursIn P) (match (var (y .repeated .number)) value)
+                        goal-listable = (
+                          suits-spine variables (OccursIn P) (var (y .repeated .number)) (firsts (pairsOf P (r .pairs)))
+                              (meant .first .suits .0),
+                          value-target .normal,
+                        )
+
+                        goal-chain : Chain Easy P U (k + goalBytes) k (match (var (y .repeated .number)) value ∷ [])
+                        goal-chain =
+                            let f = y .repeated .variable in
+                            chain-match Easy P U (k + goalBytes) k (valueGoal s (r .pairs))
+                            (goal-stored Z U k (valueGoal s (r .pairs)) bytes-stored (omega (arith, forced-whole, forced-room)) first-even
+                            (omega (arith, x .bounds .even)) (omega arith) (omega (arith, x .bounds .even)) (x .bounds .easy-even)
+                            (omega arith))
+                            (omega (arith, x .bounds .start, value-end, d .higher, h .higher)) (omega arith) (h .even)
+                            (omega (arith, none-easy, x .bounds .start, value-end, d .higher, h .higher))
+                            (var (y .repeated .number)) value [] refl tt f
+                            (target-kept H U o from-value (k + goalBytes) (omega (arith, d .higher, h .higher)) 1 _ _ value value-target)
+                            goal-listable none-easy
+
+                        pub forced-next : Decided 0 P W s a U (decision.Next (record { top = k + goalBytes; easy = k; deferred = rest }))
+                        unfolding Decided value
+                        forced-next = record {
+                          go = λ gs hs l st.
+                              let b₁ = d .go P hs (chain-one hs (st .deferred)) reaches-one in
+                              let b₂ = h .go P (b₁ .1) (b₁ .3 .chain) reaches-two in
+                              let g₁ = goal-is P W H (s .top) o (r .first) _ (meant .t) (b₁ .0) (meant .first) value-kept (b₁ .2) in
+                              let g₂ = goal-is P W Y (s .top) m (r .second) _ (meant .u) (b₂ .0) (meant .second)
+                              (kept-then W H Y (s .top) o (omega (arith, value-end)) value-kept one-kept) (b₂ .2) in
+                              let none = no-easy P W (s .top) (s .easy) gs none-easy (st .easy) in
+                              record {
+                                gs = match (var (y .repeated .number)) value ∷ [];
+                                hs = b₂ .1;
+                                line = l;
+                                state = record {
+                                  easy = goal-chain;
+                                  deferred =
+                                      chain-kept Z U k goal-kept (k + goalBytes) (omega arith) P Deferred rest (b₂ .1) (b₂ .3 .chain);
+                                  entries = holds-kept W U (s .top) all-kept (k + goalBytes)
+                                      (omega (arith, value-end, d .higher, h .higher)) a l (st .entries);
+                                  line = st .line;
+                                  assigns = st .assigns;
+                                  room = omega (
+                                    arith,
+                                    st .room,
+                                    two-room,
+                                    one-room,
+                                    value-end,
+                                    value-size,
+                                    b₁ .3 .weighs,
+                                    b₂ .3 .weighs,
+                                    weight-least P H o (r .first) (b₁ .0) (b₁ .2),
+                                    weight-least P Y m (r .second) (b₂ .0) (b₂ .2),
+                                  );
+                                };
+                                same = λ φ v′.
+                                    let w₁ = b₁ .3 .same φ in
+                                    let w₂ = b₂ .3 .same φ in
+                                    let f =
+                                    goals-forced (pairsOf P (r .pairs)) (y .repeated .apart) (y .repeated .number) (meant .t) (meant .u) φ
+                                    (v′ (y .repeated .number) .1) (joint .body) [] (joint .is) (meant .first .target .normal) in (
+                                      λ c.
+                                          let c₁ = w₁ .0 (c .1) in
+                                          let c₂ = w₂ .0 (c₁ .1) in (
+                                            f .0 (
+                                              meets-is (b₁ .0) _ (meant .t) φ g₁ (c₁ .0),
+                                              (meets-is (b₂ .0) _ (meant .u) φ g₂ (c₂ .0), tt),
+                                            ),
+                                            c₂ .1,
+                                            c .2,
+                                          ),
+                                      λ c.
+                                          let c₁ = f .1 (c .0) in (
+                                            subst (λ (i : List Goal). All i φ) (sym none) tt,
+                                            w₁ .1 (
+                                              is-meets (b₁ .0) _ (meant .t) φ g₁ (c₁ .0),
+                                              w₂ .1 (is-meets (b₂ .0) _ (meant .u) φ g₂ (c₁ .1 .0), c .1),
+                                            ),
+                                            c .2,
+                                          ),
+                                    );
+                              };
+                          kept = all-kept .same;
+                          higher = omega (arith, value-end, d .higher, h .higher);
+                          falls = omega (arith, value-end, d .higher, h .higher, forced-room, none-easy);
+                          bounds = record {
+                            whole = length-stored (storedBytes q) Z U k b ∙ forced-whole;
+                            short = x .bounds .short;
+                            top = forced-room;
+                            start = omega arith;
+                            even = omega (arith, h .even);
+                            easy-room = omega arith;
+                            easy-even = h .even;
+                            deferred-room = omega (arith, h .below);
+                            deferred-even = h .list-even;
+                          };
+                        }

@@ -9,6 +9,7 @@ use lib.ListN.{length, getD, take, drop}
 use lib.Seq.{sets}
 use Rattle.terms.specs.Figures.{variables, patternRecords, tableBytes, numbers}
 use Rattle.terms.specs.Term.{Term, app, lam, loc, con, var, size, Below}
+use Rattle.terms.proofs.Substitute.{size-pos}
 use Rattle.matching.specs.Goals.{Goal, Goal.match, Goal.build, Meets, All}
 use Rattle.matching.specs.Occurrences.{partAt}
 use Rattle.records.specs.Parts.{slice, Part, Whole, Ends}
@@ -21,7 +22,8 @@ use Rattle.abstractions.proofs.Occurrences.{part-at}
 use Rattle.agenda.specs.declared.Agenda.{Agenda}
 use Rattle.agenda.specs.declared.StoredGoal.{StoredGoal}
 use Rattle.agenda.specs.Stored.{storedBytes, StoredAt, StoredFits}
-use Rattle.agenda.specs.State.{goalBytes, recordWeight, patternAt, nextAt, GoalAt, Easy, Deferred, Node, Chain, weight, weights, Ready}
+use Rattle.agenda.specs.State.{goalBytes, recordWeight, buildWeight, patternAt, nextAt, GoalAt, Easy, Deferred, Node, Chain}
+use Rattle.agenda.specs.State.{weight, weights, Ready}
 use Rattle.ordering.specs.Forwarding.{Forwarded}
 use Rattle.deciding.specs.Deciding.{HasEntries}
 use Rattle.agenda.specs.Locals.{Locals}
@@ -84,7 +86,8 @@ ranks P W top at gs c h b m l =
     }
 
 linked-fits : {r q : StoredGoal} {n : ℕ} → StoredFits r → q ≡ linked r n → n < 4 * numbers → StoredFits q
-linked-fits f e h = rw e (record { part = f .part; target = f .target; next = h; argument = f .argument })
+linked-fits f e h =
+    rw e (record { part = f .part; origin = f .origin; from = f .from; near = f .near; next = h; argument = f .argument })
 
 -- a goal that is written anew above `top`, in front of a list
 pub anew :
@@ -94,14 +97,14 @@ pub anew :
 anew P W X top at o n r (match p t) gs k h x y z l e c =
     let q = x .goal in
     chain-match Deferred P X (o + goalBytes) o (linked r n) z (omega (arith, x .room)) (omega arith) e l p t gs
-    (y .kind ∙ q .kind) (x .kind) (rw (y .part) (q .part))
-    (rw (y .target) (target-kept W X top k (o + goalBytes) (omega arith) _ _ t (q .target))) (q .suits) c
+    (y .argument ∙ q .kind) (x .kind) (rw (y .part) (q .part))
+    (rw (y .origin) (rw (y .target) (target-kept W X top k (o + goalBytes) (omega arith) _ _ _ t (q .target)))) (q .suits) c
 anew P W X top at o n r (build f t e) gs k h x y z l ev c =
     let q = x .goal in
     chain-build Deferred P X (o + goalBytes) o (linked r n) z (omega (arith, x .room)) (omega arith) ev l f t e gs
-    (y .kind ∙ q .kind) (x .kind) (rw (y .part) (q .part)) (rw (y .target)
-    (target-kept W X top k (o + goalBytes) (omega arith) _ _ t (q .target)))
-    (rw (y .argument) (target-kept W X top k (o + goalBytes) (omega arith) _ _ e (q .argument))) (q .suits) c
+    (x .kind) (rw (y .part) (q .part))
+    (rw (y .origin) (rw (y .target) (target-kept W X top k (o + goalBytes) (omega arith) _ _ _ t (q .target))))
+    (rw (y .argument) (target-kept W X top k (o + goalBytes) (omega arith) _ _ _ e (q .argument))) (q .suits) c
 
 module _ {W X Y : List ℕ} {top at j i list end : ℕ} {r q : StoredGoal} (x : StoredAt W at r) (y : Dropped W top j i X list end)
     (whole : length W ≡ tableBytes)
@@ -117,8 +120,8 @@ module _ {W X Y : List ℕ} {top at j i list end : ℕ} {r q : StoredGoal} (x : 
       (record { same = y .kept; from = omega (arith, y .higher); to = omega (arith, y .higher, y .whole) }) list-kept
 
   stands : StoredAt Y end (linked r list)
-  stands = goal-stored X Y end (linked r list) relinked-stored (omega (arith, y .whole)) (omega (arith, x .part)) (omega (arith, x .target))
-      (y .list-even) (omega (arith, x .argument))
+  stands = goal-stored X Y end (linked r list) relinked-stored (omega (arith, y .whole)) (omega (arith, x .part)) (omega (arith, x .origin))
+      (omega (arith, x .origin, x .target)) (omega (arith, x .target)) (y .list-even) (omega (arith, x .argument))
 
   in-front : (P : List ℕ) (g : Goal) (gs : List Goal) → Node Deferred P W top at g → Chain Deferred P X end list gs
       → Chain Deferred P Y (end + goalBytes) end (g ∷ gs)
@@ -244,7 +247,7 @@ module _ {P W : List ℕ} {at : ℕ} {r : StoredGoal} (x : Costed P W at) (y : S
       cases (match p t) z = has p (z .part) (z .suits .0 .0)
       cases (build f t e) z = has f (z .part) (z .suits .0 .0)
 
-  pub weighs-branches : r .kind ≡ 0 → Branches (slice P (r .part)) (slice W (r .target))
+  pub weighs-branches : r .argument ≡ 0 → Branches (slice P (r .part)) (slice W (r .target))
   weighs-branches n = record {
     part = whole-slice P (r .part) weighs-part;
     kind = cases (x .goal) (x .stands) (x .deferred);
@@ -259,29 +262,29 @@ module _ {P W : List ℕ} {at : ℕ} {r : StoredGoal} (x : Costed P W at) (y : S
       cases (match (loc i) t) z h = absurd h
       cases (match (con i) t) z h = absurd h
       cases (match (var i) t) z h = absurd h
-      cases (build f t e) z h = absurd (omega (arith, y .kind, z .kind))
+      cases (build f t e) z h = absurd (z .kind (sym (y .argument) ∙ n))
 
-  pub weighs-argument : ¬ (r .kind ≡ 0) → Whole W (r .argument)
+  pub weighs-argument : ¬ (r .argument ≡ 0) → Whole W (r .argument)
   weighs-argument n = cases (x .goal) (x .stands)
     where
       cases : (g : Goal) → GoalAt P W (x .top) at g → Whole W (r .argument)
-      cases (match p t) z = absurd (n (y .kind ∙ z .kind))
+      cases (match p t) z = absurd (n (y .argument ∙ z .kind))
       cases (build f t e) z = rw (y .argument) (whole W _ e (z .argument .part))
 
   pub weighs-target-within : r .target ≤ length W
   weighs-target-within = omega (arith, weighs-target .least)
 
-  pub weighs-argument-within : ¬ (r .kind ≡ 0) → r .argument ≤ length W
+  pub weighs-argument-within : ¬ (r .argument ≡ 0) → r .argument ≤ length W
   weighs-argument-within n = omega (arith, weighs-argument n .least)
 
-  pub weighs-copies : ¬ (r .kind ≡ 0) → Counting (slice W (r .target)) 0 (slice W (r .argument))
+  pub weighs-copies : ¬ (r .argument ≡ 0) → Counting (slice W (r .target)) 0 (slice W (r .argument))
   weighs-copies n = counting-at W W (r .target) (r .argument) 0 weighs-target (weighs-argument n) (omega (arith, x .most))
 
-  pub weighs-locals : ¬ (r .kind ≡ 0) → Locals (slice P (r .part)) (slice W (r .argument))
+  pub weighs-locals : ¬ (r .argument ≡ 0) → Locals (slice P (r .part)) (slice W (r .argument))
   weighs-locals n = cases (x .goal) (x .stands)
     where
       cases : (g : Goal) → GoalAt P W (x .top) at g → Locals (slice P (r .part)) (slice W (r .argument))
-      cases (match p t) z = absurd (n (y .kind ∙ z .kind))
+      cases (match p t) z = absurd (n (y .argument ∙ z .kind))
       cases (build f t e) z =
           let u = z .argument in
           locals-at P (r .part) W (r .argument) weighs-part (x .short)
@@ -344,14 +347,20 @@ goal-reached P W top at i [] c (further h r) = absurd (omega (arith, c))
 goal-reached P W top at i (g ∷ gs) c (here h e) = (g, subst (λ (j : ℕ). Node Deferred P W top j g) e (c .0))
 goal-reached P W top at i (g ∷ gs) c (further h r) = goal-reached P W top (nextAt W at) i gs (c .1) r
 
--- a deferred goal has a weight of 2,000 or more, so that there are few
-pub weight-least : (P W : List ℕ) (top at : ℕ) (g : Goal) → GoalAt P W top at g → recordWeight ≤ weight g
-weight-least P W top at (match p t) x = omega (arith, x .part .some)
-weight-least P W top at (build f t e) x = omega (arith, x .part .some)
+-- a deferred goal has a weight of 3,000 or more, so that there are few: an application has three records
+pub weight-least : (P W : List ℕ) (top at : ℕ) (g : Goal) → Node Deferred P W top at g → recordWeight + buildWeight ≤ weight g
+weight-least P W top at (match (app f a) t) x = omega (arith, size-pos f, size-pos a)
+weight-least P W top at (match (lam b) t) x = absurd (x .kind)
+weight-least P W top at (match (loc i) t) x = absurd (x .kind)
+weight-least P W top at (match (con i) t) x = absurd (x .kind)
+weight-least P W top at (match (var i) t) x = absurd (x .kind)
+weight-least P W top at (build f t e) x = omega (arith, x .goal .part .some)
 
-pub few-goals : (P W : List ℕ) (top at : ℕ) (gs : List Goal) → Chain Deferred P W top at gs → recordWeight * length gs ≤ weights 0 gs
+pub few-goals :
+    (P W : List ℕ) (top at : ℕ) (gs : List Goal) → Chain Deferred P W top at gs
+    → (recordWeight + buildWeight) * length gs ≤ weights 0 gs
 few-goals P W top at [] c = omega arith
-few-goals P W top at (g ∷ gs) c = omega (arith, weight-least P W top at g (c .0 .goal), few-goals P W top (nextAt W at) gs (c .1))
+few-goals P W top at (g ∷ gs) c = omega (arith, weight-least P W top at g (c .0), few-goals P W top (nextAt W at) gs (c .1))
 
 -- the goal that is to be first is brought there
 module _ {P W : List ℕ} {s : Agenda} {a : List Entry} (x : Ready 0 P W s a) (none : s .easy ≡ 0) (some : 0 < s .deferred) where

@@ -25,7 +25,7 @@ pub data Reaches : List ℕ → ℕ → ℕ → Type 0 where
   further : {W : List ℕ} {at i : ℕ} → 0 < at → Reaches W (nextAt W at) i → Reaches W at i
 
 abbrev pub linked : StoredGoal → ℕ → StoredGoal
-linked x n = record { part = x .part; kind = x .kind; target = x .target; next = n; argument = x .argument }
+linked x n = record { part = x .part; origin = x .origin; target = x .target; next = n; argument = x .argument }
 
 pub record Branches (P W : List ℕ) : Type 0 where
   pub part : Whole P 0

@@ -8,13 +8,13 @@
 use mathlib.Core.Path.{_≡_}
 use mathlib.Core.List.{List}
 use Prim.Native.Nat.{ℕ, _+_, _*_, _≤_}
-use lib.ListN.{length, getD}
+use lib.ListN.{length}
 use Rattle.terms.specs.Figures.{patternRecords, tableBytes}
 use Rattle.matching.specs.Goals.{Goal}
 use Rattle.ordering.specs.declared.repeated.Occurrences.{Occurrences}
 use Rattle.ordering.specs.declared.repeated.Search.{Search}
 use Rattle.ordering.specs.declared.repeated.Search.the-variants.{Found, Nothing}
-use Rattle.agenda.specs.State.{goalBytes, matchKind, patternAt, nextAt, Deferred, Chain}
+use Rattle.agenda.specs.State.{goalBytes, patternAt, nextAt, IsMatch, Deferred, Chain}
 use Rattle.ordering.specs.Ordering.{Reaches}
 use Rattle.joins.specs.Pairs.{Repeated}
 
@@ -30,7 +30,7 @@ pub record GoalsListed (P W : List ℕ) (at : ℕ) : Type 0 where
 pub record Second (P W : List ℕ) (at i x : ℕ) (r : Occurrences) : Type 0 where
   pub first : r .first ≡ i
   pub reaches : Reaches W at (r .second)
-  pub kind : getD W (r .second + 1) 0 ≡ matchKind
+  pub kind : IsMatch W (r .second)
   pub repeated : Repeated P x (patternAt W (r .second)) (r .pairs)
 
 unfoldable pub Later : List ℕ → List ℕ → ℕ → ℕ → ℕ → Search → Type 0
@@ -40,8 +40,8 @@ Later P W at i x Nothing = Unit {0}
 pub record Twice (P W : List ℕ) (at : ℕ) (r : Occurrences) : Type 0 where
   pub reaches : Reaches W at (r .first)
   pub later : Reaches W (nextAt W (r .first)) (r .second)
-  pub first-kind : getD W (r .first + 1) 0 ≡ matchKind
-  pub second-kind : getD W (r .second + 1) 0 ≡ matchKind
+  pub first-kind : IsMatch W (r .first)
+  pub second-kind : IsMatch W (r .second)
   pub repeated : Repeated P (patternAt W (r .first)) (patternAt W (r .second)) (r .pairs)
 
 unfoldable pub RepeatedFound : List ℕ → List ℕ → ℕ → Search → Type 0

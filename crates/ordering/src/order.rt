@@ -79,7 +79,7 @@ fn cost(pattern: &[u8], work: &[u8], at: usize, entries: [Entry; VARIABLES]) -> 
     if deciding::is_assigned(&pattern[part..end], entries) {
         return 0;
     }
-    if goal.kind == StoredGoal::MATCH {
+    if goal.argument == 0 {
         return candidates(&pattern[part..], &work[target..]);
     }
     let argument = goal.argument;
@@ -132,7 +132,7 @@ fn linked(goal: StoredGoal, next: usize) -> StoredGoal
 {
     StoredGoal {
         part: goal.part,
-        kind: goal.kind,
+        origin: goal.origin,
         target: goal.target,
         next,
         argument: goal.argument,

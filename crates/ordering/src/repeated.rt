@@ -3,7 +3,7 @@
 use agenda::Agenda;
 use agenda::Decision;
 use agenda::GOAL;
-use agenda::StoredGoal;
+use agenda::HEIGHT_BYTES;
 use agenda::TARGET_BYTES;
 use assignments::Entry;
 use joins::pairs::Pairs;
@@ -38,7 +38,7 @@ fn find_second(pattern: &[u8], work: &[u8], list: usize, goal: usize, x: usize) 
         return Search::Nothing;
     }
     let stored = agenda::goal_at(work, list);
-    if stored.kind != StoredGoal::MATCH {
+    if stored.argument != 0 {
         return find_second(pattern, work, stored.next, goal, x);
     }
     let spines = joins::pairs::spines_at(pattern, x, stored.part);
@@ -61,7 +61,7 @@ fn find_first(pattern: &[u8], work: &[u8], list: usize) -> Search
         return Search::Nothing;
     }
     let goal = agenda::goal_at(work, list);
-    if goal.kind != StoredGoal::MATCH {
+    if goal.argument != 0 {
         return find_first(pattern, work, goal.next);
     }
     let second = find_second(pattern, work, goal.next, list, goal.part);
@@ -96,11 +96,13 @@ pub fn force(
     let Walk::Upto(n) = walk else {
         return Decision::Failed;
     };
-    let top = joins::joining::enclose_into(&b[0..n], pairs.count, work, agenda.top);
+    let value = agenda.top + HEIGHT_BYTES;
+    let top = joins::joining::enclose_into(&b[0..n], pairs.count, work, value);
+    agenda::keep_heights(work, value, top);
     let one = crate::order::without(work, top, agenda.deferred, r.first);
     let both = crate::order::without(work, one.top, one.list, r.second);
     let at = both.top;
-    let goal = agenda::match_goal(pairs.first, agenda.top, agenda.easy);
+    let goal = agenda::match_goal(pairs.first, value, value, agenda.easy);
     agenda::put_goal(work, at, goal);
     Decision::Next(Agenda {
         top: at + GOAL,

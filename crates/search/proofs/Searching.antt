@@ -1,13 +1,13 @@
 -- One step of the search after another: a search from the next state answers for the state before, and searches for parts of a question
 -- answer for the whole of it. By the laws of moves and of tallies; what stands below `top` stays for the next search. Assumes nothing.
 --   SearchingOn ..   what is known while the ways of a goal are gone through
-use mathlib.Core.Path.{_≡_, refl, sym, ap, _∙_, subst}
+use mathlib.Core.Path.{_≡_, refl, sym, ap, ap₂, _∙_, subst}
 use mathlib.Core.List.{List, [], _∷_}
 use mathlib.Core.Logic.{_⊎_, inl, inr, _↔_}
 use Prim.Native.Nat.{ℕ, suc, _+_, _*_, _<_, _≤_}
 use native.Mathlib.Omega.{arith}
 use native.Mathlib.Decide.{decLt}
-use lib.ListN.{length, getD, take, set, length-set}
+use lib.ListN.{length, take, set, length-set}
 use lib.Seq.{take-take}
 use Rattle.terms.specs.Figures.{valueRecords}
 use Rattle.terms.specs.Term.{Term}
@@ -23,7 +23,9 @@ use Rattle.listing.specs.Outcome.{lineRecords, outcome, Storable, LineStored}
 use Rattle.listing.proofs.Stores.{found-tally}
 use Rattle.agenda.specs.declared.Agenda.{Agenda}
 use Rattle.agenda.specs.declared.Ways.{Ways}
-use Rattle.agenda.specs.State.{Easy, Deferred, Chain, State, Sat, Bounds, Ready, relinking}
+use Rattle.agenda.specs.declared.StoredGoal.{StoredGoal}
+use Rattle.agenda.specs.Stored.{StoredAt}
+use Rattle.agenda.specs.State.{argumentAt, IsMatch, Easy, Deferred, Chain, State, Sat, Bounds, Ready, relinking}
 use Rattle.agenda.specs.Moves.{Question, Move, Failed}
 use Rattle.arguments.specs.Ways.{Way, HasWays}
 use Rattle.builds.specs.Choices.{Choices, CopiesAre, ChosenBody}
@@ -159,18 +161,27 @@ begins-kept k P W s a limit L X done W₁ L₁ X₁ r e n m o u w b =
       };
     }
 
--- which goal is the first is kept too
-kind-kept : (P W : List ℕ) (s : Agenda) (W₁ : List ℕ) → Bounds P W s → take (s .top) W₁ ≡ take (s .top) W
-    → getD W₁ (s .deferred + 1) 0 ≡ getD W (s .deferred + 1) 0
-kind-kept P W s W₁ b e = byte-below W W₁ (s .top) (s .deferred + 1) (omega (arith, b .deferred-room)) e
+-- which goal is the first, told by what was read of it
+pub first-match : (W : List ℕ) (at : ℕ) (r : StoredGoal) → StoredAt W at r → r .argument ≡ 0 → IsMatch W at
+first-match W at r x e = sym (x .argument) ∙ e
+
+pub first-build : (W : List ℕ) (at : ℕ) (r : StoredGoal) → StoredAt W at r → ¬ (r .argument ≡ 0) → ¬ IsMatch W at
+first-build W at r x n e = n (x .argument ∙ e)
+
+-- and it is kept
+argument-kept : (P W : List ℕ) (s : Agenda) (W₁ : List ℕ) → Bounds P W s → take (s .top) W₁ ≡ take (s .top) W
+    → argumentAt W₁ (s .deferred) ≡ argumentAt W (s .deferred)
+argument-kept P W s W₁ b e =
+    let room = b .deferred-room in
+    ap₂ (λ (x y : ℕ). 4 * (x * 256 + y)) (byte-below W W₁ (s .top) (s .deferred + 6) (omega arith) e)
+    (byte-below W W₁ (s .top) (s .deferred + 6 + 1) (omega arith) e)
 
 pub matches-kept : (P W : List ℕ) (s : Agenda) (a : List Entry) (W₁ : List ℕ) → take (s .top) W₁ ≡ take (s .top) W
     → Ready relinking P W₁ s a → ApplicationDeferred P W s a → ApplicationDeferred P W₁ s a
 matches-kept P W s a W₁ e r x = record {
   ready = r;
   some-deferred = x .some-deferred;
-  kind = kind-kept P W s W₁ (x .ready .bounds) e
-      ∙ x .kind;
+  kind = argument-kept P W s W₁ (x .ready .bounds) e ∙ x .kind;
 }
 
 pub counted-kept :
@@ -197,7 +208,7 @@ pub builds-kept : (P W : List ℕ) (s : Agenda) (W₁ : List ℕ) → Bounds P W
 builds-kept P W s W₁ b e x = record {
   none-easy = x .none-easy;
   some-deferred = x .some-deferred;
-  kind = λ q. x .kind (sym (kind-kept P W s W₁ b e) ∙ q);
+  kind = λ q. x .kind (sym (argument-kept P W s W₁ b e) ∙ q);
 }
 
 -- one way after another

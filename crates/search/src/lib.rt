@@ -17,6 +17,7 @@ use agenda::Agenda;
 use agenda::Branch;
 use agenda::Decision;
 use agenda::GOAL;
+use agenda::HEIGHT_BYTES;
 use agenda::Plan;
 use agenda::Step;
 use agenda::StoredGoal;
@@ -284,8 +285,8 @@ fn branch(
     ensures { λ r. ⌜ Searched relinking Sat (now (pattern .entry)) (now (work .entry)) agenda entries limit (now (lines .entry))
         (now (values .entry)) done (now (work .exit)) (now (lines .exit)) (now (values .exit)) r ⌝ }
 {
-    let first = agenda.deferred;
-    if work[first + 1] == StoredGoal::MATCH {
+    let goal = agenda::goal_at(work, agenda.deferred);
+    if goal.argument == 0 {
         return flexible(pattern, work, agenda, entries, limit, lines, values, done);
     }
     build(pattern, work, agenda, entries, limit, lines, values, done)
@@ -376,7 +377,7 @@ pub fn search(
     listing::found(work, entries, lines, values, done)
 }
 
-// All matches of the pattern and the recipe: the recipe is the first target, at the start of the work area.
+// All matches of the pattern and the recipe: the recipe is the first target, at the start of the work area behind its heights.
 pub fn collect(
     pattern: &[u8],
     recipe: &[u8],
@@ -389,12 +390,13 @@ pub fn collect(
     ensures { λ r. ⌜ Collected (now (pattern .entry)) (now (recipe .entry)) limit (now (lines .entry)) (now (values .entry))
         (now (lines .exit)) (now (values .exit)) r ⌝ }
 {
-    copying::copy_into(recipe, work, 0);
-    let first = recipe.len();
+    copying::copy_into(recipe, work, HEIGHT_BYTES);
+    let first = HEIGHT_BYTES + recipe.len();
+    agenda::keep_heights(work, HEIGHT_BYTES, first);
     let goal = StoredGoal {
         part: 0,
-        kind: StoredGoal::MATCH,
-        target: 0,
+        origin: HEIGHT_BYTES,
+        target: HEIGHT_BYTES,
         next: 0,
         argument: 0,
     };

@@ -22,7 +22,7 @@ use Rattle.sweeping.proofs.Contraction.{table-length}
 use Rattle.skeletons.specs.Skeleton.{SkeletonComparable, MayBe, SkeletonApplicable, MayBuild}
 use Rattle.skeletons.specs.Contracted.{ApplicationSkeleton, Writes, WritesApplication}
 
-module _ (c e t : List ℕ) (x : SkeletonApplicable c e t) where
+module _ (c e t h : List ℕ) (x : SkeletonApplicable c e t h) where
   pub applied-argument-whole : Whole e 0
   applied-argument-whole = whole e 0 (x .argument) (x .part)
 
@@ -51,27 +51,28 @@ module _ (c e t : List ℕ) (x : SkeletonApplicable c e t) where
           closed = closed-apply (x .depth) (x .skeleton) (x .argument) (x .closed) (x .argument-closed);
         }
 
-    module _ (out after : List ℕ) (n : ℕ) (w : WritesApplication c table out n after) (h : length out ≡ sweptBytes) where
+    module _ (out after : List ℕ) (n : ℕ) (w : WritesApplication c table out n after) (l : length out ≡ sweptBytes) where
       built : Writes (ApplicationSkeleton (x .skeleton) (x .argument)) out n after
       built = w .written (x .skeleton) (x .argument) (x .bytes) argument-bytes
 
       built-bytes : take (n * 4 - 0) (drop 0 after) ≡ encode (built .skeleton)
       built-bytes =
           stored out after (encode (built .skeleton)) (n * 4) (built .bytes) (omega (arith, built .sized, encode-length (built .skeleton)))
-          (omega (arith, h, w .few))
+          (omega (arith, l, w .few))
 
       pub built-within : n * 4 ≤ length after
-      built-within = omega (arith, h, w .few, ap length (built .bytes), length-sets out 0 (encode (built .skeleton)))
+      built-within = omega (arith, l, w .few, ap length (built .bytes), length-sets out 0 (encode (built .skeleton)))
 
       built-part : Part (take (n * 4 - 0) (drop 0 after)) 0 (built .skeleton)
       built-part = at-start (take (n * 4 - 0) (drop 0 after)) (built .skeleton) built-bytes
 
-      pub built-comparable : SkeletonComparable (take (n * 4 - 0) (drop 0 after)) t
+      pub built-comparable : SkeletonComparable (take (n * 4 - 0) (drop 0 after)) t h
       built-comparable = record {
         skeleton = whole (take (n * 4 - 0) (drop 0 after)) 0 (built .skeleton) built-part;
         term = x .target;
         skeleton-most = omega (arith, w .few, built .sized, table-length (take (n * 4 - 0) (drop 0 after)) (built .skeleton) built-bytes);
         term-most = x .most;
+        heights = x .heights;
       }
 
       pub built-answer : (r : Bool) → MayBe (take (n * 4 - 0) (drop 0 after)) t r → MayBuild c e t r

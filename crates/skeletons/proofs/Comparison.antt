@@ -1,9 +1,9 @@
--- A term compared with a skeleton: what each kind of first record gives. By the skeleton's kind, which the term shares unless it is a hole.
--- Assumes nothing.
-use mathlib.Core.Path.{_≡_, refl, sym, ap₂, _∙_, subst}
+-- A term compared with a skeleton: what each kind of first record gives. By the skeleton's kind, which the term shares unless it is a hole;
+-- at a hole for closed terms the term's height tells. Assumes nothing.
+use mathlib.Core.Path.{_≡_, refl, sym, ap, ap₂, _∙_, subst}
 use mathlib.Core.Bool.{Bool, true, false}
 use mathlib.Core.List.{List, []}
-use Prim.Native.Nat.{ℕ, _+_, _≤_}
+use Prim.Native.Nat.{ℕ, _+_, _/_, _≤_}
 use native.Mathlib.Omega.{arith}
 use lib.Dec.{T}
 use lib.ListN.{length, getD}
@@ -16,12 +16,11 @@ use Rattle.matching.specs.Skeletons.{Fills, Fits}
 use Rattle.matching.proofs.Skeletons.{isVariable, fills-closed, filled-closed, fits-refl}
 use Rattle.records.specs.Record.{numberAt}
 use Rattle.records.specs.Parts.{slice, Part, Whole, Ends}
-use Rattle.records.specs.Tests.{Asks, Walked}
-use Rattle.records.specs.declared.Ask.the-variants.{Bound}
-use Rattle.records.specs.declared.Walk.{Walk}
-use Rattle.records.specs.declared.Walk.the-variants as walk
-use Rattle.records.proofs.Parts.{whole, kind-at, number-at, leaf-size}
-use Rattle.records.proofs.Slices.{part-slice, whole-slice, slice-length}
+use Rattle.records.proofs.Parts.{part-one, whole, kind-at, number-at, leaf-size}
+use Rattle.records.proofs.Slices.{part-slice, slice-length}
+use Rattle.heights.specs.Heights.{height, HeightsAt}
+use Rattle.heights.proofs.Heights.{closed-height, height-closed, heights-first, heights-within, heights-head, heights-argument}
+use Rattle.heights.proofs.Heights.{heights-body, heights-slice}
 use Rattle.instances.specs.declared.Places.{Places}
 use Rattle.instances.specs.declared.Pairing.{Pairing}
 use Rattle.instances.specs.declared.Pairing.the-variants.{Upto, No}
@@ -77,62 +76,66 @@ module _ (c s : List ℕ) where
   unfolding SkeletonCompared
   refused r i q = let m : SkeletonCompared c s No = subst (SkeletonCompared c s) i q in m
 
+-- a skeleton and a term, with the term's heights from index k on
+comparable : (c s h : List ℕ) (k : ℕ) → Whole c 0 → (y : Term) → Part s 0 y → HeightsAt h k y → length c ≤ tableBytes
+    → length s ≤ tableBytes → SkeletonComparable c s (slice h k)
+comparable c s h k x y q i n m = record {
+  skeleton = x;
+  term = record { tree = y; part = q; least = omega (arith, q .some, q .within) };
+  skeleton-most = n;
+  term-most = m;
+  heights = heights-slice h k y i;
+}
+
 module _ (c s : List ℕ) where
-  -- the parts behind byte n of the one slice and byte m of the other
-  compares : (n m : ℕ) (x y : Term) → Part (slice c n) 0 x → Part (slice s m) 0 y → SkeletonComparable c s
-      → SkeletonComparable (slice c n) (slice s m)
-  compares n m x y p q z = record {
-    skeleton = whole (slice c n) 0 x p;
-    term = whole (slice s m) 0 y q;
-    skeleton-most = omega (arith, z .skeleton-most, slice-length c n);
-    term-most = omega (arith, z .term-most, slice-length s m);
-  }
+  -- the parts behind byte n of the one slice and byte m of the other, with the heights behind index k
+  compares : (h : List ℕ) (n m k : ℕ) (x y : Term) → Part (slice c n) 0 x → Part (slice s m) 0 y → HeightsAt h k y
+      → SkeletonComparable c s h → SkeletonComparable (slice c n) (slice s m) (slice h k)
+  compares h n m k x y p q i z =
+      comparable (slice c n) (slice s m) h k (whole (slice c n) 0 x p) y q i (omega (arith, z .skeleton-most, slice-length c n))
+      (omega (arith, z .term-most, slice-length s m))
+
+  -- the term has a height
+  pub heights-some : (h : List ℕ) → SkeletonComparable c s h → 1 ≤ length h
+  heights-some h z = omega (arith, heights-within h 0 (z .term .tree) (z .heights), z .term .part .some)
+
+  height-is : (h : List ℕ) → SkeletonComparable c s h → (y : Term) → Part s 0 y → getD h 0 0 ≡ height y
+  height-is h z y q =
+      heights-first h 0 (z .term .tree) (z .heights) ∙ ap height (part-one s 0 (z .term .tree) y (z .term .part) q)
 
   -- a walk further on in two parts comes to bytes that a number can say
-  pub skeleton-compared-near : (n m : ℕ) (r : Pairing) → SkeletonComparable c s → SkeletonCompared (slice c n) (slice s m) r
-      → NearBoth n m r
+  pub skeleton-compared-near : (h : List ℕ) (n m : ℕ) (r : Pairing) → SkeletonComparable c s h
+      → SkeletonCompared (slice c n) (slice s m) r → NearBoth n m r
   unfolding SkeletonCompared
-  skeleton-compared-near n m (Upto p) x q = (
+  skeleton-compared-near h n m (Upto p) x q = (
     omega (arith, x .skeleton-most, q .0 .more, q .0 .within, slice-length c n),
     omega (arith, x .term-most, q .1 .more, q .1 .within, slice-length s m),
   )
-  skeleton-compared-near n m No x q = tt
-
-  -- where the heads end
-  pub heads-passed : (p : Places) (r : Pairing) → r ≡ Upto p → SkeletonCompared (slice c 4) (slice s 4) r → SkeletonComparable c s
-      → (4 + p .first ≤ length c) × (4 + p .second ≤ length s)
-  heads-passed p r i q x =
-      let m = reached (slice c 4) (slice s 4) p r i q in (
-        omega (arith, m .skeleton-ends .within, slice-length c 4, x .skeleton .least),
-        omega (arith, m .term-ends .within, slice-length s 4, x .term .least),
-      )
+  skeleton-compared-near h n m No x q = tt
 
   module _ (k : getD c 0 0 ≡ 4) where
     filled : (x y : Term) → Part c 0 x → Fills (numberAt c 0) y → Fits x y
     filled x y p f = same-fits (var (numberAt c 0)) y x y (sym (hole-at c 0 x p k)) refl f
 
-    passed : SkeletonComparable c s → (r : ℕ) → Ends s 0 r → ((y : Term) → Part s 0 y → Fills (numberAt c 0) y)
-        → SkeletonCompared c s (Upto (record { first = 4; second = r }))
-    unfolding SkeletonCompared
-    passed z r e f = (slices-leaf c (λ q. omega arith) (λ q. omega arith) (z .skeleton), e, λ x y p q. filled x y p (f y q))
-
-    pub compared-any : (m r : ℕ) → m ≡ numberAt c 0 → m ≡ 0 → SkeletonComparable c s → Ends s 0 r
-        → SkeletonCompared c s (Upto (record { first = 4; second = r }))
-    compared-any m r i z w e = passed w r e (λ y q. subst (λ (n : ℕ). Fills n y) (sym z ∙ i) tt)
-
-    module _ (a : Walk) (v : Walked s 0 (Asks Bound 0) a) where
-      pub compared-closed : (r : ℕ) → a ≡ walk.Upto r → SkeletonComparable c s
+    module _ (h : List ℕ) (z : SkeletonComparable c s h) where
+      passed : (r : ℕ) → Ends s 0 r → ((y : Term) → Part s 0 y → Fills (numberAt c 0) y)
           → SkeletonCompared c s (Upto (record { first = 4; second = r }))
-      unfolding Walked
-      compared-closed r i w =
-          let z : Walked s 0 (Asks Bound 0) (walk.Upto r) = subst (Walked s 0 (Asks Bound 0)) i v in
-          passed w r (z .0) (λ y q. fills-closed (numberAt c 0) y (z .1 y q))
+      unfolding SkeletonCompared
+      passed r e f = (slices-leaf c (λ q. omega arith) (λ q. omega arith) (z .skeleton), e, λ x y p q. filled x y p (f y q))
 
-      pub compared-loose : a ≡ walk.No → (m : ℕ) → m ≡ numberAt c 0 → ¬ (m ≡ 0) → SkeletonCompared c s No
-      unfolding Walked SkeletonCompared
-      compared-loose i m j o x y p q h =
-          let z : Walked s 0 (Asks Bound 0) walk.No = subst (Walked s 0 (Asks Bound 0)) i v in
-          z y q (filled-closed (numberAt c 0) y (λ n. o (j ∙ n)) (same-fits x y (var (numberAt c 0)) y (hole-at c 0 x p k) refl h))
+      pub compared-any : (m r : ℕ) → m ≡ numberAt c 0 → m ≡ 0 → Ends s 0 r
+          → SkeletonCompared c s (Upto (record { first = 4; second = r }))
+      compared-any m r i o e = passed r e (λ y q. subst (λ (n : ℕ). Fills n y) (sym o ∙ i) tt)
+
+      pub compared-closed : (r : ℕ) → getD h 0 0 ≡ 0 → Ends s 0 r → SkeletonCompared c s (Upto (record { first = 4; second = r }))
+      compared-closed r o e =
+          passed r e (λ y q. fills-closed (numberAt c 0) y (height-closed 0 y (omega (arith, o, height-is h z y q))))
+
+      pub compared-loose : (m : ℕ) → m ≡ numberAt c 0 → ¬ (m ≡ 0) → ¬ (getD h 0 0 ≡ 0) → SkeletonCompared c s No
+      unfolding SkeletonCompared
+      compared-loose m j o l x y p q f =
+          let d = filled-closed (numberAt c 0) y (λ n. o (j ∙ n)) (same-fits x y (var (numberAt c 0)) y (hole-at c 0 x p k) refl f) in
+          l (omega (arith, closed-height 0 y d, height-is h z y q))
 
   pub skeleton-compared-kinds : ¬ (getD c 0 0 ≡ 4) → ¬ (getD c 0 0 ≡ getD s 0 0) → SkeletonCompared c s No
   unfolding SkeletonCompared
@@ -140,11 +143,11 @@ module _ (c s : List ℕ) where
 
   module _ (e : getD c 0 0 ≡ getD s 0 0) where
     module _ (w : getD c 0 0 ≡ 0) where
-      pub skeleton-compares-head : SkeletonComparable c s → SkeletonComparable (slice c 4) (slice s 4)
-      skeleton-compares-head x =
+      pub skeleton-compares-head : (h : List ℕ) → SkeletonComparable c s h → SkeletonComparable (slice c 4) (slice s 4) (slice h 1)
+      skeleton-compares-head h x =
           let u = application-slices c (x .skeleton .tree) (x .skeleton .part) w in
           let v = application-slices s (x .term .tree) (x .term .part) (sym e ∙ w) in
-          compares 4 4 (u .f) (v .f) (u .head) (v .head) x
+          compares h 4 4 1 (u .f) (v .f) (u .head) (v .head) (heights-head h 0 (x .term .tree) (x .heights) (v .f) (v .a) (v .is)) x
 
       pub skeleton-compared-stop : (r : Pairing) → r ≡ No → SkeletonCompared (slice c 4) (slice s 4) r → SkeletonCompared c s No
       unfolding SkeletonCompared
@@ -158,12 +161,26 @@ module _ (c s : List ℕ) where
         come : FitReached (slice c 4) (slice s 4) p
         come = reached (slice c 4) (slice s 4) p r i q
 
-        pub skeleton-compares-argument : SkeletonComparable c s → SkeletonComparable (slice c (4 + p .first)) (slice s (4 + p .second))
-        skeleton-compares-argument x =
+        -- where the heads and the heights of the term's head end
+        pub heads-passed : (h : List ℕ) → SkeletonComparable c s h
+            → (4 + p .first ≤ length c) × (4 + p .second ≤ length s) × ((4 + p .second) / 4 ≤ length h)
+        heads-passed h x =
+            let v = application-slices s (x .term .tree) (x .term .part) (sym e ∙ w) in (
+              omega (arith, come .skeleton-ends .within, slice-length c 4, x .skeleton .least),
+              omega (arith, come .term-ends .within, slice-length s 4, x .term .least),
+              omega (arith, come .term-ends .exact (v .f) (v .head), heights-within h 0 (x .term .tree) (x .heights), ap size (v .is)),
+            )
+
+        pub skeleton-compares-argument : (h : List ℕ) → SkeletonComparable c s h
+            → SkeletonComparable (slice c (4 + p .first)) (slice s (4 + p .second)) (slice h ((4 + p .second) / 4))
+        skeleton-compares-argument h x =
             let u = application-slices c (x .skeleton .tree) (x .skeleton .part) w in
             let v = application-slices s (x .term .tree) (x .term .part) (sym e ∙ w) in
-            compares (4 + p .first) (4 + p .second) (u .a) (v .a) (slices-argument c (p .first) (x .skeleton .tree) (come .skeleton-ends) u)
-            (slices-argument s (p .second) (x .term .tree) (come .term-ends) v) x
+            let k : 0 + 1 + size (v .f) ≡ (4 + p .second) / 4 = omega (arith, come .term-ends .exact (v .f) (v .head)) in
+            compares h (4 + p .first) (4 + p .second) ((4 + p .second) / 4) (u .a) (v .a)
+            (slices-argument c (p .first) (x .skeleton .tree) (come .skeleton-ends) u)
+            (slices-argument s (p .second) (x .term .tree) (come .term-ends) v)
+            (subst (λ (i : ℕ). HeightsAt h i (v .a)) k (heights-argument h 0 (x .term .tree) (x .heights) (v .f) (v .a) (v .is))) x
 
         pub skeleton-compared-app : (o a : Pairing) → a ≡ bothFurther (4 + p .first) (4 + p .second) o
             → SkeletonCompared (slice c (4 + p .first)) (slice s (4 + p .second)) o → SkeletonCompared c s a
@@ -193,11 +210,11 @@ module _ (c s : List ℕ) where
                 (slices-argument s (p .second) y (come .term-ends) v) (k .1)
 
     module _ (w : getD c 0 0 ≡ 1) where
-      pub skeleton-compares-body : SkeletonComparable c s → SkeletonComparable (slice c 4) (slice s 4)
-      skeleton-compares-body x =
+      pub skeleton-compares-body : (h : List ℕ) → SkeletonComparable c s h → SkeletonComparable (slice c 4) (slice s 4) (slice h 1)
+      skeleton-compares-body h x =
           let u = abstraction-slices c (x .skeleton .tree) (x .skeleton .part) w in
           let v = abstraction-slices s (x .term .tree) (x .term .part) (sym e ∙ w) in
-          compares 4 4 (u .b) (v .b) (u .body) (v .body) x
+          compares h 4 4 1 (u .b) (v .b) (u .body) (v .body) (heights-body h 0 (x .term .tree) (x .heights) (v .b) (v .is)) x
 
       pub skeleton-compared-lam : (o a : Pairing) → a ≡ bothFurther 4 4 o → SkeletonCompared (slice c 4) (slice s 4) o
           → SkeletonCompared c s a
@@ -219,15 +236,15 @@ module _ (c s : List ℕ) where
               m (u .b) (v .b) (u .body) (v .body) (same-fits x y (lam (u .b)) (lam (v .b)) (u .is) (v .is) h)
 
     module _ (n m : ℕ) (i : n ≡ numberAt c 0) (j : m ≡ numberAt s 0) where
-      pub compared-same : ¬ (getD c 0 0 ≡ 0) → ¬ (getD c 0 0 ≡ 1) → SkeletonComparable c s → n ≡ m
+      pub compared-same : ¬ (getD c 0 0 ≡ 0) → ¬ (getD c 0 0 ≡ 1) → (h : List ℕ) → SkeletonComparable c s h → n ≡ m
           → SkeletonCompared c s (Upto (record { first = 4; second = 4 }))
       unfolding SkeletonCompared
-      compared-same o l z h = (
+      compared-same o l h z b = (
         slices-leaf c o l (z .skeleton),
         slices-leaf s (λ q. o (e ∙ q)) (λ q. l (e ∙ q)) (z .term),
         λ x y p q. subst (Fits x)
             (single-same x y (leaf-size c 0 x p o l) (leaf-size s 0 y q (λ k. o (e ∙ k)) (λ k. l (e ∙ k)))
-            (sym (kind-at c 0 x p) ∙ e ∙ kind-at s 0 y q) (sym (number-at c 0 x p) ∙ sym i ∙ h ∙ j ∙ number-at s 0 y q))
+            (sym (kind-at c 0 x p) ∙ e ∙ kind-at s 0 y q) (sym (number-at c 0 x p) ∙ sym i ∙ b ∙ j ∙ number-at s 0 y q))
             (fits-refl x),
       )
 
@@ -245,15 +262,11 @@ module _ (c s : List ℕ) where
   unfolding MayBe
   may-be-not r i q = refused c s r i q
 
--- a part of a table, handed on as a slice
+-- a part of a table, handed on as a slice, and its heights
 module _ (c s : List ℕ) (t : ℕ) where
-  pub skeleton-comparable-at : Whole c 0 → Whole s t → length c ≤ tableBytes → length s ≤ t + tableBytes → SkeletonComparable c (slice s t)
-  skeleton-comparable-at x y n m = record {
-    skeleton = x;
-    term = whole-slice s t y;
-    skeleton-most = n;
-    term-most = omega (arith, slice-length s t);
-  }
+  pub skeleton-comparable-at : (h : List ℕ) (k : ℕ) → Whole c 0 → (y : Term) → Part s t y → HeightsAt h k y → length c ≤ tableBytes
+      → length s ≤ t + tableBytes → SkeletonComparable c (slice s t) (slice h k)
+  skeleton-comparable-at h k x y p i n m = comparable c (slice s t) h k x y (part-slice s t y p) i n (omega (arith, slice-length s t))
 
   pub may-be-at : (r : Bool) → r ≡ false → MayBe c (slice s t) r → (x y : Term) → Part c 0 x → Part s t y → ¬ Fits x y
   unfolding MayBe

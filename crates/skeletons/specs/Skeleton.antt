@@ -3,9 +3,10 @@
 --   SkeletonInput l s a                a part of a pattern, as a table, with the values of its assigned variables
 --   IsSkeleton s a t x                 every swept form of t, filled with values and so, fits the skeleton x
 --   WritesSkeleton l s a out n after   the skeleton of the part with the table l was written into out from byte 0 on, n records
---   SkeletonComparable c s             c begins with a skeleton, and s with a term
+--   SkeletonComparable c s h           c begins with a skeleton, s with a term, and h with the heights of that term's parts
 --   MayBe c s r                        unless r, the term that s begins with doesn't fit the skeleton that c begins with
---   SkeletonApplicable c e t           a skeleton, as a table, and two terms that e and t begin with
+--   SkeletonApplicable c e t h         a skeleton, as a table, and two terms that e and t begin with; h begins with the heights of the
+--                                      latter's parts
 --   MayBuild c e t r                   unless r, no abstraction that fits the skeleton with the table c comes to the term that t begins
 --                                      with, with the one that e begins with put in
 use mathlib.Core.Path.{_≡_}
@@ -21,6 +22,7 @@ use Rattle.terms.specs.Table.{encode}
 use Rattle.matching.specs.Lists.{Values}
 use Rattle.matching.specs.Skeletons.{Fits}
 use Rattle.records.specs.Parts.{Part, Whole}
+use Rattle.heights.specs.Heights.{HeightsAt}
 use Rattle.assignments.specs.Entries.{Given}
 use Rattle.assignments.specs.declared.Span.{Span}
 use Rattle.assignments.specs.declared.Entry.{Entry}
@@ -56,17 +58,18 @@ pub record WritesSkeleton (l s : List ℕ) (a : List Entry) (out : List ℕ) (n 
   pub some : 1 ≤ n
   pub few : n ≤ sweptRecords
 
-pub record SkeletonComparable (c s : List ℕ) : Type 0 where
+pub record SkeletonComparable (c s h : List ℕ) : Type 0 where
   pub skeleton : Whole c 0
   pub term : Whole s 0
   pub skeleton-most : length c ≤ tableBytes
   pub term-most : length s ≤ tableBytes
+  pub heights : HeightsAt h 0 (term .tree)
 
 unfoldable pub MayBe : List ℕ → List ℕ → Bool → Type 0
 MayBe c s true = Unit {0}
 MayBe c s false = (x y : Term) → Part c 0 x → Part s 0 y → ¬ Fits x y
 
-pub record SkeletonApplicable (c e t : List ℕ) : Type 0 where
+pub record SkeletonApplicable (c e t h : List ℕ) : Type 0 where
   pub skeleton : Term
   pub argument : Term
   pub bytes : c ≡ encode skeleton
@@ -80,6 +83,7 @@ pub record SkeletonApplicable (c e t : List ℕ) : Type 0 where
   pub argument-closed : Closed depth argument
   pub target : Whole t 0
   pub most : length t ≤ tableBytes
+  pub heights : HeightsAt h 0 (target .tree)
 
 unfoldable pub MayBuild : List ℕ → List ℕ → List ℕ → Bool → Type 0
 MayBuild c e t true = Unit {0}

@@ -5,8 +5,8 @@
 // skeleton with some term in place of each hole, a closed one where the part that the hole stands for is closed; so a target that doesn't
 // fit the skeleton is never met, and a skeleton without a hole is the swept part itself. The crate writes skeletons, a hole as a variable's
 // record, looks for holes in them, applies them, and compares them with terms. It promises that the swept part fits what it writes. It
-// rests on `matching` for the laws of skeletons, on `sweeping` for single contractions, on `assignments` for values, and on `instances`
-// for the answer of a walk over two parts.
+// rests on `matching` for the laws of skeletons, on `sweeping` for single contractions, on `assignments` for values, on `heights` for what
+// tells that a term is closed, and on `instances` for the answer of a walk over two parts.
 //
 // A hole takes in whatever isn't certain, so that nothing has to be promised of how much a skeleton shows, only that every swept form fits
 // it. A hole for a part without loose locals takes closed terms alone, since values bring in no loose local: such a term is never the local
@@ -16,7 +16,6 @@
 use assignments::Entry;
 use instances::Pairing;
 use instances::Places;
-use records::Ask;
 use records::Kind;
 use records::RECORD;
 use records::VARIABLES;
@@ -243,52 +242,49 @@ pub fn skeleton(
     1
 }
 
-// Passes the term that s begins with at the hole that c begins with, if it may stand there.
-fn fits_hole(c: &[u8], s: &[u8]) -> Pairing
-    requires { ⌜ SkeletonComparable (now c) (now s) × (getD (now c) 0 0 ≡ variableKind) ⌝ }
+// Passes the term that s begins with at the hole that c begins with, if it may stand there: at a hole for closed terms the height that is
+// kept of it tells.
+fn fits_hole(c: &[u8], s: &[u8], heights: &[u8]) -> Pairing
+    requires { ⌜ SkeletonComparable (now c) (now s) (now heights) × (getD (now c) 0 0 ≡ variableKind) ⌝ }
     ensures { λ r. ⌜ SkeletonCompared (now (c .entry)) (now (s .entry)) r ⌝ }
 {
-    if records::number_at(c, 0) == ANY {
-        let n = records::end_at(s, 0);
-        return Pairing::Upto(Places {
-            first: RECORD,
-            second: n,
-        });
+    if records::number_at(c, 0) != ANY {
+        if heights[0] != 0 {
+            return Pairing::No;
+        }
     }
-    let closed = records::ask_part(s, Ask::Bound, 0);
-    match closed {
-        Walk::Upto(n) => Pairing::Upto(Places {
-            first: RECORD,
-            second: n,
-        }),
-        Walk::No => Pairing::No,
-    }
+    Pairing::Upto(Places {
+        first: RECORD,
+        second: records::end_at(s, 0),
+    })
 }
 
 // Walks over the skeleton that c begins with and the term that s begins with together, as far as the term fits. At a hole it passes a whole
-// part of the term.
-fn fits(c: &[u8], s: &[u8]) -> Pairing
-    requires { ⌜ SkeletonComparable (now c) (now s) ⌝ }
+// part of the term. The heights of the term's parts are lent beside it.
+fn fits(c: &[u8], s: &[u8], heights: &[u8]) -> Pairing
+    requires { ⌜ SkeletonComparable (now c) (now s) (now heights) ⌝ }
     ensures { λ r. ⌜ SkeletonCompared (now (c .entry)) (now (s .entry)) r ⌝ }
 {
     let kind = c[0];
     if kind == Kind::VARIABLE.code {
-        return fits_hole(c, s);
+        return fits_hole(c, s, heights);
     }
     if kind != s[0] {
         return Pairing::No;
     }
     if kind == Kind::APPLICATION.code {
-        let head = fits(&c[RECORD..], &s[RECORD..]);
+        let head = fits(&c[RECORD..], &s[RECORD..], &heights[1..]);
         let Pairing::Upto(p) = head else {
             return Pairing::No;
         };
         let n = RECORD + p.first;
         let m = RECORD + p.second;
-        return instances::both_further(fits(&c[n..], &s[m..]), n, m);
+        let argument = fits(&c[n..], &s[m..], &heights[m / RECORD..]);
+        return instances::both_further(argument, n, m);
     }
     if kind == Kind::ABSTRACTION.code {
-        return instances::both_further(fits(&c[RECORD..], &s[RECORD..]), RECORD, RECORD);
+        let body = fits(&c[RECORD..], &s[RECORD..], &heights[1..]);
+        return instances::both_further(body, RECORD, RECORD);
     }
     if records::number_at(c, 0) == records::number_at(s, 0) {
         return Pairing::Upto(Places {
@@ -299,12 +295,12 @@ fn fits(c: &[u8], s: &[u8]) -> Pairing
     Pairing::No
 }
 
-// Whether the term that s begins with may be the swept form of a part with the skeleton c.
-pub fn may_be(c: &[u8], s: &[u8]) -> bool
-    requires { ⌜ SkeletonComparable (now c) (now s) ⌝ }
+// Whether the term that s begins with, whose heights are lent beside it, may be the swept form of a part with the skeleton c.
+pub fn may_be(c: &[u8], s: &[u8], heights: &[u8]) -> bool
+    requires { ⌜ SkeletonComparable (now c) (now s) (now heights) ⌝ }
     ensures { λ r. ⌜ MayBe (now (c .entry)) (now (s .entry)) r ⌝ }
 {
-    let walk = fits(c, s);
+    let walk = fits(c, s, heights);
     match walk {
         Pairing::Upto(_) => true,
         Pairing::No => false,
@@ -312,14 +308,15 @@ pub fn may_be(c: &[u8], s: &[u8]) -> bool
 }
 
 // Whether a part with the skeleton c, which is no hole, may be an abstraction that comes to the term that the target begins with, with
-// the one that the argument begins with put in: the former fits the skeleton applied to the latter.
-pub fn may_build(c: &[u8], argument: &[u8], target: &[u8]) -> bool
-    requires { ⌜ SkeletonApplicable (now c) (now argument) (now target) × ¬ (getD (now c) 0 0 ≡ variableKind) ⌝ }
+// the one that the argument begins with put in: the former fits the skeleton applied to the latter. The heights of the target's parts are
+// lent beside it.
+pub fn may_build(c: &[u8], argument: &[u8], target: &[u8], heights: &[u8]) -> bool
+    requires { ⌜ SkeletonApplicable (now c) (now argument) (now target) (now heights) × ¬ (getD (now c) 0 0 ≡ variableKind) ⌝ }
     ensures { λ r. ⌜ MayBuild (now (c .entry)) (now (argument .entry)) (now (target .entry)) r ⌝ }
 {
     let end = records::end_at(argument, 0);
     let mut built = [0u8; SWEPT_BYTES];
     let n = apply_skeleton(c, &argument[0..end], &mut built);
     let n = n * RECORD;
-    may_be(&built[0..n], target)
+    may_be(&built[0..n], target, heights)
 }

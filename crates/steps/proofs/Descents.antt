@@ -4,11 +4,11 @@ use mathlib.Core.Path.{_≡_, refl, sym, ap, ap₂, _∙_, subst, subst₂}
 use mathlib.Core.Bool.{Bool, true}
 use mathlib.Core.Logic.{inl, inr, _↔_}
 use mathlib.Core.List.{List, [], _∷_}
-use Prim.Native.Nat.{ℕ, suc, _+_, _-_, _*_, _%_, _≤_}
+use Prim.Native.Nat.{ℕ, suc, _+_, _-_, _*_, _%_, _<_, _≤_}
 use native.Mathlib.Omega.{arith}
 use lib.ListN.{length, getD, take, drop, length-take}
 use lib.Seq.{sets}
-use Rattle.terms.specs.Figures.{variables, patternRecords, tableBytes}
+use Rattle.terms.specs.Figures.{variables, patternRecords, valueRecords, tableBytes}
 use Rattle.terms.specs.Term.{Term, app, lam, loc, con, var, size, shift, Normal, Ground, Closed}
 use Rattle.terms.specs.Table.{recordBytes, encode}
 use Rattle.terms.specs.Sweep.{sweep, fill}
@@ -24,6 +24,7 @@ use Rattle.matching.proofs.Cuts.{rigid-application, no-local}
 use Rattle.records.specs.Parts.{slice, Part, Whole, Ends}
 use Rattle.records.proofs.Slices.{part-slice}
 use Rattle.records.proofs.Parts.{kind-at, application, abstraction, argument-part, whole-head}
+use Rattle.heights.specs.Heights.{heights}
 use Rattle.assignments.specs.declared.Entry.{Entry}
 use Rattle.substitution.specs.Writers.{Source, Wrote}
 use Rattle.sweeping.proofs.Contraction.{closed-fits}
@@ -32,13 +33,14 @@ use Rattle.copying.proofs.Stores.{written-then, stored}
 use Rattle.agenda.specs.declared.Agenda.{Agenda}
 use Rattle.agenda.specs.declared.StoredGoal.{StoredGoal}
 use Rattle.agenda.specs.declared.Step.the-variants as step
-use Rattle.agenda.specs.Stored.{storedBytes, storedMatch}
-use Rattle.agenda.specs.State.{goalBytes, targetBytes, Target, Easy, Deferred, Bounds}
+use Rattle.agenda.specs.Stored.{partLimit, storedBytes, storedMatch}
+use Rattle.agenda.specs.State.{goalBytes, heightBytes, targetBytes, HeightsBeside, WrittenTarget, Target, Easy, Deferred, Bounds}
 use Rattle.steps.specs.Steps.{Stepped}
 use Rattle.agenda.specs.Locals.{Locals, Lacks}
 use Rattle.steps.specs.Opening.{Opens, Expandable, Expanded}
+use Rattle.agenda.proofs.Targets.{beside-head, beside-argument, beside-body, NewTarget, written-target, new-target}
 use Rattle.agenda.proofs.Lacking.{all-marks-at, locals-at, lacks-at}
-use Rattle.agenda.proofs.Frame.{Kept, target-kept, chain-kept, holds-kept, part-stored, kept-sets, kept-then, length-stored}
+use Rattle.agenda.proofs.Frame.{Kept, target-kept, chain-kept, holds-kept, kept-sets, kept-then, length-stored}
 use Rattle.steps.proofs.Opening.{Opened, easy-opened, match-pushed, Pushed, step-failed, replaced}
 
 -- what stands in a state that is known to be there
@@ -52,7 +54,7 @@ module _ (P W : List ℕ) (s : Agenda) (a : List Entry) (r : StoredGoal) (x : Op
   pub target-head-whole : getD W (r .target) 0 ≡ 0 → Whole W (r .target + 4)
   target-head-whole k = whole-head W (r .target) (x .target) k
 
-  pub applies : Expandable W (r .target) (s .top)
+  pub applies : Expandable W (r .target) (s .top + heightBytes)
   applies =
       let o = known in
       let b = x .ready .bounds in
@@ -138,8 +140,8 @@ module _ (P W : List ℕ) (s : Agenda) (a : List Entry) (r : StoredGoal) (x : Op
   body-goal :
       (Y : List ℕ) (at i : ℕ) (gs hs : List Goal) (o : Opened P W s r gs hs) (u : Term) → bodyTarget (o .t) ≡ u → Part Y i u
       → i + 4 * size u ≤ at → size u ≤ size (o .t) + 2
-      → Pushed P Y at (storedMatch (r .part + 4) i (r .next)) (o .p) (o .t)
-  body-goal Y at i gs hs o u e y below short =
+      → (b : ℕ) → HeightsBeside Y b i u → Pushed P Y at (storedMatch (r .part + 4) b i (r .next)) (o .p) (o .t)
+  body-goal Y at i gs hs o u e y below short origin heights =
       let v = abstraction P (r .part) (o .p) (o .part) k in
       let n = ap size (v .is) in
       let g = o .target in
@@ -159,6 +161,7 @@ module _ (P W : List ℕ) (s : Agenda) (a : List Entry) (r : StoredGoal) (x : Op
           few = omega arith;
           closed = subst₂ Closed (omega arith) e (bodyTarget-closed (patternRecords - size (o .p)) (o .t) (g .closed));
           short = omega (arith, g .short);
+          heights = heights;
         };
         suits = (suits .0, normal);
         fewer = omega arith;
@@ -168,44 +171,77 @@ module _ (P W : List ℕ) (s : Agenda) (a : List Entry) (r : StoredGoal) (x : Op
 
   pub body-pushed :
       (X : List ℕ) → getD W (r .target) 0 ≡ 1
-      → X ≡ sets W (s .top) (storedBytes (storedMatch (r .part + 4) (r .target + 4) (r .next)))
+      → X ≡ sets W (s .top) (storedBytes (storedMatch (r .part + 4) (r .origin) (r .target + 4) (r .next)))
       → Stepped P W s a X (step.Left (record { top = s .top + goalBytes; easy = s .top; deferred = s .deferred }))
   body-pushed X t e =
       let b = x .ready .bounds in
-      replaced P W s a r x W X (s .top) (storedMatch (r .part + 4) (r .target + 4) (r .next))
+      replaced P W s a r x W X (s .top) (storedMatch (r .part + 4) (r .origin) (r .target + 4) (r .next))
       (record { same = refl; from = omega (arith, b .top, b .whole); to = omega (arith, b .top, b .whole) }) (b .whole) e (omega arith)
       (omega arith) (b .even)
-      refl refl (omega (arith, x .part-even)) (omega (arith, x .target-even)) refl
+      refl refl (omega (arith, x .part-even)) (x .origin-even) (omega (arith, x .target-even))
       (λ gs hs l y o.
       let z = abstraction W (r .target) (o .t) (o .target .part) t in
       let n = ap size (z .is) in
-      body-goal W (s .top) (r .target + 4) gs hs o (z .b) (ap bodyTarget (z .is)) (z .body) (omega (arith, o .target .below)) (omega arith))
+      body-goal W (s .top) (r .target + 4) gs hs o (z .b) (ap bodyTarget (z .is)) (z .body) (omega (arith, o .target .below)) (omega arith)
+      (r .origin) (beside-body W (r .origin) (r .target) (o .t) (o .target .heights) (z .b) (z .is)))
 
-  pub applied-pushed :
-      (Y X : List ℕ) (end : ℕ) → ¬ (getD W (r .target) 0 ≡ 1) → Expanded W (r .target) (s .top) Y end
-      → X ≡ sets Y end (storedBytes (storedMatch (r .part + 4) (s .top) (r .next)))
-      → Stepped P W s a X (step.Left (record { top = end + goalBytes; easy = end; deferred = s .deferred }))
-  applied-pushed Y X end t d e =
-      let b = x .ready .bounds in
-      let o = known P W s a r x in
-      let h = d .bytes (o .t) (o .target .part) in
-      let whole = b .whole in
-      let top = b .top in
-      let even = b .even in
-      replaced P W s a r x Y X end (storedMatch (r .part + 4) (s .top) (r .next))
-      (kept-sets (encode (app (shift 1 0 (o .t)) (loc 0))) W Y (s .top) (s .top) h (omega arith) (omega arith))
-      (length-stored (encode (app (shift 1 0 (o .t)) (loc 0))) W Y (s .top) h ∙ whole) e (d .more) (omega (arith, d .most))
-      (omega (arith, d .exact (o .t) (o .target .part))) refl refl (omega (arith, x .part-even)) even refl
-      (λ gs hs l y o.
-      let n = d .exact (o .t) (o .target .part) in
-      let z = d .bytes (o .t) (o .target .part) in
-      body-goal Y end (s .top) gs hs o (app (shift 1 0 (o .t)) (loc 0))
-      (other-target (o .t) (λ q. t (kind-at W (r .target) (o .t) (o .target .part) ∙ q)))
-      (subst (λ (i : List ℕ). Part i (s .top) (app (shift 1 0 (o .t)) (loc 0))) (sym z)
-      (part-stored (app (shift 1 0 (o .t)) (loc 0)) W (s .top) (omega (arith, d .most, x .room))))
-      (omega (arith, n)) (omega (arith, size-shift 1 0 (o .t))))
+  module _ (Y : List ℕ) (end : ℕ) (t : ¬ (getD W (r .target) 0 ≡ 1)) (d : Expanded W (r .target) (s .top + heightBytes) Y end) where
+    abbrev applied : Term → Term
+    applied t = app (shift 1 0 t) (loc 0)
+
+    -- what was written is short enough to be a target: an abstraction has two records
+    module _ {gs hs : List Goal} (o : Opened P W s r gs hs) where
+      applied-few : size (applied (o .t)) ≤ valueRecords
+      applied-few =
+          let v = abstraction P (r .part) (o .p) (o .part) k in
+          omega (arith, o .target .short, size-shift 1 0 (o .t), ap size (v .is), v .body .some)
+
+      applied-room : s .top + heightBytes + 4 * size (applied (o .t)) ≤ length W
+      applied-room = omega (arith, applied-few, x .room, x .ready .bounds .whole)
+
+      applied-bytes : Y ≡ sets W (s .top + heightBytes) (encode (applied (o .t)))
+      applied-bytes = d .bytes (o .t) (o .target .part)
+
+    pub applied-written : WrittenTarget Y (s .top + heightBytes) end
+    applied-written =
+        let o = known P W s a r x in
+        written-target W Y Y (s .top) (applied (o .t)) (applied-bytes o) (applied-room o) (applied-few o)
+        (subst (Closed patternRecords) (other-target (o .t) (λ q. t (kind-at W (r .target) (o .t) (o .target .part) ∙ q)))
+        (closed-more (suc (patternRecords - size (o .p))) patternRecords (bodyTarget (o .t)) (omega (arith, o .target .few, o .part .some))
+        (bodyTarget-closed (patternRecords - size (o .p)) (o .t) (o .target .closed))))
+        end (d .exact (o .t) (o .target .part))
+
+    module _ (Z : List ℕ)
+        (g : (u : Term) → Part Y (s .top + heightBytes) u → Z ≡ sets Y (s .top + heightBytes - heightBytes) (heights u)) where
+      made : {gs hs : List Goal} → (o : Opened P W s r gs hs) → NewTarget W Z (s .top) (applied (o .t))
+      made o = new-target W Y Z (s .top) (applied (o .t)) (applied-bytes o) (applied-room o) (applied-few o) g
+
+      pub applied-pushed :
+          (X : List ℕ) → X ≡ sets Z end (storedBytes (storedMatch (r .part + 4) (s .top + heightBytes) (s .top + heightBytes) (r .next)))
+          → Stepped P W s a X (step.Left (record { top = end + goalBytes; easy = end; deferred = s .deferred }))
+      applied-pushed X e =
+          let b = x .ready .bounds in
+          let whole = b .whole in
+          let even = b .even in
+          let o = known P W s a r x in
+          replaced P W s a r x Z X end (storedMatch (r .part + 4) (s .top + heightBytes) (s .top + heightBytes) (r .next))
+          (made o .kept) (made o .same-length ∙ whole) e (omega (arith, d .more)) (omega (arith, d .most))
+          (omega (arith, d .exact (o .t) (o .target .part))) refl refl (omega (arith, x .part-even)) (omega (arith, even))
+          (omega (arith, even))
+          (λ gs hs l y o.
+          body-goal Z end (s .top + heightBytes) gs hs o (applied (o .t))
+          (other-target (o .t) (λ q. t (kind-at W (r .target) (o .t) (o .target .part) ∙ q))) (made o .part)
+          (omega (arith, d .exact (o .t) (o .target .part))) (omega (arith, size-shift 1 0 (o .t)))
+          (s .top + heightBytes) (made o .heights))
 
 -- an application
+pub argument-near : (P W : List ℕ) (s : Agenda) (a : List Entry) (r : StoredGoal) → Opens P W s a r → (i : ℕ) → getD W (r .target) 0 ≡ 0
+    → Ends W (r .target + 4) i → i < r .origin + partLimit
+argument-near P W s a r x i t c =
+    let o = known P W s a r x in
+    let u = application W (r .target) (o .t) (o .target .part) t in
+    omega (arith, c .exact (u .f) (u .head), ap size (u .is), o .target .heights .within)
+
 module _ (P W : List ℕ) (s : Agenda) (a : List Entry) (r : StoredGoal) (x : Opens P W s a r) (k : getD P (r .part) 0 ≡ 0) where
   -- with a rigid head
   module _ (rigid-head : (t : Term) → Part P (r .part) t → rigid t ≡ true) where
@@ -224,15 +260,15 @@ module _ (P W : List ℕ) (s : Agenda) (a : List Entry) (r : StoredGoal) (x : Op
 
     module _ (h i : ℕ) (t : getD W (r .target) 0 ≡ 0) (d : Ends P (r .part + 4) h) (c : Ends W (r .target + 4) i) where
       abbrev first : StoredGoal
-      first = storedMatch h i (r .next)
+      first = storedMatch h (r .origin) i (r .next)
 
       abbrev second : StoredGoal
-      second = storedMatch (r .part + 4) (r .target + 4) (s .top)
+      second = storedMatch (r .part + 4) (r .origin) (r .target + 4) (s .top)
 
       pub step-parts-pushed :
-          (Y X : List ℕ) → Y ≡ sets W (s .top) (storedBytes (storedMatch h i (r .next)))
+          (Y X : List ℕ) → Y ≡ sets W (s .top) (storedBytes (storedMatch h (r .origin) i (r .next)))
           → X
-          ≡ sets Y (s .top + goalBytes) (storedBytes (storedMatch (r .part + 4) (r .target + 4) (s .top)))
+          ≡ sets Y (s .top + goalBytes) (storedBytes (storedMatch (r .part + 4) (r .origin) (r .target + 4) (s .top)))
           → Stepped P W s a X
           (step.Left (record { top = s .top + goalBytes + goalBytes; easy = s .top + goalBytes; deferred = s .deferred }))
       unfolding Stepped
@@ -253,7 +289,7 @@ module _ (P W : List ℕ) (s : Agenda) (a : List Entry) (r : StoredGoal) (x : Op
             subst (Closed (patternRecords - size (o .p))) (w .is) (g .closed) in
             let suits : Listable variables (OccursIn P) (match (app (u .f) (u .a)) (o .t)) =
             subst (λ (p : Term). Listable variables (OccursIn P) (match p (o .t))) (u .is) (o .suits) in
-            let head : Target W (s .top) (size (u .f)) (r .target + 4) (w .f) = record {
+            let head : Target W (s .top) (size (u .f)) (r .origin) (r .target + 4) (w .f) = record {
               part = w .head;
               below = omega arith;
               normal = normal .1;
@@ -261,8 +297,9 @@ module _ (P W : List ℕ) (s : Agenda) (a : List Entry) (r : StoredGoal) (x : Op
               few = omega arith;
               closed = closed-more (patternRecords - size (o .p)) (patternRecords - size (u .f)) (w .f) (omega arith) (closed .0);
               short = omega arith;
+              heights = beside-head W (r .origin) (r .target) (o .t) (g .heights) (w .f) (w .a) (w .is);
             } in
-            let argument : Target W (s .top) (size (u .a)) i (w .a) = record {
+            let argument : Target W (s .top) (size (u .a)) (r .origin) i (w .a) = record {
               part = argument-part W (r .target) i (o .t) c w;
               below = omega (arith, c .exact (w .f) (w .head));
               normal = normal .2;
@@ -270,10 +307,12 @@ module _ (P W : List ℕ) (s : Agenda) (a : List Entry) (r : StoredGoal) (x : Op
               few = omega arith;
               closed = closed-more (patternRecords - size (o .p)) (patternRecords - size (u .a)) (w .a) (omega arith) (closed .1);
               short = omega arith;
+              heights = subst (λ (j : ℕ). HeightsBeside W (r .origin) j (w .a)) (sym (c .exact (w .f) (w .head)))
+                  (beside-argument W (r .origin) (r .target) (o .t) (g .heights) (w .f) (w .a) (w .is));
             } in
             let chain =
             match-pushed Easy P W Y (s .top) first e (omega arith) (omega arith) even refl
-            (omega arith) part-even target-even next-even refl
+            (omega arith) part-even (x .origin-even) target-even next-even
             (u .a) (w .a) (o .rest) tt
             (argument-part P (r .part) h (o .p) d u) argument ((suits .0 .0 .1, λ j q. suits .0 .1 j (inr q)), normal .2) (o .chain) in
             record {
@@ -284,9 +323,9 @@ module _ (P W : List ℕ) (s : Agenda) (a : List Entry) (r : StoredGoal) (x : Op
                 easy =
                     match-pushed Easy P Y X (s .top + goalBytes) second f (omega arith) (omega (arith, written)) (omega (arith, even)) refl
                     (omega arith)
-                    (omega arith) (omega arith) even refl (u .f) (w .f)
+                    (omega arith) (x .origin-even) (omega arith) even (u .f) (w .f)
                     (match (u .a) (w .a) ∷ o .rest) tt (u .head)
-                    (target-kept W Y (s .top) from (s .top + goalBytes) (omega arith) (size (u .f)) (r .target + 4) (w .f) head)
+                    (target-kept W Y (s .top) from (s .top + goalBytes) (omega arith) (size (u .f)) (r .origin) (r .target + 4) (w .f) head)
                     ((suits .0 .0 .0, λ j q. suits .0 .1 j (inl q)), normal .1) chain;
                 deferred = chain-kept W X (s .top) all (s .top + goalBytes + goalBytes) (omega arith) P Deferred (s .deferred) hs
                     (y .deferred);
@@ -369,7 +408,7 @@ module _ (P W : List ℕ) (s : Agenda) (a : List Entry) (r : StoredGoal) (x : Op
   -- it is deferred
   pub deferred-as-is :
       (X : List ℕ) → X ≡ sets W (s .top) (storedBytes
-      (storedMatch (r .part) (r .target) (s .deferred)))
+      (storedMatch (r .part) (r .origin) (r .target) (s .deferred)))
       → Stepped P W s a X (step.Left (record { top = s .top + goalBytes; easy = r .next; deferred = s .top }))
   unfolding Stepped
   deferred-as-is X e = record {
@@ -384,8 +423,8 @@ module _ (P W : List ℕ) (s : Agenda) (a : List Entry) (r : StoredGoal) (x : Op
             easy = chain-kept W X (s .top) j (s .top + goalBytes) (omega arith) P Easy (r .next) (o .rest) (o .chain);
             deferred =
                 match-pushed Deferred P W X (s .top) q e (omega (arith, b .start)) (omega (arith, x .room, b .whole)) (b .even) refl
-                (omega (arith, b .deferred-room)) (x .part-even) (x .target-even)
-                (b .deferred-even) refl (o .p) (o .t) hs (subst (λ (p : Term). Deferred (match p (o .t))) (sym (u .is)) tt) (o .part)
+                (omega (arith, b .deferred-room)) (x .part-even) (x .origin-even) (x .target-even)
+                (b .deferred-even) (o .p) (o .t) hs (subst (λ (p : Term). Deferred (match p (o .t))) (sym (u .is)) tt) (o .part)
                 (o .target)
                 (o .suits) (y .deferred);
             entries = holds-kept W X (s .top) j (s .top + goalBytes) (omega arith) a l (y .entries);
@@ -420,7 +459,7 @@ module _ (P W : List ℕ) (s : Agenda) (a : List Entry) (r : StoredGoal) (x : Op
       b = x .ready .bounds
 
       q : StoredGoal
-      q = storedMatch (r .part) (r .target) (s .deferred)
+      q = storedMatch (r .part) (r .origin) (r .target) (s .deferred)
 
       j : Kept W X (s .top)
       j = kept-sets (storedBytes q) W X (s .top) (s .top) e (omega arith) (omega (arith, x .room, b .whole))

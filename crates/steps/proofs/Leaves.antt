@@ -20,14 +20,12 @@ use Rattle.matching.specs.Goals.{Sweeps, Goal, Goal.match, All, Listable}
 use Rattle.matching.proofs.Step.{match-variable}
 use Rattle.matching.proofs.Lines.{extends-entry, extends-set, assigns-set}
 use Rattle.records.specs.Record.{numberAt}
-use Rattle.records.specs.Parts.{slice, Part, Ends}
-use Rattle.records.specs.Tests.{Says, Asks, Walked}
-use Rattle.records.specs.declared.Ask.the-variants.{Bound}
-use Rattle.records.specs.declared.Walk.{Walk}
-use Rattle.records.specs.declared.Walk.the-variants.{Upto, No}
-use Rattle.records.proofs.Slices.{slice-upto, slice-no}
+use Rattle.records.specs.Parts.{Part, Ends}
+use Rattle.records.specs.Tests.{Says}
 use Rattle.records.proofs.Parts.{part-bytes, kind-at, number-at, constant-at, variable-at}
 use Rattle.records.proofs.Tests.{says}
+use Rattle.heights.specs.Heights.{height}
+use Rattle.heights.proofs.Heights.{closed-height, height-closed, heights-first}
 use Rattle.assignments.specs.declared.Span.{Span}
 use Rattle.assignments.specs.declared.Entry.{Entry}
 use Rattle.assignments.specs.declared.Entry.the-variants.{Open, Assigned}
@@ -38,6 +36,7 @@ use Rattle.assignments.proofs.Held.{holds-open, holds-held, holds-set}
 use Rattle.agenda.specs.declared.Agenda.{Agenda}
 use Rattle.agenda.specs.declared.StoredGoal.{StoredGoal}
 use Rattle.agenda.specs.declared.Step.the-variants as step
+use Rattle.agenda.specs.State.{heightsPlace}
 use Rattle.steps.specs.Steps.{Stepped}
 use Rattle.steps.specs.Opening.{Opens, Plain, Names, SameRecord}
 use Rattle.steps.proofs.Opening.{Opened, easy-opened, step-failed, dropped}
@@ -110,33 +109,45 @@ module _ (P W : List ℕ) (s : Agenda) (a : List Entry) (r : StoredGoal) (i : �
   is-value : (gs hs : List Goal) (o : Opened P W s r gs hs) (φ : ℕ → Term) → Values φ → φ i ≡ o .t → Sweeps (o .p) (o .t) φ
   is-value gs hs o φ v z = subst (λ (p : Term). Sweeps p (o .t) φ) (sym (names gs hs o)) (match-variable φ i (o .t) (v i) .1 z)
 
+  -- the height that is kept of the target
+  kept-height : (gs hs : List Goal) (o : Opened P W s r gs hs) (h : ℕ) → h ≡ heightsPlace (r .origin) (r .target)
+      → getD W h 0 ≡ height (o .t)
+  kept-height gs hs o h e =
+      ap (λ (j : ℕ). getD W j 0) e ∙ heights-first W (heightsPlace (r .origin) (r .target)) (o .t) (o .target .heights .heights)
+
+  closed-none : (t : Term) → Closed 0 t → height t ≡ 0
+  closed-none t c = omega (arith, closed-height 0 t c)
+
+  pub height-within : heightsPlace (r .origin) (r .target) < length W
+  height-within =
+      let o = x .opens in
+      let b = o .ready .bounds in
+      omega (arith, o .low, o .within, o .below, o .fits .from, b .top, b .whole)
+
   -- the target isn't closed
-  pub open-missed : (w : Walk) → w ≡ No → Walked (slice W (r .target)) 0 (Asks Bound 0) w → Stepped P W s a W step.Failed
-  unfolding Walked
-  open-missed w e k =
-      let n : Walked W (r .target) (Asks Bound 0) No = slice-no W (r .target) (Asks Bound 0) w e k in
-      step-failed P W s a r (x .opens) (λ gs hs l y o φ v g z. n (o .t) (o .target .part)
-      (subst (Closed 0) (value-is gs hs o φ v z) (v i .0)))
+  pub open-missed : (h : ℕ) → h ≡ heightsPlace (r .origin) (r .target) → ¬ (getD W h 0 ≡ 0) → Stepped P W s a W step.Failed
+  open-missed h e n =
+      step-failed P W s a r (x .opens) (λ gs hs l y o φ v g z.
+      n (kept-height gs hs o h e ∙ closed-none (o .t) (subst (Closed 0) (value-is gs hs o φ v z) (v i .0))))
 
   -- it is, and the variable takes it
   pub open-met :
-      (w : Walk) (n : ℕ) → w ≡ Upto n → Walked (slice W (r .target)) 0 (Asks Bound 0) w → getD a i Open ≡ Open
+      (h end : ℕ) → h ≡ heightsPlace (r .origin) (r .target) → getD W h 0 ≡ 0 → Ends W (r .target) end → getD a i Open ≡ Open
       → Stepped P W s a W (step.Assign (record {
         variable = i;
-        span = record { first = r .target / 4; count = n / 4 };
+        span = record { first = r .target / 4; count = (end - r .target) / 4 };
         agenda = record { top = s .top; easy = r .next; deferred = s .deferred };
       }))
-  unfolding Stepped Walked
-  open-met w n e k q = (
+  unfolding Stepped
+  open-met h end e z m q = (
     x .below,
     record {
       go = λ gs hs l y.
           let o = easy-opened P W s a r (x .opens .some) (x .opens .stored-goal) gs hs l y in
-          let m : Walked W (r .target) (Asks Bound 0) (Upto (r .target + n)) = slice-upto W (r .target) (Asks Bound 0) n w e k in
-          let ends = m .0 .exact (o .t) (o .target .part) in
-          let value : Value (o .t) = (m .1 (o .t) (o .target .part), o .target .normal, o .target .ground) in
+          let closed = height-closed 0 (o .t) (omega (arith, kept-height gs hs o h e, z)) in
+          let value : Value (o .t) = (closed, o .target .normal, o .target .ground) in
           let first : 4 * (r .target / 4) ≡ r .target = omega (arith, x .opens .target-even) in
-          let count : n / 4 ≡ size (o .t) = omega arith in
+          let count : (end - r .target) / 4 ≡ size (o .t) = omega (arith, m .exact (o .t) (o .target .part)) in
           let free : entry l i ≡ none = holds-open W (s .top) a l i (y .entries) q in
           let within : i < length l = omega (arith, y .line, x .below) in
           let occurs : OccursIn P i = o .suits .0 .1 i (subst (λ (p : Term). Occurs i p) (sym (names gs hs o)) refl) in
@@ -148,7 +159,7 @@ module _ (P W : List ℕ) (s : Agenda) (a : List Entry) (r : StoredGoal) (i : �
               easy = o .chain;
               deferred = y .deferred;
               entries =
-                  holds-set W (s .top) a l i (Assigned (record { first = r .target / 4; count = n / 4 })) (some (o .t))
+                  holds-set W (s .top) a l i (Assigned (record { first = r .target / 4; count = (end - r .target) / 4 })) (some (o .t))
                   (record {
                     part = subst (λ (j : ℕ). Part W j (o .t)) (sym first) (o .target .part);
                     count = count;

@@ -2,7 +2,7 @@
 -- is written above `top` begins a chain that holds what the one before held. Assumes nothing.
 --   Opened P W s r gs hs   the goals gs begin with the stored goal r: its terms, the goals behind it and the room for them
 --   Pushed P Y at r p t    the goal to match p with t is as good as that of the stored goal r, which is smaller and stands in Y below `at`
-use mathlib.Core.Path.{_≡_, refl, sym, _∙_, subst}
+use mathlib.Core.Path.{_≡_, refl, sym, _∙_, subst, subst₂}
 use mathlib.Core.Logic.{_↔_}
 use mathlib.Core.List.{List, [], _∷_}
 use Prim.Native.Nat.{ℕ, _+_, _*_, _%_, _<_, _≤_}
@@ -34,7 +34,7 @@ pub record Opened (P W : List ℕ) (s : Agenda) (r : StoredGoal) (gs hs : List G
   pub rest : List Goal
   pub is : gs ≡ match p t ∷ rest
   pub part : Part P (r .part) p
-  pub target : Target W (s .top) (size p) (r .target) t
+  pub target : Target W (s .top) (size p) (r .origin) (r .target) t
   pub suits : Listable variables (OccursIn P) (match p t)
   pub chain : Chain Easy P W (s .top) (r .next) rest
   pub falls : r .next < s .easy
@@ -54,7 +54,8 @@ easy-opened P W s a r some stored-goal gs hs l x = go gs (x .easy) (x .room)
       rest = rest;
       is = refl;
       part = subst (λ (i : ℕ). Part P i p) (sym (stored-goal .part)) (c .0 .goal .part);
-      target = subst (λ (i : ℕ). Target W (s .top) (size p) i t) (sym (stored-goal .target)) (c .0 .goal .target);
+      target = subst₂ (λ (b i : ℕ). Target W (s .top) (size p) b i t) (sym (stored-goal .origin)) (sym (stored-goal .target))
+          (c .0 .goal .target);
       suits = c .0 .goal .suits;
       chain = subst (λ (i : ℕ). Chain Easy P W (s .top) i rest) (sym (stored-goal .next)) (c .1);
       falls = omega (arith, stored-goal .next, c .0 .falls);
@@ -75,10 +76,13 @@ opens P W s a r x some stored-goal fits =
       part = whole P (r .part) (o .p) (o .part);
       target = whole W (r .target) (o .t) (o .target .part);
       part-even = omega (arith, stored-goal .part);
+      origin-even = omega (arith, stored-goal .origin);
       target-even = omega (arith, stored-goal .target);
       next-even = omega (arith, stored-goal .next);
       falls = o .falls;
       below = omega (arith, o .target .below, o .target .part .some);
+      low = o .target .heights .low;
+      within = omega (arith, o .target .heights .within, o .target .part .some);
       room = omega (arith, o .room, o .part .some);
     }
 
@@ -86,21 +90,22 @@ opens P W s a r x some stored-goal fits =
 pub match-pushed :
     (K : Goal → Type 0) (P Y X : List ℕ) (at : ℕ) (q : StoredGoal) → X ≡ sets Y at (storedBytes q) → 0 < at → at + goalBytes ≤ length Y
     → at % 4 ≡ 0
-    → q .kind ≡ 0 → q .next < at → q .part % 4 ≡ 0 → q .target % 4 ≡ 0 → q .next % 4 ≡ 0 → q .argument % 4 ≡ 0
-    → (p t : Term) (gs : List Goal) → K (match p t) → Part P (q .part) p → Target Y at (size p) (q .target) t
+    → q .argument ≡ 0 → q .next < at → q .part % 4 ≡ 0 → q .origin % 4 ≡ 0 → q .target % 4 ≡ 0 → q .next % 4 ≡ 0
+    → (p t : Term) (gs : List Goal) → K (match p t) → Part P (q .part) p → Target Y at (size p) (q .origin) (q .target) t
     → Listable variables (OccursIn P) (match p t)
     → Chain K P Y at (q .next) gs → Chain K P X (at + goalBytes) at (match p t ∷ gs)
 match-pushed K P Y X at q e low room even kind falls a b c d p t gs fit part target suits chain =
     let k = kept-sets (storedBytes q) Y X at at e (omega arith) (omega arith) in
-    chain-match K P X (at + goalBytes) at q (goal-stored Y X at q e room a b c d) low (omega arith) even falls p t gs kind fit part
-    (target-kept Y X at k (at + goalBytes) (omega arith) (size p) (q .target) t target) suits
+    chain-match K P X (at + goalBytes) at q (goal-stored Y X at q e room a b (target .heights .from) c d (omega (arith, kind))) low
+    (omega arith) even falls p t gs kind fit part
+    (target-kept Y X at k (at + goalBytes) (omega arith) (size p) (q .origin) (q .target) t target) suits
     (chain-kept Y X at k (at + goalBytes) (omega arith) P K (q .next) gs chain)
 
 pub record Pushed (P Y : List ℕ) (at : ℕ) (r : StoredGoal) (p t : Term) : Type 0 where
   pub q : Term
   pub u : Term
   pub part : Part P (r .part) q
-  pub target : Target Y at (size q) (r .target) u
+  pub target : Target Y at (size q) (r .origin) (r .target) u
   pub suits : Listable variables (OccursIn P) (match q u)
   pub fewer : size q < size p
   pub same : (φ : ℕ → Term) → Values φ → Sweeps p t φ ↔ Sweeps q u φ
@@ -172,7 +177,7 @@ module _ (P W : List ℕ) (s : Agenda) (a : List Entry) (r : StoredGoal) (x : Op
   pub replaced :
       (Y X : List ℕ) (at : ℕ) (q : StoredGoal) → Kept W Y (s .top) → length Y ≡ tableBytes → X ≡ sets Y at (storedBytes q) → s .top ≤ at
       → at ≤ s .top + 1000 → at % 4 ≡ 0
-      → q .kind ≡ 0 → q .next ≡ r .next → q .part % 4 ≡ 0 → q .target % 4 ≡ 0 → q .argument % 4 ≡ 0
+      → q .argument ≡ 0 → q .next ≡ r .next → q .part % 4 ≡ 0 → q .origin % 4 ≡ 0 → q .target % 4 ≡ 0
       → ((gs hs : List Goal) (l : Line) → State 0 P W s a gs hs l → (o : Opened P W s r gs hs) → Pushed P Y at q (o .p) (o .t))
       → Stepped P W s a X (step.Left (record { top = at + goalBytes; easy = at; deferred = s .deferred }))
   unfolding Stepped
@@ -193,7 +198,7 @@ module _ (P W : List ℕ) (s : Agenda) (a : List Entry) (r : StoredGoal) (x : Op
               line = l;
               state = record {
                 easy =
-                    match-pushed Easy P Y X at q e (omega arith) (omega arith) even kind (omega arith) qa qb (omega arith) qd (u .q) (u .u)
+                    match-pushed Easy P Y X at q e (omega arith) (omega arith) even kind (omega arith) qa qb qd (omega arith) (u .q) (u .u)
                     (o .rest) tt (u .part) (u .target) (u .suits)
                     (chain-kept W Y (s .top) k at up P Easy (q .next) (o .rest)
                     (subst (λ (i : ℕ). Chain Easy P W (s .top) i (o .rest)) (sym next) (o .chain)));

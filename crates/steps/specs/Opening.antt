@@ -18,7 +18,7 @@ use Rattle.records.specs.Parts.{Part, Whole}
 use Rattle.assignments.specs.declared.Entry.{Entry}
 use Rattle.agenda.specs.declared.Agenda.{Agenda}
 use Rattle.agenda.specs.declared.StoredGoal.{StoredGoal}
-use Rattle.agenda.specs.State.{goalBytes, recordWeight, Ready}
+use Rattle.agenda.specs.State.{goalBytes, heightBytes, targetBytes, recordWeight, Ready}
 use Rattle.agenda.specs.Stored.{StoredAt, StoredFits}
 
 pub record Opens (P W : List ℕ) (s : Agenda) (a : List Entry) (r : StoredGoal) : Type 0 where
@@ -29,10 +29,13 @@ pub record Opens (P W : List ℕ) (s : Agenda) (a : List Entry) (r : StoredGoal)
   pub part : Whole P (r .part)
   pub target : Whole W (r .target)
   pub part-even : r .part % 4 ≡ 0
+  pub origin-even : r .origin % 4 ≡ 0
   pub target-even : r .target % 4 ≡ 0
   pub next-even : r .next % 4 ≡ 0
   pub falls : r .next < s .easy
   pub below : r .target + 4 ≤ s .top
+  pub low : heightBytes ≤ r .origin
+  pub within : r .target + 4 ≤ r .origin + targetBytes
   -- a goal has 2,000 bytes for each record of its part, and eight for itself
   pub room : s .top + goalBytes + recordWeight ≤ tableBytes
 

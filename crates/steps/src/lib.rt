@@ -8,16 +8,15 @@
 use agenda::Agenda;
 use agenda::Binding;
 use agenda::GOAL;
+use agenda::HEIGHT_BYTES;
 use agenda::Step;
 use agenda::StoredGoal;
 use agenda::TARGET_BYTES;
 use assignments::Entry;
 use assignments::Span;
-use records::Ask;
 use records::Kind;
 use records::RECORD;
 use records::VARIABLES;
-use records::Walk;
 ghost use mathlib.Core.Path.{_≡_};
 ghost use mathlib.Core.Bool.{true};
 ghost use Prim.Native.Nat.{_+_, _≤_, _<_};
@@ -63,7 +62,7 @@ fn step_record(
     Step::Failed
 }
 
-// The variable is open: it takes the target, if that is closed.
+// The variable is open: it takes the target, if that is closed, as the height that is kept of it tells.
 fn step_open(
     pattern: &[u8],
     work: &[u8],
@@ -75,14 +74,15 @@ fn step_open(
     requires { ⌜ Names (now pattern) (now work) agenda entries goal variable × (getD entries variable Entry.Open ≡ Entry.Open) ⌝ }
     ensures { λ r. ⌜ Stepped (now (pattern .entry)) (now (work .entry)) agenda entries (now (work .entry)) r ⌝ }
 {
-    let target = goal.target;
-    let closed = records::ask_part(&work[target..], Ask::Bound, 0);
-    let Walk::Upto(n) = closed else {
+    let place = agenda::heights_place(goal);
+    if work[place] != 0 {
         return Step::Failed;
-    };
+    }
+    let target = goal.target;
+    let end = records::end_at(work, target);
     let span = Span {
         first: target / RECORD,
-        count: n / RECORD,
+        count: (end - target) / RECORD,
     };
     let left = Agenda {
         top: agenda.top,
@@ -172,7 +172,7 @@ fn step_abstraction(
     if work[target] == Kind::ABSTRACTION.code {
         let below = StoredGoal {
             part: body,
-            kind: StoredGoal::MATCH,
+            origin: goal.origin,
             target: target + RECORD,
             next: goal.next,
             argument: 0,
@@ -184,11 +184,13 @@ fn step_abstraction(
             deferred: agenda.deferred,
         });
     }
-    let end = apply_into(work, target, top);
+    let applied = top + HEIGHT_BYTES;
+    let end = apply_into(work, target, applied);
+    agenda::keep_heights(work, applied, end);
     let below = StoredGoal {
         part: body,
-        kind: StoredGoal::MATCH,
-        target: top,
+        origin: applied,
+        target: applied,
         next: goal.next,
         argument: 0,
     };
@@ -219,7 +221,7 @@ fn step_rigid(
     let first = agenda.top;
     let argument = StoredGoal {
         part: records::end_at(pattern, goal.part + RECORD),
-        kind: StoredGoal::MATCH,
+        origin: goal.origin,
         target: records::end_at(work, target + RECORD),
         next: goal.next,
         argument: 0,
@@ -228,7 +230,7 @@ fn step_rigid(
     let second = first + GOAL;
     let head = StoredGoal {
         part: goal.part + RECORD,
-        kind: StoredGoal::MATCH,
+        origin: goal.origin,
         target: target + RECORD,
         next: first,
         argument: 0,
@@ -260,7 +262,7 @@ fn step_flexible(
     let top = agenda.top;
     let deferred = StoredGoal {
         part,
-        kind: StoredGoal::MATCH,
+        origin: goal.origin,
         target,
         next: agenda.deferred,
         argument: 0,

@@ -1,8 +1,8 @@
 -- `alternatives::split` meets its contract. Two goals are written at the top, for the two parts of the target. Assumes nothing.
 use native.Mathlib.Omega.{arith}
 use Rattle.records.proofs.Parts.{whole-head}
-use Rattle.arguments.proofs.Applications.{stored-bounds, branch-next, branch-failed, fits-match}
-use Rattle.alternatives.proofs.Alternatives.{no-parts, way-parts-pushed}
+use Rattle.arguments.proofs.Applications.{stored-bounds, branch-next, branch-failed}
+use Rattle.alternatives.proofs.Alternatives.{argument-goal-fits, head-goal-fits, no-parts, way-parts-pushed}
 use borrow.Author.Needs.{needs}
 use Rattle.alternatives.proofs.split.Statement.{statement}
 use Rattle.alternatives.proofs.split.Tie as tie
@@ -52,13 +52,13 @@ put-goal-requires : tie.Need-put-goal-requires
 put-goal-requires c κs =
     let end-at2 : tie.After-end-at2 = search in
     let end-at : tie.After-end-at = search in
+    let else1 : tie.Else1 = search in
     let goal-at : tie.After-goal-at = search in
     let start : tie.Start = search in
     let n = stored-bounds _ _ _ _ (start .pre) _ (goal-at .goal-at .ensures .0) in (
       omega (arith, n .room, start .pre .ready .bounds .whole),
-      fits-match _ _ _ _ (c .match-goal .ensures) (omega (arith, end-at .end-at .ensures .within, start .pre .ready .bounds .short))
-          (omega (arith, end-at2 .end-at2 .ensures .within, start .pre .ready .bounds .whole))
-          (omega (arith, start .pre .ready .bounds .easy-room, start .pre .ready .bounds .top)),
+      argument-goal-fits _ _ _ _ (start .pre) _ (goal-at .goal-at .ensures .0) (else1 .if1 .left) _ _ _ (end-at .end-at .ensures)
+          (end-at2 .end-at2 .ensures) (c .match-goal .ensures),
     )
 
 add-put-goal : tie.Need-add-put-goal
@@ -77,13 +77,13 @@ match-goal-requires-2 c κs = search needs
 
 put-goal-requires-2 : tie.Need-put-goal-requires-2
 put-goal-requires-2 c κs =
+    let put-goal : tie.After-put-goal = search in
+    let else1 : tie.Else1 = search in
     let goal-at : tie.After-goal-at = search in
     let start : tie.Start = search in
     let n = stored-bounds _ _ _ _ (start .pre) _ (goal-at .goal-at .ensures .0) in (
-      omega (arith, n .room, start .pre .ready .bounds .whole),
-      fits-match _ _ _ _ (c .match-goal2 .ensures)
-          (omega (arith, goal-at .goal-at .ensures .1 .part, n .part-low, start .pre .ready .bounds .short))
-          (omega (arith, n .target-low, start .pre .ready .bounds .top)) (omega (arith, start .pre .ready .bounds .top)),
+      omega (arith, put-goal .put-goal .kept .0, n .room, start .pre .ready .bounds .whole),
+      head-goal-fits _ _ _ _ (start .pre) _ (goal-at .goal-at .ensures .0) (else1 .if1 .left) _ (c .match-goal2 .ensures),
     )
 
 mul-t15 : tie.Need-mul-t15

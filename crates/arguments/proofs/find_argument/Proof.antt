@@ -6,9 +6,8 @@ use native.Mathlib.Omega.{arith}
 use Rattle.arguments.proofs.Applications.{head-place, application-argument-within, argument-whole-slice}
 use Rattle.arguments.proofs.Applications.{argument-ends}
 use Rattle.arguments.proofs.Arguments.{places, depth, few-records, target-part-within, part-whole-slice, unlike, no-argument}
-use Rattle.arguments.proofs.Arguments.{ending, looks, top-whole, pushed-target-within, top-within}
+use Rattle.arguments.proofs.Arguments.{looks, pushed-target-within, found-within, found-comparable}
 use Rattle.arguments.proofs.Arguments.{comparable, unfitting, again, lacking, argument-room, argument-found}
-use Rattle.deciding.proofs.Refutations.{skeleton-comparable}
 use borrow.Author.Needs.{needs}
 use Rattle.arguments.proofs.find_argument.Statement.{statement}
 use Rattle.arguments.proofs.find_argument.Tie as tie
@@ -92,6 +91,9 @@ same-length-2 c = search needs
 returns-2 : tie.Need-returns-2
 returns-2 c = search (needs, no-argument)
 
+add-found : tie.Need-add-found
+add-found c = search needs
+
 sub-may-be : tie.Need-sub-may-be
 sub-may-be c = search needs
 
@@ -102,25 +104,25 @@ part-may-be-end : tie.Need-part-may-be-end
 part-may-be-end c = search needs
 
 sub-may-be-2 : tie.Need-sub-may-be-2
-sub-may-be-2 c = search (needs, top-within)
+sub-may-be-2 c = search (needs, found-within)
 
 part-may-be-start-2 : tie.Need-part-may-be-start-2
-part-may-be-start-2 c = search (needs, top-within)
+part-may-be-start-2 c = search (needs, found-within)
 
 part-may-be-end-2 : tie.Need-part-may-be-end-2
 part-may-be-end-2 c = search needs
 
+sub-may-be-3 : tie.Need-sub-may-be-3
+sub-may-be-3 c = search (needs, found-within)
+
+part-may-be-start-3 : tie.Need-part-may-be-start-3
+part-may-be-start-3 c = search (needs, found-within)
+
+part-may-be-end-3 : tie.Need-part-may-be-end-3
+part-may-be-end-3 c = search needs
+
 may-be-requires : tie.Need-may-be-requires
-may-be-requires c κs =
-    let placed : tie.After-placed = search in
-    let place-argument : tie.After-place-argument = search in
-    let goal-at : tie.After-goal-at = search in
-    let start : tie.Start = search in
-    let l = top-whole _ _ _ _ (start .pre .0) _ (goal-at .goal-at .ensures .0) _ _ _ _
-    (place-argument .place-argument .ensures) (placed .placed .given .1) in
-    let e = ending _ _ _ _ (start .pre .0) _ (goal-at .goal-at .ensures .0) _ _ _ _
-    (place-argument .place-argument .ensures) (placed .placed .given .1) in
-    skeleton-comparable _ _ (start .pre .1 .skeleton-table) _ _ l (omega (arith, e .whole))
+may-be-requires c κs = search (needs, found-comparable)
 
 same-length-3 : tie.Need-same-length-3
 same-length-3 c = search needs
@@ -144,10 +146,10 @@ part-occurs-before-end : tie.Need-part-occurs-before-end
 part-occurs-before-end c = search needs
 
 sub-occurs-before-2 : tie.Need-sub-occurs-before-2
-sub-occurs-before-2 c = search (needs, top-within)
+sub-occurs-before-2 c = search (needs, found-within)
 
 part-occurs-before-start-2 : tie.Need-part-occurs-before-start-2
-part-occurs-before-start-2 c = search (needs, top-within)
+part-occurs-before-start-2 c = search (needs, found-within)
 
 part-occurs-before-end-2 : tie.Need-part-occurs-before-end-2
 part-occurs-before-end-2 c = search needs
@@ -168,13 +170,21 @@ returns-4 c =
     (placed .placed .given .1) _ (c .before .occurs-before .ensures) (c .if4 .taken)
 
 add-head : tie.Need-add-head
-add-head c = search needs
+add-head c =
+    let goal-at : tie.After-goal-at = search in
+    omega (arith, goal-at .goal-at .ensures .1 .part)
 
 sub-misses-local : tie.Need-sub-misses-local
-sub-misses-local c = search (needs, head-place)
+sub-misses-local c =
+    let goal-at : tie.After-goal-at = search in
+    let start : tie.Start = search in
+    search (needs, head-place)
 
 part-misses-local-start : tie.Need-part-misses-local-start
-part-misses-local-start c = search (needs, head-place)
+part-misses-local-start c =
+    let goal-at : tie.After-goal-at = search in
+    let start : tie.Start = search in
+    search (needs, head-place)
 
 part-misses-local-end : tie.Need-part-misses-local-end
 part-misses-local-end c = search needs
@@ -195,12 +205,12 @@ part-misses-local-end-2 c = search needs
 sub-misses-local-3 : tie.Need-sub-misses-local-3
 sub-misses-local-3 c =
     let placed : tie.After-placed = search in
-    search (needs, top-within)
+    search (needs, found-within)
 
 part-misses-local-start-3 : tie.Need-part-misses-local-start-3
 part-misses-local-start-3 c =
     let placed : tie.After-placed = search in
-    search (needs, top-within)
+    search (needs, found-within)
 
 part-misses-local-end-3 : tie.Need-part-misses-local-end-3
 part-misses-local-end-3 c = search needs
@@ -230,7 +240,8 @@ push-argument-requires c κs =
     let goal-at = stored-before placed in
     let start : tie.Start = search in
     argument-room _ _ _ _ (start .pre .0) _ (goal-at .goal-at .ensures .0) _ _ _ _ (place-argument .place-argument .ensures)
-    (placed .placed .given .1) _ (argument-ends _ _ _ _ (start .pre .0) _ (goal-at .goal-at .ensures .0) _ (start .pre .1))
+    (placed .placed .given .1) (goal-at .goal-at .ensures .1) _
+    (argument-ends _ _ _ _ (start .pre .0) _ (goal-at .goal-at .ensures .0) _ (start .pre .1))
 
 same-length-6 : tie.Need-same-length-6
 same-length-6 c =
@@ -276,12 +287,16 @@ find-argument-spec =
     enum-told
     same-length-2
     returns-2
+    add-found
     sub-may-be
     part-may-be-start
     part-may-be-end
     sub-may-be-2
     part-may-be-start-2
     part-may-be-end-2
+    sub-may-be-3
+    part-may-be-start-3
+    part-may-be-end-3
     may-be-requires
     same-length-3
     returns-3

@@ -1,7 +1,9 @@
--- `arguments::place_argument` meets its contract. A part that can be moved out of the binders above it is written at the top; no
--- other one is an argument. Assumes nothing.
+-- `arguments::place_argument` meets its contract. A part that can be moved out of the binders above it is written as a target at the
+-- top, and then its heights in front of it; no other one is an argument. Assumes nothing.
 use native.Mathlib.Omega.{arith}
-use Rattle.arguments.proofs.Arguments.{lowers, stuck, argument-part-within, moved-end, copied-room, placed}
+use Rattle.agenda.proofs.Targets.{new-target}
+use Rattle.arguments.proofs.Arguments.{lowers, stuck, argument-part-within, moved-end, copied-room, argument-target}
+use Rattle.arguments.proofs.Arguments.{placed}
 use borrow.Author.Needs.{needs}
 use Rattle.arguments.proofs.place_argument.Statement.{statement}
 use Rattle.arguments.proofs.place_argument.Tie as tie
@@ -39,6 +41,9 @@ same-length c = search needs
 returns : tie.Need-returns
 returns c = search (needs, stuck)
 
+add-target : tie.Need-add-target
+add-target c = search needs
+
 sub-copy-into : tie.Need-sub-copy-into
 sub-copy-into c = search needs
 
@@ -55,8 +60,8 @@ part-copy-into-end c =
 copy-into-requires : tie.Need-copy-into-requires
 copy-into-requires c κs = search (needs, copied-room)
 
-add-t10 : tie.Need-add-t10
-add-t10 c =
+add-end : tie.Need-add-end
+add-end c =
     let moved : tie.After-moved = search in
     let lower-into : tie.After-lower-into = search in
     let start : tie.Start = search in
@@ -67,11 +72,14 @@ add-t10 c =
       start .pre .0 .most,
     )
 
+keep-heights-requires : tie.Need-keep-heights-requires
+keep-heights-requires c κs = search (needs, argument-target)
+
 same-length-2 : tie.Need-same-length-2
 same-length-2 c = search needs
 
 returns-2 : tie.Need-returns-2
-returns-2 c = search (needs, placed)
+returns-2 c = search (needs, placed, new-target)
 
 pub place-argument-spec : {M : Type 1} → statement M
 place-argument-spec =
@@ -88,10 +96,12 @@ place-argument-spec =
     enum-told
     same-length
     returns
+    add-target
     sub-copy-into
     part-copy-into-start
     part-copy-into-end
     copy-into-requires
-    add-t10
+    add-end
+    keep-heights-requires
     same-length-2
     returns-2)

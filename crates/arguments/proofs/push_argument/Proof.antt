@@ -6,8 +6,11 @@ use borrow.Author.Needs.{needs}
 use Rattle.arguments.proofs.push_argument.Statement.{statement}
 use Rattle.arguments.proofs.push_argument.Tie as tie
 
-add-build-goal : tie.Need-add-build-goal
-add-build-goal c = let start : tie.Start = search in omega (arith, start .pre .build-fits .part)
+add-found : tie.Need-add-found
+add-found c = search needs
+
+add-head : tie.Need-add-head
+add-head c = search needs
 
 build-goal-requires : tie.Need-build-goal-requires
 build-goal-requires c κs = search needs
@@ -30,14 +33,14 @@ put-goal-requires-2 c κs =
     let start : tie.Start = search in
     (omega (arith, put-goal .put-goal .kept .0, start .pre .room), fits-as _ _ (match-goal .match-goal .ensures) (start .pre .match-fits))
 
-mul-t8 : tie.Need-mul-t8
-mul-t8 c = search needs
+mul-t15 : tie.Need-mul-t15
+mul-t15 c = search needs
 
-add-t14 : tie.Need-add-t14
-add-t14 c = let start : tie.Start = search in omega (arith, start .pre .room, start .pre .most)
+add-t16 : tie.Need-add-t16
+add-t16 c = search needs
 
-add-t15 : tie.Need-add-t15
-add-t15 c = let start : tie.Start = search in omega (arith, start .pre .room, start .pre .most)
+add-t17 : tie.Need-add-t17
+add-t17 c = search needs
 
 same-length : tie.Need-same-length
 same-length c = search needs
@@ -49,14 +52,15 @@ pub push-argument-spec : {M : Type 1} → statement M
 push-argument-spec =
     tie.close
     (tie.spec
-    add-build-goal
+    add-found
+    add-head
     build-goal-requires
     put-goal-requires
     match-goal-requires
     add-put-goal
     put-goal-requires-2
-    mul-t8
-    add-t14
-    add-t15
+    mul-t15
+    add-t16
+    add-t17
     same-length
     returns)

@@ -118,8 +118,8 @@ returns-3 c =
     (body-into .body-into .ensures) in
     let u = used-chosen _ _ _ _ (start .pre .0) (start .pre .1) _ (goal-at .goal-at .ensures .0) _ _ _ _ _ _ (omega arith)
     (body-into .body-into .ensures) _ (any-chosen .any-chosen .ensures) in
-    stored-pushed _ _ _ _ _ _ _ _ _ _ _ (start .pre .0) (start .pre .1) (goal-at .goal-at .ensures .0) b u (is-eta .is-eta .ensures)
-    (not-false _ (else1 .if1 .left)) (else2 .if2 .left) (push-abstraction .push-abstraction .ensures)
+    stored-pushed _ _ _ _ (start .pre .0) (start .pre .1) _ (goal-at .goal-at .ensures .0) _ _ b _ _ u (is-eta .is-eta .ensures)
+    (not-false _ (else1 .if1 .left)) (else2 .if2 .left) (goal-at .goal-at .ensures .1) _ _ (push-abstraction .push-abstraction .ensures)
 
 pub body-spec : {M : Type 1} → statement M
 body-spec =

@@ -1,7 +1,7 @@
--- `deciding::is_possible` meets its contract: each way out is one law of goals that a skeleton refuses, by the goal's kind and the
--- skeleton's first record. Assumes nothing.
-use Rattle.deciding.proofs.Refutations.{judged-target-within, judged-argument-within, possible, possible-match, possible-other}
-use Rattle.deciding.proofs.Refutations.{possible-build}
+-- `deciding::is_possible` meets its contract: each way out is one law of goals that a skeleton refuses, by whether the goal has an
+-- argument and by the skeleton's first record. Assumes nothing.
+use Rattle.deciding.proofs.Refutations.{judged-target-within, judged-target, judged-argument-within, judged-both}
+use Rattle.deciding.proofs.Refutations.{possible, possible-match, possible-other, possible-build}
 use borrow.Author.Needs.{needs}
 use Rattle.deciding.proofs.is_possible.Statement.{statement}
 use Rattle.deciding.proofs.is_possible.Tie as tie
@@ -15,8 +15,20 @@ part-target-start c = search (needs, judged-target-within)
 part-target-end : tie.Need-part-target-end
 part-target-end c = search needs
 
+heights-place-requires : tie.Need-heights-place-requires
+heights-place-requires c κs = search needs
+
+sub-heights : tie.Need-sub-heights
+sub-heights c = search needs
+
+part-heights-start : tie.Need-part-heights-start
+part-heights-start c = search needs
+
+part-heights-end : tie.Need-part-heights-end
+part-heights-end c = search needs
+
 may-be-requires : tie.Need-may-be-requires
-may-be-requires c κs = search needs
+may-be-requires c κs = search (needs, judged-target)
 
 returns : tie.Need-returns
 returns c = search (needs, possible-match)
@@ -43,10 +55,7 @@ part-may-build-end : tie.Need-part-may-build-end
 part-may-build-end c = search needs
 
 may-build-requires : tie.Need-may-build-requires
-may-build-requires c κs =
-    let else1 : tie.Else1 = search in
-    let start : tie.Start = search in
-    (start .pre .both (else1 .if1 .left), search needs)
+may-build-requires c κs = (search (needs, judged-both), search needs)
 
 returns-4 : tie.Need-returns-4
 returns-4 c = search (needs, possible-build)
@@ -58,6 +67,10 @@ is-possible-spec =
     sub-target
     part-target-start
     part-target-end
+    heights-place-requires
+    sub-heights
+    part-heights-start
+    part-heights-end
     may-be-requires
     returns
     shared-slice-read-if2

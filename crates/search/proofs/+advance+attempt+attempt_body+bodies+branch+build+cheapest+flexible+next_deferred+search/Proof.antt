@@ -10,6 +10,7 @@ use Rattle.agenda.specs.Moves.{progress}
 use Rattle.search.proofs.Taken.{stepped-failed, stepped-left, stepped-assign, branched-failed, branched-next, taken-failed}
 use Rattle.search.proofs.Taken.{taken-next, taken-open, planned-failed, planned-next, planned-bodies}
 use Rattle.search.proofs.Searching.{begins-move, searched-move, searched-failed, finds, searched-found, begins-open, searched-open}
+use Rattle.search.proofs.Searching.{first-match, first-build}
 use Rattle.search.proofs.Searching.{SearchingOn, going-start, begins-going, going-next, searching-end, going-stop, searched-last}
 use Rattle.search.proofs.Searching.{searched-stop, choosing-next, searched-both, begins-forwarded, searched-forwarded, begins-kept}
 use Rattle.search.proofs.Searching.{matches-kept, counted-kept, builds-kept, planned-begins, planned-searched}
@@ -57,6 +58,7 @@ use Rattle.search.proofs.search.Reads as search′
 use Rattle.search.proofs.search.Kinds as search-kinds
 use Rattle.search.proofs.+advance+attempt+attempt_body+bodies+branch+build+cheapest+flexible+next_deferred+search.Lts-search
     as search-lts
+use Rattle.agenda.proofs.goal_at.Reads as goal-at-reads
 use Rattle.alternatives.proofs.way.Reads as way-reads
 use Rattle.alternatives.proofs.ways.Reads as ways-reads
 use Rattle.builds.proofs.body.Reads as body-reads
@@ -433,20 +435,25 @@ bodies-returns-3 t c =
 
 abbrev branch-in : ℕ → (branch-lts.Claims → In 4 branch-kinds.ps → Out 4 branch-kinds.ps branch-kinds.r → Type 0) → Type 0
 branch-in t X = X (
+  goal-at-reads.Asked,
+  goal-at-reads.Learnt,
   flexible-below t,
   flexible.Post,
   build-below t,
   build.Post,
 ) (branch-at t) branch.Post
 
-branch-add-if1 : (t : ℕ) → branch-in t branch-lts.Need-add-if1
-branch-add-if1 t c = omega arith
-
-branch-slice-read-if1 : (t : ℕ) → branch-in t branch-lts.Need-slice-read-if1
-branch-slice-read-if1 t c = search needs
+branch-goal-at-requires : (t : ℕ) → branch-in t branch-lts.Need-goal-at-requires
+branch-goal-at-requires t c κs = search needs
 
 branch-flexible-requires : (t : ℕ) → branch-in t branch-lts.Need-flexible-requires
-branch-flexible-requires t c κs = search needs
+branch-flexible-requires t c κs =
+    let goal : branch-in t branch-lts.After-goal-at = search in
+    let then : branch-in t branch-lts.Then1 = search in
+    let start : branch-in t branch-lts.Start = search in
+    let pre = start .pre .1 in
+    let kind = first-match _ _ _ (goal .goal-at .ensures .0) (then .if1 .taken) in
+    (search needs, (pre .0, record { ready = pre .0 .ready; some-deferred = pre .2; kind = kind }))
 
 branch-same-length : (t : ℕ) → branch-in t branch-lts.Need-same-length
 branch-same-length t c = search needs
@@ -461,7 +468,11 @@ branch-returns : (t : ℕ) → branch-in t branch-lts.Need-returns
 branch-returns t c = search needs
 
 branch-build-requires : (t : ℕ) → branch-in t branch-lts.Need-build-requires
-branch-build-requires t c κs = search needs
+branch-build-requires t c κs =
+    let goal : branch-in t branch-lts.After-goal-at = search in
+    let other : branch-in t branch-lts.Else1 = search in
+    let kind = first-build _ _ _ (goal .goal-at .ensures .0) (other .if1 .left) in
+    search (needs, kind)
 
 branch-same-length-4 : (t : ℕ) → branch-in t branch-lts.Need-same-length-4
 branch-same-length-4 t c = search needs
@@ -936,11 +947,10 @@ pub +advance+attempt+attempt-body+bodies+branch+build+cheapest+flexible+next-def
     (bodies-same-length-9 t)
     (bodies-returns-3 t))
     (λ t. branch-lts.spec
-    (flexible-below t, flexible.Post, build-below t, build.Post)
+    (goal-at-reads.Asked, goal-at-reads.Learnt, flexible-below t, flexible.Post, build-below t, build.Post)
     (branch-at t)
     branch.Post
-    (branch-add-if1 t)
-    (branch-slice-read-if1 t)
+    (branch-goal-at-requires t)
     (branch-flexible-requires t)
     (branch-same-length t)
     (branch-same-length-2 t)

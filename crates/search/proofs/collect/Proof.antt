@@ -1,7 +1,7 @@
 -- `search::collect` meets its contract: it begins with the one goal that the pattern sweeps to the recipe, and a search answers for it.
 -- Assumes nothing.
 use native.Mathlib.Omega.{arith}
-use Rattle.search.proofs.Starting.{recipe-short, begins, answers}
+use Rattle.search.proofs.Starting.{recipe-short, recipe-target-written, first-room, begins, answers}
 use borrow.Author.Needs.{needs}
 use Rattle.search.proofs.collect.Statement.{statement}
 use Rattle.search.proofs.collect.Tie as tie
@@ -9,19 +9,39 @@ use Rattle.search.proofs.collect.Tie as tie
 copy-into-requires : tie.Need-copy-into-requires
 copy-into-requires c κs = omega (arith, recipe-short)
 
+add-first : tie.Need-add-first
+add-first c = search needs
+
+keep-heights-requires : tie.Need-keep-heights-requires
+keep-heights-requires c κs = search (needs, recipe-target-written)
+
 put-goal-requires : tie.Need-put-goal-requires
 put-goal-requires c κs =
     let copy-into : tie.After-copy-into = search in
+    let keep-heights : tie.After-keep-heights = search in
     let start : tie.Start = search in (
-      omega (arith, recipe-short _ _ _ _ _ _ (start .pre), start .pre .area, copy-into .copy-into .kept .1 .0),
-      record { part = omega arith; target = omega arith; next = omega arith; argument = omega arith },
+      first-room _ _ _ _ _ _ (start .pre) _ (copy-into .copy-into .ensures) _ (keep-heights .keep-heights .ensures),
+      record {
+        part = omega arith;
+        origin = omega arith;
+        from = omega arith;
+        near = omega arith;
+        next = omega arith;
+        argument = omega arith;
+      },
     )
 
-add-t17 : tie.Need-add-t17
-add-t17 c = search needs
+add-t15 : tie.Need-add-t15
+add-t15 c = search needs
 
 search-requires : tie.Need-search-requires
-search-requires c κs = search (needs, begins)
+search-requires c κs =
+    let copy-into : tie.After-copy-into = search in
+    let keep-heights : tie.After-keep-heights = search in
+    let put-goal : tie.After-put-goal = search in
+    let start : tie.Start = search in
+    begins _ _ _ _ _ _ (start .pre) _ (copy-into .copy-into .ensures) _ (keep-heights .keep-heights .ensures) _
+    (put-goal .put-goal .ensures)
 
 same-length : tie.Need-same-length
 same-length c = search needs
@@ -40,8 +60,10 @@ collect-spec =
     tie.close
     (tie.spec
     copy-into-requires
+    add-first
+    keep-heights-requires
     put-goal-requires
-    add-t17
+    add-t15
     search-requires
     same-length
     same-length-2

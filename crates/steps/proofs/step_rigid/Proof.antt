@@ -1,6 +1,6 @@
 -- `steps::step_rigid` meets its contract. The head sweeps to no abstraction, so that the target is an application and its parts are
 -- the targets of the two goals. Assumes nothing.
-use Rattle.steps.proofs.Descents.{application-head-whole, target-head-whole, rigid-missed, step-parts-pushed}
+use Rattle.steps.proofs.Descents.{application-head-whole, target-head-whole, rigid-missed, argument-near, step-parts-pushed}
 use borrow.Author.Needs.{needs}
 use Rattle.steps.proofs.step_rigid.Statement.{statement}
 use Rattle.steps.proofs.step_rigid.Tie as tie
@@ -24,7 +24,12 @@ end-at-requires-2 : tie.Need-end-at-requires-2
 end-at-requires-2 c κs = search (needs, target-head-whole)
 
 put-goal-requires : tie.Need-put-goal-requires
-put-goal-requires c κs = search needs
+put-goal-requires c κs =
+    let start : tie.Start = search in
+    let head : tie.Else1 = search in
+    let target : tie.After-end-at2 = search in
+    let near = argument-near _ _ _ _ _ (start .pre .0) _ (head .if1 .left) (target .end-at2 .ensures) in
+    search (needs, near)
 
 add-second : tie.Need-add-second
 add-second c = search needs

@@ -3,11 +3,15 @@
 use native.Mathlib.Omega.{arith}
 use Rattle.ordering.proofs.Forcing.{ready-listed, found-twice, forced-open, first-room, second-room, first-target, second-target}
 use Rattle.ordering.proofs.Forcing.{forced-joins, forced-failed, forced-target-within, forced-encloses, forced-drops}
-use Rattle.ordering.proofs.Forcing.{forced-drops-two}
+use Rattle.ordering.proofs.Forcing.{forced-target, forced-drops-two}
 use Rattle.ordering.proofs.Forcing.{forced-room, forced-whole, forced-fits, forced-next}
 use borrow.Author.Needs.{needs}
 use Rattle.ordering.proofs.repeated.force.Statement.{statement}
 use Rattle.ordering.proofs.repeated.force.Tie as tie
+
+-- a place that lies far back, from one between
+abbrev walk-before : tie.After-enclose-into → tie.After-walk
+walk-before c = search
 
 find-first-requires : tie.Need-find-first-requires
 find-first-requires c κs = search (needs, ready-listed)
@@ -92,6 +96,12 @@ returns-2 c =
     let search-point : tie.After-search = search in
     search (needs, forced-failed, found-twice)
 
+add-value : tie.Need-add-value
+add-value c =
+    let find-first : tie.After-find-first = search in
+    let start : tie.Start = search in
+    omega (arith, start .pre .0 .bounds .top)
+
 sub-enclose-into : tie.Need-sub-enclose-into
 sub-enclose-into c = search needs
 
@@ -125,8 +135,23 @@ enclose-into-requires c κs =
     forced-encloses (start .pre .0) (found-twice _ _ _ _ _ (search-point .search .given .1) (find-first .find-first .ensures))
     (goal-at .goal-at .ensures .0) (goal-at2 .goal-at2 .ensures .0) (join-into .join-into .ensures) (walk .walk .given .1) (omega arith)
 
+keep-heights-requires : tie.Need-keep-heights-requires
+keep-heights-requires c κs =
+    let enclose-into : tie.After-enclose-into = search in
+    let walk : tie.After-walk = search in
+    let join-into : tie.After-join-into = search in
+    let goal-at2 : tie.After-goal-at2 = search in
+    let goal-at : tie.After-goal-at = search in
+    let search-point : tie.After-search = search in
+    let find-first : tie.After-find-first = search in
+    let start : tie.Start = search in
+    forced-target (start .pre .0) (found-twice _ _ _ _ _ (search-point .search .given .1) (find-first .find-first .ensures))
+    (goal-at .goal-at .ensures .0) (goal-at2 .goal-at2 .ensures .0) (join-into .join-into .ensures) (walk .walk .given .1) (omega arith)
+    (enclose-into .enclose-into .ensures)
+
 without-requires : tie.Need-without-requires
 without-requires c κs =
+    let keep-heights : tie.After-keep-heights = search in
     let enclose-into : tie.After-enclose-into = search in
     let walk : tie.After-walk = search in
     let join-into : tie.After-join-into = search in
@@ -140,6 +165,7 @@ without-requires c κs =
 without-requires-2 : tie.Need-without-requires-2
 without-requires-2 c κs =
     let without : tie.After-without = search in
+    let keep-heights : tie.After-keep-heights = search in
     let enclose-into : tie.After-enclose-into = search in
     let walk : tie.After-walk = search in
     let join-into : tie.After-join-into = search in
@@ -148,7 +174,9 @@ without-requires-2 c κs =
     let search-point : tie.After-search = search in
     let find-first : tie.After-find-first = search in
     let start : tie.Start = search in
-    search (needs, forced-drops-two, found-twice)
+    forced-drops-two (start .pre .0) (found-twice _ _ _ _ _ (search-point .search .given .1) (find-first .find-first .ensures))
+    (goal-at .goal-at .ensures .0) (goal-at2 .goal-at2 .ensures .0) (join-into .join-into .ensures) (walk .walk .given .1) (omega arith)
+    (enclose-into .enclose-into .ensures) (keep-heights .keep-heights .ensures) (without .without .ensures)
 
 match-goal-requires : tie.Need-match-goal-requires
 match-goal-requires c κs = search needs
@@ -157,6 +185,7 @@ put-goal-requires : tie.Need-put-goal-requires
 put-goal-requires c κs =
     let without2 : tie.After-without2 = search in
     let without : tie.After-without = search in
+    let keep-heights : tie.After-keep-heights = search in
     let enclose-into : tie.After-enclose-into = search in
     let walk : tie.After-walk = search in
     let join-into : tie.After-join-into = search in
@@ -170,23 +199,27 @@ put-goal-requires c κs =
         forced-room (start .pre .0) (found-twice _ _ _ _ _ (search-point .search .given .1) (find-first .find-first .ensures))
             (goal-at .goal-at .ensures .0) (goal-at2 .goal-at2 .ensures .0) (join-into .join-into .ensures)
             (walk .walk .given .1) (omega arith)
-            (enclose-into .enclose-into .ensures) (without .without .ensures) (without2 .without2 .ensures),
+            (enclose-into .enclose-into .ensures) (keep-heights .keep-heights .ensures)
+            (without .without .ensures) (without2 .without2 .ensures),
         forced-whole (start .pre .0)
             (found-twice _ _ _ _ _ (search-point .search .given .1) (find-first .find-first .ensures)) (goal-at .goal-at .ensures .0)
             (goal-at2 .goal-at2 .ensures .0) (join-into .join-into .ensures) (walk .walk .given .1) (omega arith)
-            (enclose-into .enclose-into .ensures) (without .without .ensures) (without2 .without2 .ensures),
+            (enclose-into .enclose-into .ensures) (keep-heights .keep-heights .ensures)
+            (without .without .ensures) (without2 .without2 .ensures),
       ),
       forced-fits (start .pre .0) (found-twice _ _ _ _ _ (search-point .search .given .1) (find-first .find-first .ensures))
           (goal-at .goal-at .ensures .0) (goal-at2 .goal-at2 .ensures .0) (join-into .join-into .ensures)
           (walk .walk .given .1) (omega arith)
-          (enclose-into .enclose-into .ensures) (without .without .ensures) (without2 .without2 .ensures) (start .pre .1)
+          (enclose-into .enclose-into .ensures) (keep-heights .keep-heights .ensures)
+          (without .without .ensures) (without2 .without2 .ensures) (start .pre .1)
           (c .before .match-goal .ensures),
     )
 
-add-t31 : tie.Need-add-t31
-add-t31 c =
+add-t32 : tie.Need-add-t32
+add-t32 c =
     let without2 : tie.After-without2 = search in
     let without : tie.After-without = search in
+    let keep-heights : tie.After-keep-heights = search in
     let enclose-into : tie.After-enclose-into = search in
     let walk : tie.After-walk = search in
     let join-into : tie.After-join-into = search in
@@ -200,7 +233,8 @@ add-t31 c =
       forced-room (start .pre .0) (found-twice _ _ _ _ _ (search-point .search .given .1) (find-first .find-first .ensures))
           (goal-at .goal-at .ensures .0) (goal-at2 .goal-at2 .ensures .0) (join-into .join-into .ensures)
           (walk .walk .given .1) (omega arith)
-          (enclose-into .enclose-into .ensures) (without .without .ensures) (without2 .without2 .ensures),
+          (enclose-into .enclose-into .ensures) (keep-heights .keep-heights .ensures)
+          (without .without .ensures) (without2 .without2 .ensures),
     )
 
 same-length-3 : tie.Need-same-length-3
@@ -212,8 +246,9 @@ returns-3 c =
     let match-goal : tie.After-match-goal = search in
     let without2 : tie.After-without2 = search in
     let without : tie.After-without = search in
+    let keep-heights : tie.After-keep-heights = search in
     let enclose-into : tie.After-enclose-into = search in
-    let walk : tie.After-walk = search in
+    let walk : tie.After-walk = walk-before enclose-into in
     let join-into : tie.After-join-into = search in
     let goal-at2 : tie.After-goal-at2 = search in
     let goal-at : tie.After-goal-at = search in
@@ -222,7 +257,8 @@ returns-3 c =
     let start : tie.Start = search in
     forced-next (start .pre .0) (found-twice _ _ _ _ _ (search-point .search .given .1) (find-first .find-first .ensures))
     (goal-at .goal-at .ensures .0) (goal-at2 .goal-at2 .ensures .0) (join-into .join-into .ensures) (walk .walk .given .1) (omega arith)
-    (enclose-into .enclose-into .ensures) (without .without .ensures) (without2 .without2 .ensures) (start .pre .1)
+    (enclose-into .enclose-into .ensures) (keep-heights .keep-heights .ensures)
+    (without .without .ensures) (without2 .without2 .ensures) (start .pre .1)
     (match-goal .match-goal .ensures) (put-goal .put-goal .ensures)
 
 pub force-spec : {M : Type 1} → statement M
@@ -248,14 +284,16 @@ force-spec =
     enum-told-2
     same-length-2
     returns-2
+    add-value
     sub-enclose-into
     part-enclose-into-start
     part-enclose-into-end
     enclose-into-requires
+    keep-heights-requires
     without-requires
     without-requires-2
     match-goal-requires
     put-goal-requires
-    add-t31
+    add-t32
     same-length-3
     returns-3)
