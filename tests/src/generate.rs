@@ -211,7 +211,7 @@ fn list_call(random: &mut Random, most_steps: usize) -> Call {
             (pattern, recipe)
         }
         // A small pattern and a recipe that it matches, or any small recipe.
-        20..=54 => {
+        20..=46 => {
             let pattern = pattern(random, 7, &palette);
             let recipe = if random.chance(80) {
                 recipe_for(random, &pattern, &palette, 12)
@@ -221,6 +221,8 @@ fn list_call(random: &mut Random, most_steps: usize) -> Call {
             };
             (pattern, recipe)
         }
+        // Closed and open parts below several binders, and variables for them.
+        47..=54 => mixed_parts(random, &palette),
         // A recipe made more general.
         55..=74 => {
             let size = random.between(2, 10);
@@ -277,6 +279,55 @@ fn list_call(random: &mut Random, most_steps: usize) -> Call {
         output: Vec::new(),
         work: work_area(random),
     }
+}
+
+/// A recipe that applies a local to closed and open parts below several binders, and a pattern with variables for most of the parts: a variable takes a part
+/// that is closed, and has no value for an open one. The pattern may have further binders, and ends in their locals then. The parts are few and short, for
+/// the plain lister.
+fn mixed_parts(random: &mut Random, palette: &Palette) -> (Term, Term) {
+    let binders = random.between(1, 6);
+    let further = random.pick(&[0, 0, 0, 1, 1, 2]);
+    // No abstraction over `#0` and its arguments is a redex.
+    let mut recipe = Local(0);
+    let mut pattern = Local(further);
+    let mut add = |part: Term, general: Term| {
+        recipe = application(recipe.clone(), part);
+        pattern = application(pattern.clone(), general);
+    };
+    if random.chance(80) {
+        let parts = random.pick(&[1, 1, 2]);
+        for number in 0..parts {
+            let size = random.pick(&[1, 2, 2, 3, 3, 4, 5]);
+            let mut part = normal_term(random, size, 0, false, palette);
+            if random.chance(60) {
+                while part.is_closed() {
+                    part = normal_term(random, size, binders, false, palette);
+                }
+            }
+            let inside = part.shift(further, 0);
+            let (variable, other) = (Variable(number), Variable(number + parts));
+            let applied = application(variable.clone(), Local(random.below(binders + further)));
+            let general = match random.below(10) {
+                0 => inside,
+                1 => applied,
+                2 => application(applied, other),
+                3 => application(abstraction(generalise(random, &inside.shift(1, 0), palette)), other),
+                _ => variable,
+            };
+            add(part, general);
+        }
+    } else {
+        // What one variable comes to when it is applied to two constants.
+        let size = random.between(1, 5);
+        let mut line = Line::default();
+        line[0] = Some(value(random, size, palette));
+        for _ in 0..2 {
+            let general = application(Variable(0), constant(random, palette));
+            add(sweep(&general.fill(&line), MOST_SWEPT_RECORDS).expect("it is short"), general);
+        }
+    }
+    let pattern = (0..further).rev().fold(pattern, |body, number| application(body, Local(number)));
+    ((0..binders + further).fold(pattern, |body, _| abstraction(body)), (0..binders).fold(recipe, |body, _| abstraction(body)))
 }
 
 /// A pattern of a few records, or a tower of abstractions, that suits a long recipe.
