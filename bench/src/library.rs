@@ -1,4 +1,5 @@
-//! The proved library through its C interface (`include/onestep.h`). The unsafe code of the benchmark stands here, but for the clock of `timing.rs`.
+//! The proved library through its C interface (`include/onestep.h`). The unsafe code of the benchmark stands here, but for the clock of
+//! `timing.rs` and the second build of `compare.rs`.
 
 use crate::terms::VARIABLES;
 
@@ -68,6 +69,9 @@ extern "C" {
     ) -> i64;
 }
 
+/// The C type of `onestep_list`.
+pub type List = unsafe extern "C" fn(*const u8, usize, *const u8, usize, *mut u8, usize, *mut u8, usize, *mut u8, usize) -> i64;
+
 /// Bytes of a full line table, value table, output table or work area.
 pub const TABLE: usize = 65536;
 /// Bytes of a line: for each variable first record and count of records, 16 bits each.
@@ -100,20 +104,23 @@ impl Work {
 // else, and nobody else reaches them during the call. That is what `onestep.h` asks of a caller.
 
 pub fn list(pattern: &[u8], recipe: &[u8], out: &mut Tables, work: &mut Work) -> i64 {
-    unsafe {
-        onestep_list(
-            pattern.as_ptr(),
-            pattern.len(),
-            recipe.as_ptr(),
-            recipe.len(),
-            out.lines.as_mut_ptr(),
-            out.lines.len(),
-            out.values.as_mut_ptr(),
-            out.values.len(),
-            work.0.as_mut_ptr(),
-            work.0.len(),
-        )
-    }
+    unsafe { list_by(onestep_list, pattern, recipe, out, work) }
+}
+
+/// Lists by `onestep_list`, or by a function that asks the same of a caller.
+pub unsafe fn list_by(function: List, pattern: &[u8], recipe: &[u8], out: &mut Tables, work: &mut Work) -> i64 {
+    function(
+        pattern.as_ptr(),
+        pattern.len(),
+        recipe.as_ptr(),
+        recipe.len(),
+        out.lines.as_mut_ptr(),
+        out.lines.len(),
+        out.values.as_mut_ptr(),
+        out.values.len(),
+        work.0.as_mut_ptr(),
+        work.0.len(),
+    )
 }
 
 pub fn check(pattern: &[u8], recipe: &[u8], line: &[u8], values: &[u8], work: &mut Work) -> i64 {

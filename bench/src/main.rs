@@ -24,7 +24,6 @@ mod timing;
 mod tuned;
 
 use std::env;
-use std::hint::black_box;
 use std::path::PathBuf;
 use std::process::exit;
 use std::time::Duration;
@@ -46,10 +45,10 @@ fn main() {
         return;
     }
     if arguments.is_hard {
-        print_noise("before");
+        timing::print_noise("before");
         let all_right = hard::print() & full_size::print(arguments.show);
         println!();
-        print_noise("after");
+        timing::print_noise("after");
         end_with(all_right);
     }
     let cases = cases::load(&arguments.folder);
@@ -59,7 +58,7 @@ fn main() {
         return;
     }
     print_setting(cases.len(), arguments.limit);
-    print_noise("before");
+    timing::print_noise("before");
     let mut all_right = families::print(&cases, arguments.limit);
     all_right &= operations::print(&cases);
     all_right &= operations::print_by_sweeps();
@@ -68,7 +67,7 @@ fn main() {
     all_right &= growth::print_by_lines(arguments.limit);
     all_right &= growth::print_long_listings(arguments.limit);
     println!();
-    print_noise("after");
+    timing::print_noise("after");
     end_with(all_right);
 }
 
@@ -119,19 +118,4 @@ fn print_setting(cases: usize, limit: Duration) {
     println!("Buffers: full tables of 65,536 bytes, the same ones for each call, warm, not cleared between calls;");
     println!("the library, (a) and (b) clear their work area themselves.");
     println!("All read bytes and write sorted lines and values; the library, (a) and (b) check pattern and recipe, (c) takes them as good.\n");
-}
-
-/// How steady the machine is: one fixed piece of work that touches no memory, and the clearing of 65,536 bytes.
-fn print_noise(when: &str) {
-    let mut samples: Vec<f64> = (0..200).map(|_| timing::micros(timing::once(fixed_work).1)).collect();
-    let middle = timing::median(&mut samples);
-    let mut area = vec![1u8; library::TABLE];
-    let clearing = timing::alone(|| black_box(&mut area).fill(0));
-    let (best, most) = (samples[0], samples[samples.len() - 1]);
-    println!("machine noise {when}: 200 times the same work: best {best:.1} µs, median {middle:.1} µs, most {most:.1} µs;");
-    println!("clearing 65,536 bytes, as each call of the library, (a) and (b) does: best {:.2} µs, median {:.2} µs", clearing.best, clearing.median);
-}
-
-fn fixed_work() -> u64 {
-    (0..100_000u64).fold(1, |state, step| black_box(state.wrapping_mul(6364136223846793005).wrapping_add(step)))
 }

@@ -1,5 +1,8 @@
-//! Times of repeated calls. All are times of the processor, not of day: other programs on the machine take turns with this one, and that isn't counted.
+//! Times of repeated calls; how steady the machine is. All are times of the processor, not of day: other programs on the machine
+//! take turns with this one, and that isn't counted.
 
+use crate::library::TABLE;
+use std::hint::black_box;
 use std::time::Duration;
 
 /// Turns in which each thing is timed.
@@ -110,4 +113,19 @@ pub fn alone(mut run: impl FnMut()) -> Time {
 pub fn median(figures: &mut [f64]) -> f64 {
     figures.sort_unstable_by(f64::total_cmp);
     figures[(figures.len() - 1) / 2]
+}
+
+/// How steady the machine is: one fixed piece of work that touches no memory, and the clearing of 65,536 bytes.
+pub fn print_noise(when: &str) {
+    let mut samples: Vec<f64> = (0..200).map(|_| micros(once(fixed_work).1)).collect();
+    let middle = median(&mut samples);
+    let mut area = vec![1u8; TABLE];
+    let clearing = alone(|| black_box(&mut area).fill(0));
+    let (best, most) = (samples[0], samples[samples.len() - 1]);
+    println!("machine noise {when}: 200 times the same work: best {best:.1} µs, median {middle:.1} µs, most {most:.1} µs;");
+    println!("clearing 65,536 bytes, as each call of the library does: best {:.2} µs, median {:.2} µs", clearing.best, clearing.median);
+}
+
+fn fixed_work() -> u64 {
+    (0..100_000u64).fold(1, |state, step| black_box(state.wrapping_mul(6364136223846793005).wrapping_add(step)))
 }
