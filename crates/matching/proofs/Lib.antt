@@ -10,6 +10,7 @@ pub mod Partial
 pub mod Unique
 pub mod Listing
 pub mod Sizes
+pub mod Constants
 pub mod Cuts
 pub mod Goals
 pub mod Targets

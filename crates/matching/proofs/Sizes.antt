@@ -50,7 +50,7 @@ goal-size (alone f a s g) = omega (arith, goal-size g, size-shift 1 0 s, size-po
 
 -- the values of the lister's lines are targets
 module _ (n : ℕ) (p t : Term) where
-  abbrev Met : Term → Type 0
+  abbrev pub Met : Term → Type 0
   Met v = (i : ℕ) × Subgoal p t (var i) v
 
   solve-met : (q s : Term) → Subgoal p t q s → (l : Line) → In l (solve n q s) → Each Met l
@@ -69,6 +69,12 @@ module _ (n : ℕ) (p t : Term) where
   solve-met (con k) s g l i = rw (guard-in (same s (con k)) (openLine n) l i .0) (each-blank Met n)
   solve-met (var k) s g l i = rw (guard-in (value? s) _ l i .0) (each-set Met (openLine n) k s (k, g) (each-blank Met n))
 
+-- and so are those of every full listing
+pub values-met : (n : ℕ) (p t : Term) → Below n p → Normal t → (ls : List Line) → Full n p t ls → (l : Line) → In l ls → Each (Met n p t) l
+values-met n p t b h ls x l i =
+    let j : In l (fullListing n p t) = subst (In l) (unique n p t b ls (fullListing n p t) x (full n p t b h)) i in
+    solve-met n p t p t start l (sort-in l (solve n p t) j)
+
 -- document 01's sizes
 module _ (p t : Term) (hp : size p ≤ patternRecords) (ht : size t ≤ recipeRecords) where
   pub target-fits : (q s : Term) → Subgoal p t q s → size s ≤ valueRecords
@@ -78,6 +84,4 @@ module _ (p t : Term) (hp : size p ≤ patternRecords) (ht : size t ≤ recipeRe
   pub value-fits : (n : ℕ) → Below n p → Normal t → (ls : List Line) → Full n p t ls → (l : Line) → In l ls
       → Each (λ v. size v ≤ valueRecords) l
   value-fits n b h ls x l i =
-      let j : In l (fullListing n p t) = subst (In l) (unique n p t b ls (fullListing n p t) x (full n p t b h)) i in
-      each-more (Met n p t) (λ v. size v ≤ valueRecords) (λ v m. target-fits (var (m .0)) v (m .1)) l
-      (solve-met n p t p t start l (sort-in l (solve n p t) j))
+      each-more (Met n p t) (λ v. size v ≤ valueRecords) (λ v m. target-fits (var (m .0)) v (m .1)) l (values-met n p t b h ls x l i)

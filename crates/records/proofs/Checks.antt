@@ -4,19 +4,20 @@ use mathlib.Core.Path.{_≡_, refl, sym, ap, _∙_, subst}
 use mathlib.Core.Bool.{Bool, true, false}
 use mathlib.Core.Option.{Option, none, some}
 use mathlib.Core.Logic.{inl, inr, ⊎-elim}
-use mathlib.Core.List.{List, [], _∷_, _++_, append-nil, append-assoc}
+use mathlib.Core.List.{List, [], _∷_, _++_, append-nil}
 use Prim.Native.Nat.{ℕ, _+_, _*_, _/_, _%_, _≤_, _<_}
 use native.Mathlib.Omega.{arith}
 use lib.Dec.{ltb}
 use lib.ListN.{length, length-append}
-use lib.Seq.{getD-append-add}
-use Rattle.terms.specs.Figures.{variables, patternRecords, valueRecords}
+use Rattle.terms.specs.Figures.{variables, constants, patternRecords, valueRecords}
 use Rattle.terms.specs.Term.{Term, app, lam, loc, con, var, size, Normal, Closed, Below, Ground}
-use Rattle.terms.specs.Table.{encode, goodRecords, IsTable}
+use Rattle.terms.specs.Table.{recordBytes, encode, goodRecords, IsTable}
+use Rattle.terms.specs.OldForm.{Bytes, NumbersBelow}
 use Rattle.terms.specs.Refusal.{Row, Refused, Passed, BadLength, NoTerm, patternRows, normalRows}
 use Rattle.terms.proofs.Refusal.{refused-passed}
 use Rattle.terms.proofs.Tests.{by-ltb, not-both}
-use Rattle.terms.proofs.Table.{encode-length, good-below, below-good}
+use Rattle.terms.proofs.Table.{encode-length, good-below, table-good}
+use Rattle.terms.proofs.OldForm.{numbers-below}
 use Rattle.terms.proofs.Variables.{ground-below}
 use Rattle.terms.proofs.Substitute.{size-pos}
 use Rattle.records.specs.declared.End.{End}
@@ -27,7 +28,7 @@ use Rattle.records.specs.Parts.{Ended, Tree}
 use Rattle.records.specs.Tests.{Says, Tells}
 use Rattle.records.specs.Checks.{patternRefusal, recipeRefusal, Answers, Pattern, NormalTable, ValueTable, OneTerm, Good}
 use Rattle.records.specs.Checks.{TableChecked}
-use Rattle.records.proofs.Record.{Bytes, rest-bytes, number-fits}
+use Rattle.records.proofs.Record.{rest-bytes, number-fits}
 use Rattle.records.proofs.Parts.{at-start, tree}
 use Rattle.records.proofs.Tests.{says}
 
@@ -153,20 +154,18 @@ pattern-answer l PatternCheck.BadRecord x = refused-record patternRecords variab
 pattern-answer l PatternCheck.NoTerm x = refused-term patternRecords variables l 1 2 3 [] x
 
 -- the constants of a table of bytes fit
-ground : (t : Term) (r : List ℕ) → Bytes (encode t ++ r) → Below 0 t → Ground t
-ground (app f a) r b h =
-    let c : Bytes (encode f ++ (encode a ++ r)) =
-    subst Bytes (append-assoc (encode f) (encode a) r) (rest-bytes 0 0 ((encode f ++ encode a) ++ r) b) in (
-      ground f (encode a ++ r) c (h .0),
-      ground a r (λ i. rw (getD-append-add (encode f) (encode a ++ r) i 0) at (c (length (encode f) + i))) (h .1),
-    )
-ground (lam d) r b h = ground d r (rest-bytes 1 0 (encode d ++ r) b) h
-ground (loc n) r b h = tt
-ground (con n) r b h = number-fits 3 n r b
-ground (var n) r b h = absurd (omega arith)
+ground : (t : Term) → NumbersBelow constants t → Below 0 t → Ground t
+ground (app f a) n h = (ground f (n .0) (h .0), ground a (n .1) (h .1))
+ground (lam b) n h = ground b n h
+ground (loc k) n h = tt
+ground (con k) n h = n
+ground (var k) n h = absurd (omega arith)
 
 ground-table : (l : List ℕ) (t : Term) → Bytes l → l ≡ encode t → Below 0 t → Ground t
-ground-table l t b e h = ground t [] (subst Bytes (e ∙ sym (append-nil (encode t))) b) h
+ground-table l t b e h =
+    let n = numbers-below recordBytes (λ k n r s. refl) constants Bytes number-fits rest-bytes t []
+    (subst Bytes (e ∙ sym (append-nil (encode t))) b) in
+    ground t (n .0) h
 
 -- the last row of a recipe's
 abbrev pub last : List ℕ → List Row
@@ -204,7 +203,7 @@ value-passed : (l : List ℕ) → ValueTable l → Passed (normalRows valueRecor
 value-passed l x =
     let t = x .tree in
     let g : goodRecords 0 l ≡ true =
-    ap (goodRecords 0) (x .bytes ∙ sym (append-nil (encode t))) ∙ below-good 0 t [] (ground-below t (x .value .2)) refl in (
+    ap (goodRecords 0) (x .bytes) ∙ table-good 0 t (omega arith) (x .value .0) (omega (arith, x .most)) (ground-below t (x .value .2)) in (
       length-right valueRecords l t (x .bytes) (x .most),
       (not-both (goodRecords 0 l) g, ((λ n. n t (x .bytes, x .value .0)), ((λ f. f t (x .bytes, x .value .0) (x .value .1)), tt))),
     )

@@ -8,6 +8,7 @@ use native.Mathlib.Omega.{arith}
 use lib.ListN.{length, getD, drop, length-append, length-drop}
 use Rattle.terms.specs.Term.{Term, app, lam, loc, con, var}
 use Rattle.terms.specs.Table.{recordBytes, encode, goodRecords}
+use Rattle.terms.specs.OldForm.{Bytes}
 use Rattle.terms.proofs.Table.{kind, numberOf, encode-length}
 use Rattle.records.specs.Record.{parts, numberAt}
 use Rattle.records.specs.declared.End.the-variants.{At, Nowhere}
@@ -73,7 +74,7 @@ made (suc (suc (suc zero))) n m ts h z c = (con n ∷ ts, omega arith, refl)
 made (suc (suc (suc (suc zero)))) n m ts h z c = (var n ∷ ts, omega arith, refl)
 made (suc (suc (suc (suc (suc k))))) n m ts h z c = absurd (omega arith)
 
-close-row : (v : ℕ) (l : List ℕ) (at m : ℕ) (rest : List ℕ) → 0 < m → at + 4 ≤ length l → getD l (at + 2 + 1) 0 < 256
+close-row : (v : ℕ) (l : List ℕ) (at m : ℕ) (rest : List ℕ) → 0 < m → at + 4 ≤ length l → Bytes l
     → goodRecords v (drop at l) ≡ true → TermRow l (at + 4) (m - 1 + parts (getD l at 0)) rest → TermRow l at m rest
 close-row v l at m rest h w b g x =
     let a = allowed-is v l at w b (good-split l at v w g .0) in
@@ -84,7 +85,7 @@ close-row v l at m rest h w b g x =
       bytes = a .is ∙ ap (recordBytes (getD l at 0) (numberAt l at)) (x .bytes) ∙ ap (_++ rest) (u .2);
     }
 
-pub passing-step : (l : List ℕ) (from at m : ℕ) → Passing l from at m → 0 < m → at + 4 ≤ length l → getD l (at + 2 + 1) 0 < 256 → (n : ℕ)
+pub passing-step : (l : List ℕ) (from at m : ℕ) → Passing l from at m → 0 < m → at + 4 ≤ length l → Bytes l → (n : ℕ)
     → n ≡ parts (getD l at 0) → n ≤ 2 → Passing l from (at + 4) (m - 1 + n)
 passing-step l from at m x h w b n e u = rw e (record {
   within = w;

@@ -2,18 +2,19 @@
 -- four bytes, which only this file and the functions of one record look at. Assumes nothing.
 use mathlib.Core.Path.{_≡_, refl, sym, ap, ap₂, _∙_, subst}
 use mathlib.Core.Bool.{Bool, true, false, cond, _&&_, _||_}
-use mathlib.Core.Option.{some, none}
+use mathlib.Core.Option.{Option, some, none}
 use mathlib.Core.List.{List, [], _∷_}
 use Prim.Native.Nat.{ℕ, zero, suc, _+_, _-_, _*_, _/_, _%_, _≤_, _<_}
 use native.Mathlib.Omega.{arith}
-use native.Mathlib.Nat.{div-add-mod'}
 use lib.Dec.{T, eqb, leb, ltb}
 use lib.ListN.{length, getD, drop, length-drop, drop-of-length-le}
 use lib.Seq.{getD-drop, drop-drop}
-use borrow.Author.Tests.{eqb-true, leb-true, leb-false, eq-eqb, ne-eqb, le-leb, lt-leb, lt-ltb, le-ltb}
+use borrow.Author.Tests.{eqb-true, leb-true, leb-false, ne-eqb, le-leb, lt-leb, lt-ltb, le-ltb}
 use Rattle.terms.specs.Figures.{numbers}
-use Rattle.terms.specs.Table.{recordBytes, recordOf, allowed, goodRecords}
+use Rattle.terms.specs.Table.{recordBytes, secondByteAllowed, allowed, goodRecords}
+use Rattle.terms.specs.OldForm.{Bytes}
 use Rattle.terms.proofs.Tests.{and-true, and-split}
+use Rattle.terms.proofs.Table.{number-is}
 use Rattle.records.specs.declared.Kind.{Kind}
 use Rattle.records.specs.declared.KindRead.{KindRead}
 use Rattle.records.specs.declared.KindRead.the-variants.{Known, Unknown}
@@ -47,8 +48,10 @@ module _ (l : List ℕ) (at : ℕ) where
 
     pub number-read : numberAt l at ≡ n
     number-read =
-        ap₂ (λ (i j : ℕ). i * 256 + j) (sym (byte 2 (at + 2) (omega arith))) (sym (byte 3 (at + 2 + 1) (omega arith)))
-        ∙ ap (λ (x : List ℕ). getD x 2 0 * 256 + getD x 3 0) e ∙ div-add-mod' n 256
+        sym
+        (λ i. byte 1 (at + 1) (omega arith) i * 65536
+        + (byte 2 (at + 2) (omega arith) i * 256 + byte 3 (at + 2 + 1) (omega arith) i))
+        ∙ ap (λ (x : List ℕ). getD x 1 0 * 65536 + (getD x 2 0 * 256 + getD x 3 0)) e ∙ number-is n
 
     pub rest-read : drop (at + 4) l ≡ rest
     rest-read = sym (drop-drop 4 at l) ∙ ap (drop 4) e
@@ -71,42 +74,34 @@ or-first : (a b : Bool) → a ≡ false → a || b ≡ true → b ≡ true
 or-first true b e h = absurd (subst T e tt)
 or-first false b e h = h
 
-allowed-some : (v k z n : ℕ) → allowed v (recordOf k z (n / 256) (n % 256)) ≡ true → (z ≡ 0) × (k ≤ 4) × (k ≤ 1 → n ≡ 0)
-allowed-some v k z n h = go (eqb z 0) refl h
-  where
-    go : (b : Bool) → eqb z 0 ≡ b → allowed v (cond b (some (k, n / 256 * 256 + n % 256)) none) ≡ true → (z ≡ 0) × (k ≤ 4) × (k ≤ 1 → n ≡ 0)
-    go true e h =
-        let p = and-split (leb k 4) _ h in
-        let q = and-split (ltb 1 k || eqb (n / 256 * 256 + n % 256) 0) _ (p .1) in (
-          eqb-true z 0 e,
-          leb-true k 4 (p .0),
-          λ i. sym (div-add-mod' n 256) ∙ eqb-true (n / 256 * 256 + n % 256) 0 (or-first (ltb 1 k) _ (le-ltb 1 k i) (q .0)),
-        )
-    go false e h = absurd (subst T (sym h) tt)
+allowed-some : (v k n : ℕ) (read : Bool) → allowed v (cond read (some (k, n)) none) ≡ true → (k ≤ 4) × (k ≤ 1 → n ≡ 0)
+allowed-some v k n true h =
+    let p = and-split (leb k 4) _ h in
+    let q = and-split (ltb 1 k || eqb n 0) _ (p .1) in
+    (leb-true k 4 (p .0), λ i. eqb-true n 0 (or-first (ltb 1 k) _ (le-ltb 1 k i) (q .0)))
+allowed-some v k n false h = absurd (subst T (sym h) tt)
 
-pub allowed-is : (v : ℕ) (l : List ℕ) (at : ℕ) → at + 4 ≤ length l → getD l (at + 2 + 1) 0 < 256
-    → allowed v (recordAt l at) ≡ true → Allowed v l at
+pub allowed-is : (v : ℕ) (l : List ℕ) (at : ℕ) → at + 4 ≤ length l → Bytes l → allowed v (recordAt l at) ≡ true → Allowed v l at
 allowed-is v l at h b a =
-    let p : getD l (at + 2) 0 ≡ numberAt l at / 256 = omega arith in
+    let s = allowed-some v (getD l at 0) (numberAt l at) (secondByteAllowed (getD l at 0) (getD l (at + 1) 0)) a in
+    let x = b (at + 2) in
+    let y = b (at + 2 + 1) in
+    let o : getD l (at + 1) 0 ≡ numberAt l at / 65536 = omega arith in
+    let p : getD l (at + 2) 0 ≡ numberAt l at / 256 % 256 = omega arith in
     let q : getD l (at + 2 + 1) 0 ≡ numberAt l at % 256 = omega arith in
-    let s = allowed-some v (getD l at 0) (getD l (at + 1) 0) (numberAt l at)
-    (ap₂ (λ (i j : ℕ). allowed v (recordOf (getD l at 0) (getD l (at + 1) 0) i j)) (sym p) (sym q) ∙ a) in
     record {
-      is = record-drop l at h ∙ (λ i. getD l at 0 ∷ s .0 i ∷ p i ∷ q i ∷ drop (at + 4) l);
-      known = s .1;
-      none = s .2;
+      is = record-drop l at h ∙ (λ i. getD l at 0 ∷ o i ∷ p i ∷ q i ∷ drop (at + 4) l);
+      known = s .0;
+      none = s .1;
     }
 
--- a table whose numbers are bytes, as a lent table's are: so are those behind a record, and the record's number fits
-abbrev pub Bytes : List ℕ → Type 0
-Bytes l = (i : ℕ) → getD l i 0 < 256
-
+-- of a table of bytes: the numbers behind a record are bytes, and the record's number fits
 module _ (k n : ℕ) (rest : List ℕ) (b : Bytes (recordBytes k n rest)) where
   pub rest-bytes : Bytes rest
   rest-bytes i = b (suc (suc (suc (suc i))))
 
   pub number-fits : n < numbers
-  number-fits = let h : n / 256 < 256 = b 2 in omega arith
+  number-fits = let h : n / 65536 < 256 = b 1 in omega arith
 
 -- a kind with no parts
 pub parts-none : (k : ℕ) → ¬ (k ≡ 0) → ¬ (k ≡ 1) → 0 ≡ parts k
@@ -127,12 +122,15 @@ abbrev codeOf : KindRead → ℕ
 codeOf (Known k) = k .code
 codeOf Unknown = 0
 
-pub known-of : (b : ℕ) (k : Kind) (r : KindRead) → r ≡ kindOf b → r ≡ Known k → (b ≤ 4) × (k .code ≡ b)
+known-of : (b : ℕ) (k : Kind) (r : KindRead) → r ≡ kindOf b → r ≡ Known k → (b ≤ 4) × (k .code ≡ b)
 known-of b k r p q = go (leb b 4) refl (sym p ∙ q)
   where
     go : (t : Bool) → leb b 4 ≡ t → cond t (Known (record { code = b })) Unknown ≡ Known k → (b ≤ 4) × (k .code ≡ b)
     go true e h = (leb-true b 4 e, sym (ap codeOf h))
     go false e h = let z : _≡_ {A = ℕ} 0 1 = cc in absurd (omega arith)
+
+pub known-most : (b : ℕ) (k : Kind) (r : KindRead) → r ≡ kindOf b → r ≡ Known k → k .code ≤ 4
+known-most b k r p q = let h = known-of b k r p q in omega (arith, h .0, h .1)
 
 pub unknown-of : (b : ℕ) (r : KindRead) → r ≡ kindOf b → r ≡ Unknown → 4 < b
 unknown-of b r p q = go (leb b 4) refl (sym p ∙ q)
@@ -153,18 +151,29 @@ module _ (v k n : ℕ) where
   allowed-any h m g = simp (le-leb k 4 h, lt-ltb 1 k g, ne-eqb k 4 m)
 
 module _ (v : ℕ) (l : List ℕ) (at : ℕ) where
-  pub second-not-zero : ¬ (getD l (at + 1) 0 ≡ 0) → false ≡ allowed v (recordAt l at)
-  second-not-zero h = simp (ne-eqb (getD l (at + 1) 0) 0 h)
+  -- the record, where its second byte may be so and where it may not
+  abbrev read : Bool → Option (ℕ × ℕ)
+  read second = cond second (some (getD l at 0, numberAt l at)) none
 
-  record-some : getD l (at + 1) 0 ≡ 0 → recordAt l at ≡ some (getD l at 0, numberAt l at)
-  record-some h = simp (eq-eqb (getD l (at + 1) 0) 0 h)
+  pub kind-unknown : 4 < getD l at 0 → false ≡ allowed v (recordAt l at)
+  kind-unknown h = go (secondByteAllowed (getD l at 0) (getD l (at + 1) 0))
+    where
+      go : (second : Bool) → false ≡ allowed v (read second)
+      go true = simp (lt-leb (getD l at 0) 4 h)
+      go false = refl
 
-  pub kind-unknown : getD l (at + 1) 0 ≡ 0 → 4 < getD l at 0 → false ≡ allowed v (recordAt l at)
-  kind-unknown h g = sym (ap (allowed v) (record-some h) ∙ simp (lt-leb (getD l at 0) 4 g))
+  -- the first byte is read as a kind, and what that kind says of the second byte
+  module _ (k : Kind) (b : KindRead) (p : b ≡ kindOf (getD l at 0)) (q : b ≡ Known k) (r : Bool)
+      (e : r ≡ secondByteAllowed (k .code) (getD l (at + 1) 0)) where
+    second-says : (s : Bool) → r ≡ s → read s ≡ recordAt l at
+    second-says s h = ap read (sym h ∙ e ∙ ap (λ (i : ℕ). secondByteAllowed i (getD l (at + 1) 0)) (known-of (getD l at 0) k b p q .1))
 
-  pub kind-known : (r : Bool) (k n : ℕ) → getD l (at + 1) 0 ≡ 0 → k ≡ getD l at 0 → n ≡ numberAt l at → r ≡ allowed v (some (k, n))
-      → r ≡ allowed v (recordAt l at)
-  kind-known r k n h p q e = e ∙ ap₂ (λ (i j : ℕ). allowed v (some (i, j))) p q ∙ sym (ap (allowed v) (record-some h))
+    pub second-refused : r ≡ false → false ≡ allowed v (recordAt l at)
+    second-refused h = ap (allowed v) (second-says false h)
+
+    pub kind-known : r ≡ true → (a : Bool) (n : ℕ) → n ≡ numberAt l at → a ≡ allowed v (some (k .code, n)) → a ≡ allowed v (recordAt l at)
+    kind-known h a n f x =
+        x ∙ ap₂ (λ (i j : ℕ). allowed v (some (i, j))) (known-of (getD l at 0) k b p q .1) f ∙ ap (allowed v) (second-says true h)
 
 -- good records, one after another
 pub good-short : (v : ℕ) (l : List ℕ) (at : ℕ) → at < length l → length l - at < 4 → false ≡ goodRecords v (drop at l)

@@ -8,7 +8,7 @@
 use mathlib.Core.Bool.{Bool, cond, _&&_}
 use mathlib.Core.Option.{Option}
 use mathlib.Core.List.{List}
-use Prim.Native.Nat.{ℕ, zero, suc, _+_}
+use Prim.Native.Nat.{ℕ, zero, suc, _+_, _*_}
 use lib.Dec.{leb, eqb}
 use lib.ListN.{getD}
 use Rattle.terms.specs.Table.{recordOf, localKind, variableKind}
@@ -30,9 +30,9 @@ abbrev pub readParts : KindRead → ℕ
 readParts (Known k) = parts (k .code)
 readParts Unknown = 0
 
--- "a 16-bit number, high byte first", behind the kind and the zero byte
+-- three bytes behind the kind, high byte first
 abbrev pub numberAt : List ℕ → ℕ → ℕ
-numberAt l at = wordAt l (at + 2)
+numberAt l at = getD l (at + 1) 0 * 65536 + wordAt l (at + 2)
 
 abbrev pub recordAt : List ℕ → ℕ → Option (ℕ × ℕ)
 recordAt l at = recordOf (getD l at 0) (getD l (at + 1) 0) (getD l (at + 2) 0) (getD l (at + 2 + 1) 0)

@@ -16,10 +16,11 @@ ghost use mathlib.Core.List.{[]};
 ghost use Prim.Native.Nat.{_+_, _*_, _≤_, _<_};
 ghost use lib.ListN.{length, getD};
 ghost use lib.Seq.{sets};
-ghost use Rattle.terms.specs.Figures.{numbers, tableBytes};
+ghost use Rattle.terms.specs.Figures.{numbers, words, tableBytes};
 ghost use Rattle.terms.specs.Term.{Term, isEta, Normal, Closed};
 ghost use Rattle.terms.specs.Refusal.{BadLength, patternRows, recipeRows, normalRows};
-ghost use Rattle.terms.specs.Table.{encode, recordBytes, allowed, goodRecords, applicationKind, abstractionKind, variableKind};
+ghost use Rattle.terms.specs.Table.{encode, recordBytes, secondByteAllowed, allowed, goodRecords};
+ghost use Rattle.terms.specs.Table.{applicationKind, abstractionKind, variableKind};
 ghost use Rattle.terms.specs.Layout.{wordAt};
 ghost use Rattle.records.specs.Record.{kindOf, parts as partsOf, readParts, numberAt, recordAt, innermostAt};
 ghost use Rattle.records.specs.Parts.{Whole, Ends, Reached, Ended, Tree, Divided, Lies};
@@ -77,6 +78,14 @@ impl Kind {
         0
     }
 
+    // Whether a record of this kind may have this second byte: it counts in a constant's number, and is zero in every other kind.
+    fn allows_second(self, byte: u8) -> bool
+        ensures { λ r. ⌜ r ≡ secondByteAllowed (self .code) byte ⌝ }
+    {
+        let code = self.code;
+        code == Kind::CONSTANT.code || byte == 0
+    }
+
     // Whether a record of this kind may have this number, where the variables are those below `variables`.
     fn allows(self, number: usize, variables: usize) -> bool
         requires { ⌜ self .code ≤ variableKind ⌝ }
@@ -115,7 +124,7 @@ pub fn wide(byte: u8) -> usize
 // The 16-bit number at byte `at`, high byte first.
 pub fn word_at(s: &[u8], at: usize) -> usize
     requires { ⌜ at + 2 ≤ length (now s) ⌝ }
-    ensures { λ r. ⌜ (r ≡ wordAt (now (s .entry)) at) × (r < 65536) ⌝ }
+    ensures { λ r. ⌜ (r ≡ wordAt (now (s .entry)) at) × (r < words) ⌝ }
 {
     wide(s[at]) * 256 + wide(s[at + 1])
 }
@@ -125,7 +134,7 @@ pub fn number_at(s: &[u8], at: usize) -> usize
     requires { ⌜ at + 4 ≤ length (now s) ⌝ }
     ensures { λ r. ⌜ (r ≡ numberAt (now (s .entry)) at) × (r < numbers) ⌝ }
 {
-    word_at(s, at + 2)
+    wide(s[at + 1]) * 65536 + word_at(s, at + 2)
 }
 
 // Writes one record at byte `at`; nothing else changes.
@@ -135,7 +144,7 @@ pub fn put_record(out: &mut [u8], at: usize, kind: Kind, number: usize)
 {
     let code = kind.code;
     out[at] = code;
-    out[at + 1] = 0;
+    out[at + 1] = (number / 65536 % 256) as u8;
     out[at + 2] = (number / 256 % 256) as u8;
     out[at + 3] = (number % 256) as u8;
 }
@@ -234,15 +243,14 @@ fn is_allowed(s: &[u8], at: usize, variables: usize) -> bool
     requires { ⌜ at + 4 ≤ length (now s) ⌝ }
     ensures { λ r. ⌜ r ≡ allowed variables (recordAt (now (s .entry)) at) ⌝ }
 {
-    if s[at + 1] != 0 {
-        return false;
-    }
-    let number = number_at(s, at);
     let read = Kind::from_byte(s[at]);
     let KindRead::Known(kind) = read else {
         return false;
     };
-    kind.allows(number, variables)
+    if kind.allows_second(s[at + 1]) {
+        return kind.allows(number_at(s, at), variables);
+    }
+    false
 }
 
 // Whether s is whole records, each one that a table may hold.

@@ -9,5 +9,6 @@ pub mod Locals
 pub mod Variables
 pub mod Normalization
 pub mod Table
+pub mod OldForm
 pub mod Order
 pub mod Refusal

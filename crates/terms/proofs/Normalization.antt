@@ -97,7 +97,7 @@ first-normal-short most t u x h = go (x .count) (x .enough) (x .few) (x .first) 
         short (no d) = omega (arith, ap size (e ∙ sweeps-last n t), sweep-largest (sweeps n t))
 
 -- sweeps bring in no variable and no loose local
-sweeps-closed-below : (n : ℕ) (t : Term) → Closed 0 t → Below 0 t → Closed 0 (sweeps n t) × Below 0 (sweeps n t)
+pub sweeps-closed-below : (n : ℕ) (t : Term) → Closed 0 t → Below 0 t → Closed 0 (sweeps n t) × Below 0 (sweeps n t)
 sweeps-closed-below zero t c b = (c, b)
 sweeps-closed-below (suc n) t c b = sweeps-closed-below n (sweep t) (closed-sweep-below 0 t b c) (below-sweep 0 t b)
 

@@ -1,7 +1,8 @@
 -- The figures of documents 01 and 02, each in this one place.
 --   variables       "variable, number 0 to 7": how many there are
---   constants       "constant, number 0 to 65,535": how many there are
---   numbers         "a 16-bit number": how many numbers a record can hold
+--   constants       document 02: "the second byte of a record becomes the top eight bits of the number": how many there are
+--   numbers         how many numbers the three bytes behind a record's kind hold
+--   words           "16 bits each": how many numbers two bytes hold
 --   patternRecords  "Sizes: pattern and right side 1 to 32 records"
 --   recipeRecords   "recipe 1 to 96"
 --   valueRecords    "value 1 to 160"
@@ -16,10 +17,13 @@ abbrev pub variables : ℕ
 variables = 8
 
 abbrev pub constants : ℕ
-constants = 65536
+constants = 16777216
 
 abbrev pub numbers : ℕ
-numbers = 65536
+numbers = 16777216
+
+abbrev pub words : ℕ
+words = 65536
 
 abbrev pub patternRecords : ℕ
 patternRecords = 32

@@ -5,6 +5,7 @@ pub mod Sweep
 pub mod Normalization
 pub mod Assignment
 pub mod Listing
+pub mod OldForm
 pub mod Layout
 pub mod Refusal
 pub mod Heads

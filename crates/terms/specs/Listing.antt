@@ -15,7 +15,7 @@ use mathlib.Core.Logic.{_⊎_}
 use Prim.Native.Nat.{ℕ, _<_}
 use lib.ListN.{length}
 use Rattle.terms.specs.Term.{Term, Occurs}
-use Rattle.terms.specs.Table.{preorder}
+use Rattle.terms.specs.Table.{kindAndNumber, preorder}
 use Rattle.terms.specs.Assignment.{Assignment, Assigns, Entries, Complete, Match}
 
 module _ {A : Type 0} where
@@ -36,7 +36,7 @@ Line = Assignment
 
 -- "record by record, by kind and then number"
 abbrev pub kindsAndNumbers : Term → List ℕ
-kindsAndNumbers t = preorder (λ k n rest. k ∷ n ∷ rest) t
+kindsAndNumbers t = preorder kindAndNumber t
 
 -- "Open comes before assigned."
 abbrev pub rank : Option Term → List ℕ

@@ -130,7 +130,7 @@ Below n (loc k) = Unit {0}
 Below n (con k) = Unit {0}
 Below n (var i) = i < n
 
--- "without variables"; "constant, number 0 to 65,535"
+-- "without variables"; "constant, number 0 to 65,535", by document 02 "with 24 bits"
 abbrev pub Ground : Term → Type 0
 Ground (app f a) = Ground f × Ground a
 Ground (lam b) = Ground b

@@ -9,5 +9,5 @@
 // is the writing order both of bytes and of the records by which values compare, so that a kind's number stands once. The causes of
 // refusal are rows of a number and a condition, so that "given when its cause holds and no earlier one does" is said once for all
 // operations. `Figures` has each figure of the documents; theorems about full listings and the table of cases are over the number of
-// variables, and the table is computed at 8 and at 16. The decision that `Term` derives has to stand at its declaration; nothing in
-// `specs/` uses it.
+// variables, and the table is computed at 8 and at 16. `OldForm` is cited by no contract: it states what document 02 asks of tables from
+// before constants had 24 bits. The decision that `Term` derives has to stand at its declaration; nothing in `specs/` uses it.

@@ -1,7 +1,7 @@
 -- `records::pass_part` meets its contract. The invariant: as many terms stand at `at` as parts are missing there; the measure is what is
 -- left of the table. Assumes nothing.
 use mathlib.Core.Path.{ap, _∙_}
-use Prim.Native.Nat.{_+_, _-_}
+use Prim.Native.Nat.{_-_}
 use lib.ListN.{length, getD}
 use native.Mathlib.Omega.{arith}
 use Rattle.records.specs.Record.{readParts}
@@ -55,7 +55,7 @@ loop-again c =
     let from-byte : tie.After-from-byte Inv-loop μ-loop = search in
     let shared-slice-known : tie.After-shared-slice-known Inv-loop μ-loop = search in
     passing-step _ _ _ _ (at-loop .loop .inv) (in-loop .loop-test .taken) (omega arith)
-    (omega (arith, shared-slice-known .shared-slice-known .given (at-loop .loop .at + 2 + 1))) _ (c .following .ensures .0
+    (λ i. omega (arith, shared-slice-known .shared-slice-known .given i)) _ (c .following .ensures .0
     ∙ ap readParts (from-byte .from-byte .ensures) ∙ read-parts (getD (start .args .s .now) (at-loop .loop .at) 0))
     (c .following .ensures .1)
 

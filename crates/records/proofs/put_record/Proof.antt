@@ -1,4 +1,4 @@
--- `records::put_record` meets its contract. Four stores are the run of stores of a record's bytes, since its number fits two bytes.
+-- `records::put_record` meets its contract. Four stores are the run of stores of a record's bytes, since its number fits three bytes.
 -- Assumes nothing.
 use Prim.Native.Nat.{_/_, _%_}
 use mathlib.Core.Path.{_≡_}
@@ -12,14 +12,17 @@ use Rattle.records.proofs.put_record.Tie as tie
 slice-write-out : tie.Need-slice-write-out
 slice-write-out c = search needs
 
+cast-out : tie.Need-cast-out
+cast-out c = search needs
+
 add-out : tie.Need-add-out
 add-out c = search needs
 
 slice-write-out-2 : tie.Need-slice-write-out-2
 slice-write-out-2 c = simp length-set (omega arith)
 
-cast-out : tie.Need-cast-out
-cast-out c = search needs
+cast-out-2 : tie.Need-cast-out-2
+cast-out-2 c = search needs
 
 add-out-2 : tie.Need-add-out-2
 add-out-2 c = search needs
@@ -27,8 +30,8 @@ add-out-2 c = search needs
 slice-write-out-3 : tie.Need-slice-write-out-3
 slice-write-out-3 c = simp length-set (omega arith)
 
-cast-out-2 : tie.Need-cast-out-2
-cast-out-2 c = search needs
+cast-out-3 : tie.Need-cast-out-3
+cast-out-3 c = search needs
 
 add-out-3 : tie.Need-add-out-3
 add-out-3 c = search needs
@@ -41,7 +44,7 @@ same-length c = search needs
 
 returns : tie.Need-returns
 returns c =
-    let h : c .args .number / 256 % 256 ≡ c .args .number / 256 = omega arith in
+    let h : c .args .number / 65536 % 256 ≡ c .args .number / 65536 = omega arith in
     simp (towards-suc, h)
 
 pub put-record-spec : {M : Type 1} → statement M
@@ -49,12 +52,13 @@ put-record-spec =
     tie.close
     (tie.spec
     slice-write-out
+    cast-out
     add-out
     slice-write-out-2
-    cast-out
+    cast-out-2
     add-out-2
     slice-write-out-3
-    cast-out-2
+    cast-out-3
     add-out-3
     slice-write-out-4
     same-length
