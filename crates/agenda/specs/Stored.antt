@@ -8,7 +8,7 @@
 use mathlib.Core.Path.{_≡_}
 use mathlib.Core.List.{List, [], _∷_}
 use Prim.Native.Nat.{ℕ, _+_, _-_, _*_, _/_, _%_, _<_, _≤_}
-use Rattle.terms.specs.Figures.{numbers}
+use Rattle.terms.specs.Figures.{words}
 use Rattle.agenda.specs.declared.StoredGoal.{StoredGoal}
 use Rattle.agenda.specs.State.{patternAt, originAt, targetAt, nextAt, argumentAt}
 
@@ -22,11 +22,11 @@ partLimit = 4 * 256
 
 pub record StoredFits (r : StoredGoal) : Type 0 where
   pub part : r .part < partLimit
-  pub origin : r .origin < 4 * numbers
+  pub origin : r .origin < 4 * words
   pub from : r .origin ≤ r .target
   pub near : r .target < r .origin + partLimit
-  pub next : r .next < 4 * numbers
-  pub argument : r .argument < 4 * numbers
+  pub next : r .next < 4 * words
+  pub argument : r .argument < 4 * words
 
 pub record StoredAt (W : List ℕ) (at : ℕ) (r : StoredGoal) : Type 0 where
   pub part : r .part ≡ patternAt W at

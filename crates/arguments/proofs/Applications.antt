@@ -8,7 +8,7 @@ use Prim.Native.Nat.{ℕ, _+_, _*_, _%_, _<_, _≤_}
 use native.Mathlib.Omega.{arith}
 use lib.ListN.{length, take}
 use lib.Seq.{sets}
-use Rattle.terms.specs.Figures.{variables, tableBytes, numbers}
+use Rattle.terms.specs.Figures.{variables, tableBytes, words}
 use Rattle.terms.specs.Term.{Term, app, lam, loc, con, var, size}
 use Rattle.terms.specs.Listing.{Line}
 use Rattle.terms.specs.Refusal.{OccursIn}
@@ -160,11 +160,11 @@ fits-as i j p x = subst StoredFits (sym p) x
 
 pub fits-build :
     (i : StoredGoal) (part origin target next argument : ℕ) → i ≡ storedBuild part origin target next argument → part < partLimit
-    → origin < 4 * numbers → origin ≤ target → target < origin + partLimit → next < 4 * numbers → argument < 4 * numbers → StoredFits i
+    → origin < 4 * words → origin ≤ target → target < origin + partLimit → next < 4 * words → argument < 4 * words → StoredFits i
 fits-build i part origin target next argument p x o f y z w =
     rw p (record { part = x; origin = o; from = f; near = y; next = z; argument = w })
 
 pub fits-match :
-    (i : StoredGoal) (part origin target next : ℕ) → i ≡ storedMatch part origin target next → part < partLimit → origin < 4 * numbers
-    → origin ≤ target → target < origin + partLimit → next < 4 * numbers → StoredFits i
+    (i : StoredGoal) (part origin target next : ℕ) → i ≡ storedMatch part origin target next → part < partLimit → origin < 4 * words
+    → origin ≤ target → target < origin + partLimit → next < 4 * words → StoredFits i
 fits-match i part origin target next p x o f y z = fits-build i part origin target next 0 p x o f y z (omega arith)

@@ -11,13 +11,13 @@ use lib.Dec.{eqb}
 use borrow.Author.Tests.{eq-eqb, ne-eqb}
 use lib.ListN.{length, getD, set, length-set}
 use lib.Seq.{sets, length-sets, getD-set-same, getD-set-other}
-use Rattle.terms.specs.Figures.{variables, numbers}
+use Rattle.terms.specs.Figures.{variables, words}
 use Rattle.terms.specs.Layout.{word, wordAt}
 use Rattle.attempts.specs.Steps.{openFirst, openCount, EntryFilled, EntryWritten, FilledOpen}
 
 -- a word that is written, and the words beside it
 module _ (l : List ℕ) (at n : ℕ) (h : at + 2 ≤ length l) where
-  pub word-same : n < numbers → wordAt (sets l at (word n [])) at ≡ n
+  pub word-same : n < words → wordAt (sets l at (word n [])) at ≡ n
   word-same f =
       let a : getD (set (set l at (n / 256)) (suc at) (n % 256)) at 0 ≡ n / 256 =
       getD-set-other (set l at (n / 256)) (suc at) at (n % 256) 0 (λ e. omega (arith, e)) ∙ getD-set-same l at (n / 256) 0 (omega arith) in
@@ -57,7 +57,7 @@ module _ (l : List ℕ) (n i c : ℕ) (e : c ≡ wordAt l (4 * i + 2)) where
         kept = λ k d. record { first = refl; count = refl };
       }
 
-  pub entry-open : c ≤ 0 → 4 * i + 4 ≤ length l → n < numbers → (p m : List ℕ) → p ≡ sets l (4 * i) (word n [])
+  pub entry-open : c ≤ 0 → 4 * i + 4 ≤ length l → n < words → (p m : List ℕ) → p ≡ sets l (4 * i) (word n [])
       → m ≡ sets p (4 * i + 2) (word 1 []) → EntryWritten l n i m
   entry-open h w f p m x y =
       let z : eqb (wordAt l (4 * i + 2)) 0 ≡ true = eq-eqb (wordAt l (4 * i + 2)) 0 (omega arith) in

@@ -23,7 +23,7 @@ use sweeping::SWEPT_BYTES;
 ghost use mathlib.Core.Path.{_≡_};
 ghost use Prim.Native.Nat.{_+_, _*_, _≤_, _<_};
 ghost use lib.ListN.{length};
-ghost use Rattle.terms.specs.Figures.{variables, numbers};
+ghost use Rattle.terms.specs.Figures.{variables, words};
 ghost use Rattle.terms.specs.Term.{Term};
 ghost use Rattle.terms.specs.Table.{encode};
 ghost use Rattle.records.specs.Checks.{Pattern, Recipe};
@@ -51,7 +51,7 @@ fn heads_exclude(left: &[u8], part: &[u8]) -> bool
 
 // Fills variable i's entry of the line that the table begins with, if it is open: it gets the value of one record at record n.
 fn fill_entry(line: &mut [u8], i: usize, n: usize)
-    requires { ⌜ (4 * i + 4 ≤ length (now line)) × (i < variables) × (n < numbers) ⌝ }
+    requires { ⌜ (4 * i + 4 ≤ length (now line)) × (i < variables) × (n < words) ⌝ }
     ensures { λ _. ⌜ EntryWritten (now (line .entry)) n i (now (line .exit)) ⌝ }
 {
     let at = RECORD * i;
@@ -64,7 +64,7 @@ fn fill_entry(line: &mut [u8], i: usize, n: usize)
 
 // Fills all open entries of the line.
 fn fill_open(line: &mut [u8], n: usize)
-    requires { ⌜ (4 * variables ≤ length (now line)) × (n < numbers) ⌝ }
+    requires { ⌜ (4 * variables ≤ length (now line)) × (n < words) ⌝ }
     ensures { λ _. ⌜ FilledOpen (now (line .entry)) n (now (line .exit)) variables ⌝ }
 {
     let mut i = 0;

@@ -2,7 +2,6 @@
 -- variables. Where no rule was used it is the recipe that was given; else it is a first normal form of that recipe with a closed term
 -- without variables in the place of a part. Assumes nothing.
 use mathlib.Core.Path.{_≡_, refl, sym, ap, _∙_, subst}
-use mathlib.Core.Bool.{true}
 use mathlib.Core.List.{List, [], _++_, append-nil}
 use mathlib.Core.Logic.{⊎-elim}
 use Prim.Native.Nat.{ℕ, _*_}
@@ -13,7 +12,7 @@ use Rattle.terms.specs.Figures.{recipeRecords, mostSweeps}
 use Rattle.terms.specs.Term.{Term, Below}
 use Rattle.terms.specs.Table.{encode, goodRecords, IsTable}
 use Rattle.terms.specs.Refusal.{Passed, recipeRows}
-use Rattle.terms.proofs.Table.{encode-length, encode-one, good-below, below-good}
+use Rattle.terms.proofs.Table.{encode-length, encode-one, good-below, table-good}
 use Rattle.terms.proofs.Refusal.{passed-later}
 use Rattle.terms.proofs.Normalization.{first-normal-closed-below}
 use Rattle.records.specs.Parts.{Part}
@@ -72,8 +71,7 @@ module _ (b r o w : List ℕ) (n c : ℕ) (after : List ℕ) (x : Booked b r o w
       let u = form-closed-below (leftTable b (y .place)) (rightTable b (y .place)) (y .part) (y .put) (y .made) in
       let z = whole-below r s (written .found .table .0) recipe-below (y .at) (y .part) (y .put) (y .stands) (u .1) (y .whole) (y .table) in
       let d = first-normal-closed-below mostSweeps 0 (y .whole) form (y .first) (y .table .1) z in
-      let g : goodRecords 0 (encode form) ≡ true =
-      ap (goodRecords 0) (sym (append-nil (encode form))) ∙ below-good 0 form [] (d .1) refl in
+      let g = table-good 0 form (omega arith) (d .0) (omega (arith, written .room .0)) (d .1) in
       rw written-bytes (normal-passed form recipeRecords (refl, d .0) (omega (arith, written .room .0)) g (y .first .normal))
 
   pub booked-recipe : Passed (recipeRows (take (4 * n) after))

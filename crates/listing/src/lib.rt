@@ -17,7 +17,7 @@ ghost use mathlib.Core.List.{[]};
 ghost use Prim.Native.Nat.{_+_, _≤_, _<_};
 ghost use lib.ListN.{length};
 ghost use lib.Seq.{sets};
-ghost use Rattle.terms.specs.Figures.{numbers};
+ghost use Rattle.terms.specs.Figures.{words};
 ghost use Rattle.terms.specs.Layout.{word};
 ghost use Rattle.listing.specs.Outcome.{Storable, LineStored};
 ghost use Rattle.listing.specs.Writers.{countOf, entriesRecords, WriteEntry, EntryWritten, WriteLine, WroteLine};
@@ -30,7 +30,7 @@ pub struct Tally {
 
 // Writes a 16-bit number at byte `at`, high byte first; nothing else changes.
 pub fn put_word(out: &mut [u8], at: usize, number: usize)
-    requires { ⌜ (at + 2 ≤ length (now out)) × (number < numbers) ⌝ }
+    requires { ⌜ (at + 2 ≤ length (now out)) × (number < words) ⌝ }
     ensures { λ _. ⌜ now (out .exit) ≡ sets (now (out .entry)) at (word number []) ⌝ }
 {
     out[at] = (number / 256 % 256) as u8;
@@ -96,7 +96,7 @@ fn count_of(entry: Entry) -> usize
 
 // The records that the values of all entries have.
 fn records_of(entries: [Entry; VARIABLES]) -> usize
-    requires { ⌜ entriesRecords entries ≤ numbers ⌝ }
+    requires { ⌜ entriesRecords entries ≤ words ⌝ }
     ensures { λ r. ⌜ r ≡ entriesRecords entries ⌝ }
 {
     let mut n: usize = 0;

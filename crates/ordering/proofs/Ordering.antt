@@ -7,7 +7,7 @@ use Prim.Native.Nat.{ℕ, suc, _+_, _-_, _*_, _/_, _%_, _<_, _≤_}
 use native.Mathlib.Omega.{arith}
 use lib.ListN.{length, getD, take, drop}
 use lib.Seq.{sets}
-use Rattle.terms.specs.Figures.{variables, patternRecords, tableBytes, numbers}
+use Rattle.terms.specs.Figures.{variables, patternRecords, tableBytes, words}
 use Rattle.terms.specs.Term.{Term, app, lam, loc, con, var, size, Below}
 use Rattle.terms.proofs.Substitute.{size-pos}
 use Rattle.matching.specs.Goals.{Goal, Goal.match, Goal.build, Meets, All}
@@ -85,7 +85,7 @@ ranks P W top at gs c h b m l =
       short = l;
     }
 
-linked-fits : {r q : StoredGoal} {n : ℕ} → StoredFits r → q ≡ linked r n → n < 4 * numbers → StoredFits q
+linked-fits : {r q : StoredGoal} {n : ℕ} → StoredFits r → q ≡ linked r n → n < 4 * words → StoredFits q
 linked-fits f e h =
     rw e (record { part = f .part; origin = f .origin; from = f .from; near = f .near; next = h; argument = f .argument })
 

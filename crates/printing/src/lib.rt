@@ -93,8 +93,8 @@ fn put_record(out: &mut [u8], at: usize, table: &[u8], k: usize) -> usize
 {
     let i = RECORD * k;
     let kind = put(out, at, b' ');
-    let zero = put_byte(out, kind, table[i]);
-    let high = put_byte(out, zero, table[i + 1]);
+    let second = put_byte(out, kind, table[i]);
+    let high = put_byte(out, second, table[i + 1]);
     let low = put_byte(out, high, table[i + 2]);
     put_byte(out, low, table[i + 3])
 }
