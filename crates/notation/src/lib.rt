@@ -3,6 +3,7 @@
 // A case is one line of fields, each ended by `;` or the line. A table is written in items, each a sign and a number, which is 0 if it is
 // left out: `@`, `\`, `#n`, `kn`, `pn` are records, `=n:n` an assigned entry by its first record and its count, `-` an open one, `!n` one
 // byte, and `*n` has the next item n times; `..` leaves all entries open from there to the end of a line, however many variables there are.
+// A record's number is written to all three bytes behind its kind, whatever the kind, so that cases can have records that are refused.
 // A number of bytes is written in digits, or as a number of lines: `2 lines`. It promises that a table's length and a field lie within what
 // they are part of; what is read is not promised: the programs print it. It rests on `records` for the kinds and a line's length.
 
@@ -15,8 +16,12 @@ ghost use Prim.Native.Nat.{_≤_};
 ghost use lib.ListN.{length};
 ghost use Rattle.io.specs.Counts.{Counts};
 
-// How many values one byte has.
+// How many values one byte has, two bytes, and the three that hold a record's number.
 const BYTE: usize = 256;
+
+const WORD: usize = BYTE * BYTE;
+
+const NUMBER: usize = BYTE * WORD;
 
 // The base of a text's numbers.
 const TEN: usize = 10;
@@ -40,7 +45,7 @@ pub fn put(out: &mut [u8], at: usize, b: usize) -> usize
     at + 1
 }
 
-// Puts a number, high byte first.
+// Puts the two low bytes of a number, high byte first.
 pub fn put_number(out: &mut [u8], at: usize, number: usize) -> usize
     requires { ⌜ at ≤ length (now out) ⌝ }
     ensures { λ r. ⌜ r ≤ length (now (out .exit)) ⌝ }
@@ -49,12 +54,13 @@ pub fn put_number(out: &mut [u8], at: usize, number: usize) -> usize
     put(out, low, number)
 }
 
+// Puts a kind and the three low bytes of a number, high byte first.
 pub fn put_record(out: &mut [u8], at: usize, kind: u8, number: usize) -> usize
     requires { ⌜ at ≤ length (now out) ⌝ }
     ensures { λ r. ⌜ r ≤ length (now (out .exit)) ⌝ }
 {
-    let zero = put(out, at, kind as usize);
-    let high = put(out, zero, 0);
+    let top = put(out, at, kind as usize);
+    let high = put(out, top, number / WORD);
     put_number(out, high, number)
 }
 
@@ -115,9 +121,9 @@ fn is_digit(c: u8) -> bool {
     b'0' <= c && c <= b'9'
 }
 
-// A number with the digit c behind it; no text has a number of more than five digits.
+// A number with the digit c behind it; no text has a number that three bytes don't hold.
 fn with_digit(number: usize, c: u8) -> usize {
-    if TABLE_BYTES < number || c < b'0' {
+    if NUMBER < number || c < b'0' {
         return number;
     }
     number * TEN + (c - b'0') as usize

@@ -2,11 +2,11 @@
 //
 // The program reads a table of cases from standard input, runs the operations on them, and prints a line for each: its name, the
 // operation, the answer, and whether the bytes behind the answer (`rest`: the whole output table, if the answer is a refusal) and the work
-// area are as they were. The table that is kept beside it has document 01's cases, rewrites that take several sweeps, values that are
-// closed beside parts that are not, books of rules, every refusal that the operations can give, both sides of each limit, and the order of
-// the refusals. It promises that it is safe and that it ends; `matcher`, `rewriting` and `book` promise the answers and a refusal's number.
-// It rests on `matcher`, on `test_rewriting` and `test_book` for the other operations, on `notation` to read the cases, and on
-// `test_report` to print what came of them.
+// area are as they were. The table that is kept beside it has document 01's cases, rewrites that take several sweeps, constants of 24 bits,
+// values that are closed beside parts that are not, books of rules, every refusal that the operations can give, both sides of each limit,
+// and the order of the refusals. It promises that it is safe and that it ends; `matcher`, `rewriting` and `book` promise the answers and a
+// refusal's number. It rests on `matcher`, on `test_rewriting` and `test_book` for the other operations, on `notation` to read the cases,
+// and on `test_report` to print what came of them.
 //
 // A case is one line of fields, each ended by `;` or the line:
 //     NAME; list; PATTERN; RECIPE; LINES; VALUES; WORK

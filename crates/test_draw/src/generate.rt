@@ -4,6 +4,7 @@ use crate::random::draw;
 use notation::put_record;
 use records::Kind;
 use records::VARIABLES;
+use test_pool::wide_constant;
 use test_scan::scan::is_in;
 use test_scan::scan::past;
 use test_scan::scan::under;
@@ -125,7 +126,7 @@ fn draw_local(locals: u64, seed: &mut u64) -> Leaf {
 fn draw_constant(seed: &mut u64) -> Leaf {
     Leaf {
         kind: Kind::CONSTANT.code,
-        number: draw(seed, 3),
+        number: wide_constant(draw(seed, 3)),
     }
 }
 

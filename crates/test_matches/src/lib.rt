@@ -18,8 +18,8 @@ use test_scan::agreement::agreeing;
 use test_scan::agreement::compare;
 use test_scan::agreement::is_open;
 use test_scan::agreement::line_at;
+use test_scan::scan::count_at;
 use test_scan::scan::first_at;
-use test_scan::scan::number_at;
 use test_scan::scan::occurs;
 use test_scan::scan::variables;
 use test_tables::try_order;
@@ -49,7 +49,7 @@ pub fn copy_entry(from: &[u8], i: usize, to: &mut [u8], j: usize) {
         return;
     }
     let middle = put_number(to, RECORD * j, first_at(from, i));
-    put_number(to, middle, number_at(from, i));
+    put_number(to, middle, count_at(from, i));
 }
 
 // How many assignments there are of so many variables to n terms.
@@ -177,7 +177,7 @@ fn fill_one(pattern: &[u8], line: &[u8], terms: &[u8], turn: usize, out: &mut [u
     if n == 0 {
         return;
     }
-    if number_at(line, v) != 0 {
+    if count_at(line, v) != 0 {
         copy_entry(line, v, out, v);
         return;
     }

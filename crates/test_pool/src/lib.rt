@@ -1,4 +1,4 @@
-// All closed normal terms of up to six records over the constants 0 to 2, found by going through all runs of records.
+// All closed normal terms of up to six records over three constants, small ones or wide ones, found by going through all runs of records.
 //
 // It promises that it is safe and ends, and that what is written lies within its tables. It rests on `records` for the kinds and figures,
 // on `notation` for writing records, and on `test_scan` to tell which runs are values.
@@ -9,6 +9,8 @@ use records::Kind;
 use records::RECORD;
 use records::TABLE_BYTES;
 use test_scan::scan::is_value;
+use test_scan::scan::kind_at;
+use test_scan::scan::number_at;
 ghost use Prim.Native.Nat.{_≤_};
 ghost use lib.ListN.{length};
 
@@ -159,4 +161,33 @@ pub fn fill(terms: &mut [u8], entries: &mut [u8], before: usize) -> usize {
         size += 1;
     }
     filled.entries
+}
+
+// The constant that stands in wide terms where others have 0, 1 or 2: the last of 16 bits, the first that has more, and the last of all.
+// The first and the last differ in the top byte alone; the first and the second are in the order of the top byte, against that of the
+// others.
+pub fn wide_constant(number: usize) -> usize {
+    match number {
+        0 => 65535,
+        1 => 65536,
+        _ => 16777215,
+    }
+}
+
+fn wide_number(kind: u8, number: usize) -> usize {
+    if kind == Kind::CONSTANT.code {
+        return wide_constant(number);
+    }
+    number
+}
+
+// Writes the terms of one table to another as wide ones. Each keeps its place, so that an entry is one of both tables.
+pub fn widen(terms: &[u8], wide: &mut [u8]) {
+    let mut end = 0;
+    let mut i = 0;
+    while i < terms.len() / RECORD {
+        let kind = kind_at(terms, i);
+        end = put_record(wide, end, kind, wide_number(kind, number_at(terms, i)));
+        i += 1;
+    }
 }

@@ -47,6 +47,13 @@ fn main() {
         b"missing_file/recipe.rec",
     );
 
+    // `@ p0 k65536` against `@ @ k16777215 k0 k65536`: constants of 24 bits, two of which differ in the top eight alone.
+    run_case(
+        b"large_constants:",
+        b"large_constants/pattern.rec",
+        b"large_constants/recipe.rec",
+    );
+
     // `@ p0 k1` against `k2` applied to `k1` eight times: 256 lines, more than list's first search has room for, so that it searches again.
     run_case(
         b"long_listing:",

@@ -1,8 +1,8 @@
 // Lines of a listing against an assignment, against each other, and against document 01's layout.
 
+use crate::scan::count_at;
 use crate::scan::first_at;
 use crate::scan::is_value;
-use crate::scan::number_at;
 use crate::scan::occurs;
 use records::RECORD;
 use records::TABLE_BYTES;
@@ -42,7 +42,7 @@ pub fn line_at(lines: &[u8], n: usize) -> &[u8] {
 
 // The value of the entry with this number.
 pub fn value_at<'a>(values: &'a [u8], entries: &[u8], n: usize) -> &'a [u8] {
-    run_of(values, first_at(entries, n), number_at(entries, n))
+    run_of(values, first_at(entries, n), count_at(entries, n))
 }
 
 // Bytes compare by the first difference; then the shorter is before.
@@ -68,13 +68,13 @@ pub fn compare(a: &[u8], b: &[u8]) -> usize {
 
 // Open comes before assigned.
 fn compare_entries(a: &[u8], b: &[u8], values: &[u8], v: usize) -> usize {
-    if number_at(a, v) == 0 {
-        if number_at(b, v) == 0 {
+    if count_at(a, v) == 0 {
+        if count_at(b, v) == 0 {
             return SAME;
         }
         return BEFORE;
     }
-    if number_at(b, v) == 0 {
+    if count_at(b, v) == 0 {
         return AFTER;
     }
     compare(value_at(values, a, v), value_at(values, b, v))
@@ -97,7 +97,7 @@ pub fn compare_lines(a: &[u8], b: &[u8], values: &[u8]) -> usize {
 fn agrees(line: &[u8], assignment: &[u8], values: &[u8]) -> bool {
     let mut v = 0;
     while v < VARIABLES {
-        if number_at(line, v) != 0 {
+        if count_at(line, v) != 0 {
             if compare(value_at(values, line, v), value_at(values, assignment, v)) != SAME {
                 return false;
             }
@@ -132,7 +132,7 @@ fn entry_end(lines: &[u8], values: &[u8], pattern: &[u8], n: usize, before: usiz
     if NOT_LAID_OUT <= before {
         return NOT_LAID_OUT;
     }
-    if number_at(lines, n) == 0 {
+    if count_at(lines, n) == 0 {
         if first_at(lines, n) == 0 {
             return before;
         }
@@ -143,7 +143,7 @@ fn entry_end(lines: &[u8], values: &[u8], pattern: &[u8], n: usize, before: usiz
     }
     if occurs(pattern, n % VARIABLES) {
         if is_value(value_at(values, lines, n)) {
-            return before + number_at(lines, n) % TABLE_BYTES;
+            return before + count_at(lines, n) % TABLE_BYTES;
         }
         return NOT_LAID_OUT;
     }
@@ -167,7 +167,7 @@ pub fn is_open(line: &[u8], pattern: &[u8]) -> bool {
     let mut v = 0;
     while v < VARIABLES {
         if occurs(pattern, v) {
-            if number_at(line, v) == 0 {
+            if count_at(line, v) == 0 {
                 return true;
             }
         }

@@ -15,12 +15,12 @@ const OTHERS: u64 = 4294967294;
 // Sets of locals are kept below this bit, so that one more binder fits.
 const HIGHEST: u64 = 4611686018427387904;
 
-// What can be counted in a term: a variable by its number, which has 16 bits, or one of these.
-pub const BETA: usize = 65536;
+// What can be counted in a term: a variable by its number, which is below these as a record has three bytes for it, or one of these.
+pub const BETA: usize = 16777216;
 
-pub const ETA: usize = 65537;
+pub const ETA: usize = 16777217;
 
-pub const APPLIED: usize = 65538;
+pub const APPLIED: usize = 16777218;
 
 pub fn kind_at(s: &[u8], i: usize) -> u8 {
     if s.len() / RECORD <= i {
@@ -33,12 +33,16 @@ fn word(high: u8, low: u8) -> usize {
     high as usize * 256 + low as usize
 }
 
-// The number of a record, or the count of an entry.
+fn number_of(top: u8, high: u8, low: u8) -> usize {
+    top as usize * 65536 + high as usize * 256 + low as usize
+}
+
+// The number of a record: the three bytes behind its kind, of whatever kind it is.
 pub fn number_at(s: &[u8], i: usize) -> usize {
     if s.len() / RECORD <= i {
         return 0;
     }
-    word(s[RECORD * i + 2], s[RECORD * i + 3])
+    number_of(s[RECORD * i + 1], s[RECORD * i + 2], s[RECORD * i + 3])
 }
 
 // The first record of an entry.
@@ -47,6 +51,14 @@ pub fn first_at(s: &[u8], i: usize) -> usize {
         return 0;
     }
     word(s[RECORD * i], s[RECORD * i + 1])
+}
+
+// How many records an entry has.
+pub fn count_at(s: &[u8], i: usize) -> usize {
+    if s.len() / RECORD <= i {
+        return 0;
+    }
+    word(s[RECORD * i + 2], s[RECORD * i + 3])
 }
 
 // A set of locals, bit n for local n, under one more binder, whose local is in the set.

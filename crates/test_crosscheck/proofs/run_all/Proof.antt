@@ -7,10 +7,10 @@ use Rattle.test_crosscheck.proofs.run_all.Statement.{statement}
 use Rattle.test_crosscheck.proofs.run_all.Tie as tie
 
 abbrev Inv-loop : tie.InvT-loop
-Inv-loop cases entries values all₀ at₀ all at = Unit {0}
+Inv-loop cases entries values wide all₀ at₀ all at = Unit {0}
 
 abbrev μ-loop : tie.MeasureT-loop
-μ-loop cases entries values all₀ at₀ all at = length cases - at
+μ-loop cases entries values wide all₀ at₀ all at = length cases - at
 
 loop-holds : tie.Need-loop-holds Inv-loop μ-loop
 loop-holds c = search needs

@@ -18,8 +18,8 @@ loop-holds c = search needs
 occurs-requires : tie.Need-occurs-requires Inv-loop μ-loop
 occurs-requires c κs = search needs
 
-number-at-requires : tie.Need-number-at-requires Inv-loop μ-loop
-number-at-requires c κs = search needs
+count-at-requires : tie.Need-count-at-requires Inv-loop μ-loop
+count-at-requires c κs = search needs
 
 returns : tie.Need-returns Inv-loop μ-loop
 returns c = search needs
@@ -44,7 +44,7 @@ is-open-spec =
     μ-loop
     loop-holds
     occurs-requires
-    number-at-requires
+    count-at-requires
     returns
     add-v
     loop-less
