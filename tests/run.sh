@@ -5,6 +5,11 @@
 #   tests/run.sh [path of the static library] [number of calls] [other options of src/main.rs, such as seed=5]
 #
 # The library is target/staticlib/libexports.a unless given. A difference ends the run with status 1 and prints the call.
+#
+# Calls of the old form, in which constants have 16 bits, have to be answered as old_form.txt says. With the library as it was before constants had 24 bits
+# that file was made by
+#
+#   tests/run.sh LIBRARY 200000 old_form=tests/old_form.txt
 set -eu
 here=$(cd "$(dirname "$0")" && pwd)
 library=${1:-$here/../target/staticlib/libexports.a}
@@ -32,6 +37,6 @@ if [ "$status" -ge 124 ]; then
     # The library crashed or did not come back: make the calls again, keeping the last one.
     echo "DIFFERENCE: ended with status $status; the last call:"
     timeout --foreground 900 "$build/compare" calls="$calls" trace="$build/call" "$@" >/dev/null 2>&1 || true
-    if [ -f "$build/call" ]; then cat "$build/call"; else echo "one of the fixed calls (src/cases.rs, src/limits.rs, src/book/limits.rs)"; fi
+    if [ -f "$build/call" ]; then cat "$build/call"; else echo "one of the fixed calls (src/cases.rs, src/limits.rs, src/book/limits.rs, old_form.txt)"; fi
 fi
 exit "$status"

@@ -6,9 +6,9 @@
 //! - calls: random calls compared and counted, and what they must have come to
 
 pub mod calls;
-mod compare;
+pub mod compare;
 mod damage;
-mod generate;
+pub mod generate;
 pub mod limits;
 
 use crate::lister::{list_with_cut, Line};
@@ -18,30 +18,33 @@ use crate::tables::*;
 use crate::terms::{abstraction, application, Term, Term::*, VARIABLES};
 
 /// Of a record count: 16 bits, high byte first.
-const COUNT_BYTES: usize = 2;
-const SIDE_BYTES: usize = MOST_PATTERN_RECORDS * RECORD_BYTES;
+pub const COUNT_BYTES: usize = 2;
+pub const SIDE_BYTES: usize = MOST_PATTERN_RECORDS * RECORD_BYTES;
 /// The counts of left and right, then the records of left and right.
-const PLACE_BYTES: usize = 2 * COUNT_BYTES + 2 * SIDE_BYTES;
+pub const PLACE_BYTES: usize = 2 * COUNT_BYTES + 2 * SIDE_BYTES;
 const MOST_PLACES: usize = 64;
 /// What a variable that only the left side has and that line 0 leaves open is filled with: `k0`.
 const FILLING: Term = Constant(0);
 
+/// Stands in a refusal where the lister needs too many steps: no cause of the documents.
+pub const TOO_MANY_STEPS: &str = "too many steps";
+
 /// A call with all its tables, and what stands where the number of pairs is put.
 #[derive(Clone)]
-struct Call {
-    book: Vec<u8>,
-    recipe: Vec<u8>,
-    output: Vec<u8>,
-    work: Vec<u8>,
-    pairs: u64,
+pub struct Call {
+    pub book: Vec<u8>,
+    pub recipe: Vec<u8>,
+    pub output: Vec<u8>,
+    pub work: Vec<u8>,
+    pub pairs: u64,
 }
 
 /// What the caller sees afterwards, and how it came about. The book and the recipe always stay.
-struct Outcome {
+pub struct Outcome {
     /// The new recipe's number of records, or minus a refusal number.
-    answer: i64,
-    refusal: Option<Refusal>,
-    pairs: u64,
+    pub answer: i64,
+    pub refusal: Option<Refusal>,
+    pub pairs: u64,
     output: Vec<u8>,
     work: Vec<u8>,
     search: Search,
@@ -132,6 +135,11 @@ fn expected(call: &Call, list: &mut dyn FnMut(&Term, &Term) -> Result<Vec<Line>,
         }
     }
     outcome
+}
+
+/// The same; refusal 9 stands for a pair that the lister needs more than `most_steps` for.
+pub fn expected_within(call: &Call, most_steps: usize) -> Outcome {
+    expected(call, &mut |left, part| list_pair(left, part, most_steps).unwrap_or_else(|| refuse(9, "lines", TOO_MANY_STEPS)))
 }
 
 /// The new recipe, or the recipe itself if no pair is used; every refusal, in its order.

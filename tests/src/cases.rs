@@ -7,7 +7,7 @@ use crate::tables::*;
 use crate::terms::Term;
 
 /// Pattern, recipe, and for each line its assigned entries.
-type ListCase = (&'static str, &'static str, &'static [&'static [(usize, &'static str)]]);
+pub type ListCase = (&'static str, &'static str, &'static [&'static [(usize, &'static str)]]);
 
 const LISTS: &[ListCase] = &[
     (r"@ p0 p1", "k0", &[&[(0, r"\ #0"), (1, "k0")], &[(0, r"\ k0")]]),
@@ -27,23 +27,7 @@ const SWEEPS: &[(&str, &str)] = &[(r"@ @ \ #0 \ #0 @ \ #0 \ #0", r"\ #0"), (r"@ 
 
 /// How many calls were compared.
 pub fn run() -> Result<usize, String> {
-    for (pattern, recipe, lines) in LISTS {
-        let mut listing: Vec<Line> = Vec::new();
-        for entries in *lines {
-            let mut line = Line::default();
-            for (variable, value) in *entries {
-                line[*variable] = Some(Term::from_text(value));
-            }
-            listing.push(line);
-        }
-        let (line_bytes, value_bytes) = lay_out(&listing);
-        let call = Call { lines: vec![9; MOST_TABLE_BYTES], values: vec![9; MOST_TABLE_BYTES], ..call(Operation::List, pattern, recipe) };
-        let outcome = expected(&call, usize::MAX).expect("no step limit");
-        assert_eq!(outcome.answer, listing.len() as i64, "{pattern} against {recipe}");
-        assert_eq!(outcome.lines[..line_bytes.len()], line_bytes, "{pattern} against {recipe}");
-        assert_eq!(outcome.values[..value_bytes.len()], value_bytes, "{pattern} against {recipe}");
-        compare(&call, &outcome, 0).map_err(|difference| difference + "\n" + &describe(&call))?;
-    }
+    LISTS.iter().try_for_each(compare_listing)?;
 
     // Case 8: check says no.
     let mut line = Line::default();
@@ -64,6 +48,25 @@ pub fn run() -> Result<usize, String> {
         compare(&call, &outcome, 0).map_err(|difference| difference + "\n" + &describe(&call))?;
     }
     Ok(LISTS.len() + 1 + SWEEPS.len())
+}
+
+/// A listing with full tables, in the order of the lines.
+pub fn compare_listing((pattern, recipe, lines): &ListCase) -> Result<(), String> {
+    let mut listing: Vec<Line> = Vec::new();
+    for entries in *lines {
+        let mut line = Line::default();
+        for (variable, value) in *entries {
+            line[*variable] = Some(Term::from_text(value));
+        }
+        listing.push(line);
+    }
+    let (line_bytes, value_bytes) = lay_out(&listing);
+    let call = Call { lines: vec![9; MOST_TABLE_BYTES], values: vec![9; MOST_TABLE_BYTES], ..call(Operation::List, pattern, recipe) };
+    let outcome = expected(&call, usize::MAX).expect("no step limit");
+    assert_eq!(outcome.answer, listing.len() as i64, "{pattern} against {recipe}");
+    assert_eq!(outcome.lines[..line_bytes.len()], line_bytes, "{pattern} against {recipe}");
+    assert_eq!(outcome.values[..value_bytes.len()], value_bytes, "{pattern} against {recipe}");
+    compare(&call, &outcome, 0).map_err(|difference| difference + "\n" + &describe(&call))
 }
 
 fn call(operation: Operation, pattern: &str, recipe: &str) -> Call {

@@ -57,6 +57,12 @@ impl Lent {
     }
 }
 
+/// FNV-1a of 64 bits over the bytes of these tables, one table behind the other.
+pub fn digest(tables: &[&Lent]) -> u64 {
+    let bytes = tables.iter().flat_map(|lent| lent.table());
+    bytes.fold(0xCBF2_9CE4_8422_2325, |digest, byte| (digest ^ u64::from(*byte)).wrapping_mul(0x0000_0100_0000_01B3))
+}
+
 /// The tables of a call, each between its guards.
 struct Tables {
     pattern: Lent,
@@ -115,6 +121,12 @@ pub fn compare(call: &Call, outcome: &Outcome, shift: usize) -> Result<(), Strin
     }
     differences.extend(tables.differences(call, outcome));
     no_difference(differences)
+}
+
+/// The library's answer, and the digest of all tables as they are then.
+pub fn answer_and_digest(call: &Call, shift: usize) -> (i64, u64) {
+    let (answer, Tables { pattern, right, recipe, lines, values, output, work }) = make(call, shift);
+    (answer, digest(&[&pattern, &right, &recipe, &lines, &values, &output, &work]))
 }
 
 pub fn no_difference(differences: Vec<String>) -> Result<(), String> {

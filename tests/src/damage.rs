@@ -1,9 +1,33 @@
 //! Damage to a call, for every refusal number: lengths, records, shapes, entries and values. Several damages together test the order of the refusals.
+//! A constant in the place of another damages nothing, and is here too.
 
 use crate::operations::{Call, Operation};
+use crate::palette::near;
 use crate::random::Random;
 use crate::tables::*;
 use crate::terms::VARIABLES;
+
+/// Puts a constant that differs in one byte in the place of another. A call that was sound stays so, but what was a match may be none.
+pub fn confuse(random: &mut Random, call: &mut Call) {
+    let table = match random.below(4) {
+        0 => &mut call.pattern,
+        1 => &mut call.recipe,
+        2 if call.operation == Operation::Rewrite => &mut call.right,
+        _ if call.operation == Operation::List => &mut call.recipe,
+        _ => &mut call.values,
+    };
+    if let Some(at) = record_of_kind(random, table, CONSTANT) {
+        let other = near(random, constant_at(&table[at..]), CONSTANT_BITS);
+        table[at + 1..at + RECORD_BYTES].copy_from_slice(&other.to_be_bytes()[1..]);
+    }
+}
+
+/// Where one of the records of this kind stands, if there is one.
+fn record_of_kind(random: &mut Random, table: &[u8], kind: u8) -> Option<usize> {
+    let records = (0..table.len() / RECORD_BYTES).map(|record| record * RECORD_BYTES);
+    let places: Vec<usize> = records.filter(|at| table[*at] == kind).collect();
+    (!places.is_empty()).then(|| random.pick(&places))
+}
 
 /// Damages one of the tables.
 pub fn damage(random: &mut Random, call: &mut Call) {
@@ -61,18 +85,25 @@ fn damage_record(random: &mut Random, table: &mut [u8]) {
     if records == 0 {
         return;
     }
-    let at = random.below(records) * RECORD_BYTES;
-    let record = &mut table[at..at + RECORD_BYTES];
-    match random.below(10) {
+    let any = random.below(records) * RECORD_BYTES;
+    if random.chance(25) {
+        // The second byte, which is part of a constant's number and has to be zero in all other kinds; of each kind equally often.
+        let kind = random.below(5) as u8;
+        let at = record_of_kind(random, table, kind).unwrap_or(any);
+        table[at] = kind;
+        table[at + 1] = if random.chance(50) { 1 } else { random.between(1, 255) as u8 };
+        return;
+    }
+    let record = &mut table[any..any + RECORD_BYTES];
+    match random.below(9) {
         0 => record[0] = random.below(5) as u8,
         1 => record[0] = random.between(5, 255) as u8,
-        2 => record[1] = random.between(1, 255) as u8,
-        3 => record[2] = random.between(1, 255) as u8,
-        4 => record[3] = random.pick(&[1, VARIABLES - 1, VARIABLES, VARIABLES + 1, 255]) as u8,
-        5 => record[3] = record[3].wrapping_add(1),
-        6 => record.copy_from_slice(&[2, 0, 0, random.below(6) as u8]),
-        7 => record.copy_from_slice(&[4, 0, 0, random.below(VARIABLES + 2) as u8]),
-        8 => record.copy_from_slice(&[2, 0, 255, 255]),
+        2 => record[2] = random.between(1, 255) as u8,
+        3 => record[3] = random.pick(&[1, VARIABLES - 1, VARIABLES, VARIABLES + 1, 255]) as u8,
+        4 => record[3] = record[3].wrapping_add(1),
+        5 => record.copy_from_slice(&[2, 0, 0, random.below(6) as u8]),
+        6 => record.copy_from_slice(&[4, 0, 0, random.below(VARIABLES + 2) as u8]),
+        7 => record.copy_from_slice(&[2, 0, 255, 255]),
         _ => record[random.below(RECORD_BYTES)] ^= 1 << random.below(8),
     }
 }

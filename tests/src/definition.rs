@@ -3,7 +3,7 @@
 
 use crate::lister::Line;
 use crate::sweep::sweep;
-use crate::tables::{encode, sort_lines};
+use crate::tables::{constant_at, encode, sort_lines, CONSTANT, RECORD_BYTES};
 use crate::terms::{abstraction, application, Term, Term::*, VARIABLES};
 
 /// The definition has no limit on swept forms; this one is far above what these patterns and values reach.
@@ -64,11 +64,11 @@ pub fn check(pattern: &Term, recipe: &Term, lines: &[Line], most_tries: usize) -
 }
 
 /// The first two constants of the recipe.
-fn constants(recipe: &Term) -> Vec<u16> {
+fn constants(recipe: &Term) -> Vec<u32> {
     let mut found = Vec::new();
-    for record in encode(recipe).chunks(4) {
-        let number = u16::from_be_bytes([record[2], record[3]]);
-        if record[0] == 3 && !found.contains(&number) && found.len() < 2 {
+    for record in encode(recipe).chunks(RECORD_BYTES) {
+        let number = constant_at(record);
+        if record[0] == CONSTANT && !found.contains(&number) && found.len() < 2 {
             found.push(number);
         }
     }
@@ -79,7 +79,7 @@ fn constants(recipe: &Term) -> Vec<u16> {
 }
 
 /// All values up to the largest number of records for which the assignments of `variables` variables are at most `most_tries`.
-fn small_values(constants: &[u16], variables: usize, most_tries: usize) -> Vec<Term> {
+fn small_values(constants: &[u32], variables: usize, most_tries: usize) -> Vec<Term> {
     let mut values = Vec::new();
     for size in 1..=6 {
         let mut more = values.clone();
@@ -93,7 +93,7 @@ fn small_values(constants: &[u16], variables: usize, most_tries: usize) -> Vec<T
     values
 }
 
-fn terms_of_size(size: usize, depth: usize, constants: &[u16]) -> Vec<Term> {
+fn terms_of_size(size: usize, depth: usize, constants: &[u32]) -> Vec<Term> {
     if size == 1 {
         let locals = (0..depth).map(Local);
         return locals.chain(constants.iter().map(|number| Constant(*number))).collect();

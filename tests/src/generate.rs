@@ -1,19 +1,14 @@
 //! Random calls: sound ones of several sorts, some of them then damaged.
 
-use crate::damage::damage;
+use crate::damage::{confuse, damage};
 use crate::lister::{self, Line};
 use crate::operations::{sweep_until_normal, Call, Operation};
+use crate::palette::{constant, palette, Palette};
 use crate::random::Random;
 use crate::sweep::{sweep, MOST_SWEEPS, MOST_SWEPT_RECORDS};
 use crate::tables::*;
 use crate::terms::{abstraction, application, Term, Term::*, VARIABLES};
 use std::iter::successors;
-
-/// The constants and variables that one call draws from: few, so that equal ones are common.
-pub struct Palette {
-    pub constants: Vec<u16>,
-    pub variables: Vec<usize>,
-}
 
 pub fn call(random: &mut Random, most_steps: usize) -> Call {
     let operation = match random.below(100) {
@@ -26,6 +21,9 @@ pub fn call(random: &mut Random, most_steps: usize) -> Call {
         Operation::List => list_call(random, most_steps),
         _ => assignment_call(random, operation),
     };
+    if random.chance(10) {
+        confuse(random, &mut call);
+    }
     if random.chance(if operation == Operation::List { 30 } else { 40 }) {
         damage(random, &mut call);
         while random.chance(25) {
@@ -35,29 +33,7 @@ pub fn call(random: &mut Random, most_steps: usize) -> Call {
     call
 }
 
-// Palettes and terms of a given size.
-
-pub fn palette(random: &mut Random) -> Palette {
-    let mut constants = match random.below(8) {
-        0 => vec![0, 255, 256, 65_535],
-        1 => vec![random.below(65_536) as u16, random.below(65_536) as u16],
-        2 => vec![1],
-        _ => vec![0, 1, 2],
-    };
-    if random.chance(50) {
-        constants.truncate(2);
-    }
-    let count = random.pick(&[1, 1, 2, 2, 2, 3, 3, 4, VARIABLES]);
-    let mut variables: Vec<usize> = (0..VARIABLES).collect();
-    while variables.len() > count {
-        variables.remove(random.below(variables.len()));
-    }
-    Palette { constants, variables }
-}
-
-pub fn constant(random: &mut Random, palette: &Palette) -> Term {
-    Constant(random.pick(&palette.constants))
-}
+// Terms of a given size.
 
 fn leaf(random: &mut Random, depth: usize, palette: &Palette, variables: bool) -> Term {
     if depth > 0 && random.chance(45) {
@@ -231,7 +207,7 @@ fn list_call(random: &mut Random, most_steps: usize) -> Call {
         }
         // A long recipe of different constants and a pattern of a few records.
         75..=82 => {
-            palette.constants = (0..40).map(|_| random.below(65_536) as u16).collect();
+            palette = palette.varied(random);
             let size = random.between(20, 97);
             let recipe = normal_term(random, size, 0, false, &palette);
             (small_shape(random, &recipe, &palette), recipe)

@@ -1,5 +1,7 @@
 //! Calls at the limits of documents 01 and 02: as long as a table may be, and one longer; the most lines; the longest target and the longest value; the
-//! most sweeps, and the longest swept form of each.
+//! most sweeps, and the longest swept form of each; and constants of 24 bits.
+
+mod constants;
 
 use crate::compare::{compare, describe};
 use crate::lister::Line;
@@ -64,14 +66,15 @@ pub fn run() -> Result<usize, String> {
         (with_output(0, rewrite("@ p0 p1", &doubling(2))), -12),
         (with_output(0, rewrite("@ p0 p1", &chains(33, 32))), -15),
     ];
-    let count = calls.len();
-    for (call, answer) in calls {
-        let outcome = expected(&call, usize::MAX).expect("no step limit");
-        assert_eq!(outcome.answer, answer, "{}", describe(&call));
-        compare(&call, &outcome, 0).map_err(|difference| difference + "\n" + &describe(&call))?;
-    }
+    calls.iter().try_for_each(compare_answer)?;
     longest_value()?;
-    Ok(count + 1)
+    Ok(calls.len() + 1 + constants::run()?)
+}
+
+fn compare_answer((call, answer): &(Call, i64)) -> Result<(), String> {
+    let outcome = expected(call, usize::MAX).expect("no step limit");
+    assert_eq!(outcome.answer, *answer, "{}", describe(call));
+    compare(call, &outcome, 0).map_err(|difference| difference + "\n" + &describe(call))
 }
 
 /// The longest value in a line, 126 records: ten abstractions over p0 applied to their locals in turn, against 96 records. The plain lister would take

@@ -5,14 +5,18 @@
 //! - tables, operations: bytes and their validity, and list, check, sweep and rewrite with the refusals in the documents' order
 //! - book: the book of rules, with its own calls
 //! - library, compare: the C interface, and one call of it compared
-//! - random, generate, damage: random numbers, random calls, and damage to them
+//! - random, palette, generate, damage: random numbers, the constants and variables of a call, random calls, and damage to them
+//! - large: which random calls have constants above 65,535, and what hangs on their top byte
 //! - cases, limits: fixed calls, the cases 1 to 11 of document 01 and the limits
+//! - old_form: calls of the old form, in which constants have 16 bits, and the answers that they got before constants had 24
 //! - definition: listings set against the definition of a full listing, by enumerating small values: one in four of those compared, and those that the
 //!   plain lister is too slow for
 //!
 //! Options: calls=N, books=N (calls of the book; unless given, one for eight of the others), seed=N, steps=N (the limit of the plain lister: of a call that
 //! needs more the library's own listing is set against the definition, and the call isn't counted as compared), only=N, book=N (the one call of that number,
-//! described, of the four operations or of the book), trace=FILE (writes each call to the file before it is made: after a crash the file holds the call).
+//! described, of the four operations or of the book), trace=FILE (writes each call to the file before it is made: after a crash the file holds the call),
+//! old_form=FILE (does nothing but write the file of calls of the old form, with the answers of this library: it was made so with the library as it was
+//! before constants had 24 bits).
 #![deny(unsafe_code)]
 
 mod book;
@@ -21,12 +25,15 @@ mod compare;
 mod damage;
 mod definition;
 mod generate;
+mod large;
 #[allow(unsafe_code)]
 #[rustfmt::skip]
 mod library;
 mod limits;
 mod lister;
+mod old_form;
 mod operations;
+mod palette;
 mod random;
 mod sweep;
 mod tables;
@@ -52,6 +59,7 @@ struct Options {
     only: Option<u64>,
     book: Option<u64>,
     trace: Option<String>,
+    old_form: Option<String>,
 }
 
 impl Options {
@@ -69,7 +77,7 @@ impl Options {
 }
 
 fn options() -> Options {
-    let mut options = Options { calls: 200_000, books: None, seed: 20_010_412, steps: 20_000, only: None, book: None, trace: None };
+    let mut options = Options { calls: 200_000, books: None, seed: 20_010_412, steps: 20_000, only: None, book: None, trace: None, old_form: None };
     for argument in std::env::args().skip(1) {
         let (name, value) = argument.split_once('=').unwrap_or_else(|| panic!("not name=value: {argument}"));
         let number = || value.parse::<u64>().unwrap_or_else(|_| panic!("no number: {argument}"));
@@ -81,6 +89,7 @@ fn options() -> Options {
             "only" => options.only = Some(number()),
             "book" => options.book = Some(number()),
             "trace" => options.trace = Some(value.to_string()),
+            "old_form" => options.old_form = Some(value.to_string()),
             _ => panic!("no such option: {argument}"),
         }
     }
@@ -111,6 +120,8 @@ struct Counts {
     refusals: BTreeMap<u8, Calls>,
     /// By refusal number, table and cause.
     causes: BTreeMap<(u8, &'static str, &'static str), Calls>,
+    /// Of constants above 65,535.
+    large: large::Large,
     listings_by_definition: u64,
     tries_by_definition: usize,
     most_lines: i64,
@@ -120,6 +131,9 @@ struct Counts {
 fn main() {
     let options = options();
     let mut counts = Counts::default();
+    if let Some(file) = &options.old_form {
+        return old_form::draw::write(file, options.seed, options.steps);
+    }
     match cases::run() {
         Ok(calls) => println!("cases 1 to 11 of document 01: {calls} calls, all equal"),
         Err(difference) => fail("in the cases of document 01", &difference),
@@ -131,6 +145,10 @@ fn main() {
     match book::limits::run() {
         Ok(calls) => println!("calls of the book at its limits: {calls}, all equal"),
         Err(difference) => fail("in the calls of the book at its limits", &difference),
+    }
+    match old_form::run() {
+        Ok(calls) => println!("{calls} calls of the old form answered as before"),
+        Err(difference) => fail("in the calls of the old form", &difference),
     }
     if options.book.is_some() || options.trace.is_some() {
         book::calls::run(&options);
@@ -181,6 +199,7 @@ fn compare_calls(options: &Options, counts: &mut Counts) -> u64 {
                     fail(&place, &format!("not a full listing: {wrong}\n{}", compare::describe(&call)));
                 }
                 count(&call, &outcome, counts);
+                counts.large.count(&call, &outcome, options.steps);
                 compared += 1;
             }
         }
@@ -294,6 +313,10 @@ fn report(counts: &Counts) {
             row(&format!("    {table}: {cause}"), calls);
         }
     }
+    println!("constants above 65535 in");
+    for (label, calls) in counts.large.rows() {
+        row(&label, calls);
+    }
     println!(
         "skipped by the step limit of the plain lister: {}; of these {} listings set against the definition, with {} assignments, and {} refused",
         counts.skipped, counts.skipped_listings, counts.skipped_tries, counts.skipped_refusals
@@ -305,7 +328,8 @@ fn report(counts: &Counts) {
     );
 }
 
-/// In a long run every refusal number of every operation must have come up, and rewrites of every row of `SWEEPS`, and 12 on a later sweep than the first.
+/// In a long run every refusal number of every operation must have come up, and rewrites of every row of `SWEEPS`, 12 on a later sweep than the first, the
+/// second byte of every kind in every table, and constants above 65,535 in every table of answered calls.
 fn check_coverage(compared: u64, counts: &Counts) {
     if compared < 100_000 {
         return;
@@ -330,5 +354,15 @@ fn check_coverage(compared: u64, counts: &Counts) {
     }
     if !counts.causes.contains_key(&(12, "right", operations::LATER_SWEEP)) {
         fail("in the coverage", "no Rewrite was refused with 12 on a later sweep than the first");
+    }
+    for (number, table) in [(2, "pattern"), (2, "right"), (5, "recipe"), (11, "value")] {
+        for (_, cause) in tables::SECOND_BYTE {
+            if !counts.causes.contains_key(&(number, table, cause)) {
+                fail("in the coverage", &format!("no call was refused with {number} for its {table}: {cause}"));
+            }
+        }
+    }
+    if let Some(missing) = counts.large.missing() {
+        fail("in the coverage", &missing);
     }
 }

@@ -32,6 +32,14 @@ pub struct Call {
     pub work: Vec<u8>,
 }
 
+impl Call {
+    /// Whether a record of the pattern or of the right side is this variable.
+    pub fn has_variable(&self, variable: usize) -> bool {
+        let sides = [&self.pattern, &self.right];
+        sides.iter().any(|side| side.chunks(RECORD_BYTES).any(|record| record == [4, 0, 0, variable as u8]))
+    }
+}
+
 /// What the caller sees afterwards. The pattern, the right side and the recipe always stay.
 pub struct Outcome {
     /// A count, 1 or 0 for yes or no, or minus a refusal number.

@@ -11,6 +11,12 @@ pub const MOST_TABLE_BYTES: usize = 65_536;
 pub const MOST_PATTERN_RECORDS: usize = 32;
 pub const MOST_RECIPE_RECORDS: usize = 96;
 pub const MOST_VALUE_RECORDS: usize = 160;
+/// The kind of a constant's record: the one whose number has 24 bits, with the top eight in the second byte.
+pub const CONSTANT: u8 = 3;
+pub const CONSTANT_BITS: u32 = 24;
+/// The kinds in which the second byte has to be zero, each with the cause of the refusal if it isn't.
+pub const SECOND_BYTE: [(u8, &str); 4] =
+    [(0, "second byte, kind 0"), (1, "second byte, kind 1"), (2, "second byte, kind 2"), (4, "second byte, kind 4")];
 
 /// A refusal number, and for the counts at the end: which table it was and what was wrong with it.
 #[derive(Clone, Copy, PartialEq, Eq, PartialOrd, Ord, Debug)]
@@ -32,9 +38,10 @@ pub fn encode(term: &Term) -> Vec<u8> {
 }
 
 fn encode_into(term: &Term, bytes: &mut Vec<u8>) {
-    let mut record = |kind: u8, number: usize| {
-        let [high, low] = (number as u16).to_be_bytes();
-        bytes.extend_from_slice(&[kind, 0, high, low]);
+    let mut record = |kind: u8, number: u32| {
+        let [over, top, high, low] = number.to_be_bytes();
+        assert!(over == 0 && (top == 0 || kind == CONSTANT), "a number of kind {kind} is too large: {number}");
+        bytes.extend_from_slice(&[kind, top, high, low]);
     };
     match term {
         Application(head, argument) => {
@@ -46,9 +53,9 @@ fn encode_into(term: &Term, bytes: &mut Vec<u8>) {
             record(1, 0);
             encode_into(body, bytes);
         }
-        Local(n) => record(2, *n),
-        Constant(n) => record(3, *n as usize),
-        Variable(n) => record(4, *n),
+        Local(n) => record(2, *n as u32),
+        Constant(n) => record(CONSTANT, *n),
+        Variable(n) => record(4, *n as u32),
     }
 }
 
@@ -108,8 +115,9 @@ fn read_term(bytes: &[u8], most_records: usize, variables: bool, numbers: &Numbe
         if record[0] > 4 {
             return refuse(numbers.record, table, "kind above 4");
         }
-        if record[1] != 0 {
-            return refuse(numbers.record, table, "second byte");
+        let second_byte = SECOND_BYTE.iter().find(|(kind, _)| *kind == record[0] && record[1] != 0);
+        if let Some((_, cause)) = second_byte {
+            return refuse(numbers.record, table, cause);
         }
         if record[0] <= 1 && number != 0 {
             return refuse(numbers.record, table, "number not 0");
@@ -149,9 +157,14 @@ fn read_tree(rest: &mut &[u8]) -> Option<Term> {
         }
         1 => abstraction(read_tree(rest)?),
         2 => Local(number),
-        3 => Constant(number as u16),
+        CONSTANT => Constant(constant_at(record)),
         _ => Variable(number),
     })
+}
+
+/// The number of a constant's record: 24 bits, the top byte first.
+pub fn constant_at(record: &[u8]) -> u32 {
+    u32::from_be_bytes([0, record[1], record[2], record[3]])
 }
 
 /// A 16-bit number, high byte first.

@@ -11,7 +11,8 @@ pub enum Term {
     Abstraction(Rc<Term>),
     /// The number of abstractions between it and its binder.
     Local(usize),
-    Constant(u16),
+    /// Of 24 bits.
+    Constant(u32),
     Variable(usize),
 }
 
@@ -188,7 +189,7 @@ impl Term {
             }
             b'\\' => abstraction(Term::from_words(words)),
             b'#' => Local(number()),
-            b'k' => Constant(number() as u16),
+            b'k' => Constant(number().try_into().expect("a constant of 24 bits")),
             b'p' => Variable(number()),
             _ => panic!("no such kind: {word}"),
         }

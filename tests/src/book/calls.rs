@@ -4,6 +4,7 @@ use super::compare::{compare, describe};
 use super::*;
 use crate::compare::library_listing;
 use crate::definition;
+use crate::large::{cut_constants, has_large};
 use crate::operations::{self, Operation};
 use crate::random::Random;
 use crate::{fail, Options, MOST_TRIES};
@@ -12,7 +13,7 @@ use std::collections::BTreeMap;
 /// Keeps the random numbers of these calls apart from those of the other operations.
 const SEED: u64 = 0x0B00_C0FF_1CED_2026;
 /// The lister may take so many times the steps of a listing for one pair: few pairs take many.
-const STEPS: usize = 10;
+pub const STEPS: usize = 10;
 /// A run of so many calls, or more, must have met every event and every cause.
 const LONG_RUN: u64 = 20_000;
 
@@ -23,11 +24,17 @@ const CAUSES: &[(u8, &str, &str)] = &[
     (1, "right", "empty"),
     (1, "right", "count above 32"),
     (2, "left", "kind above 4"),
-    (2, "left", "second byte"),
+    (2, "left", "second byte, kind 0"),
+    (2, "left", "second byte, kind 1"),
+    (2, "left", "second byte, kind 2"),
+    (2, "left", "second byte, kind 4"),
     (2, "left", "number not 0"),
     (2, "left", "variable too high"),
     (2, "right", "kind above 4"),
-    (2, "right", "second byte"),
+    (2, "right", "second byte, kind 0"),
+    (2, "right", "second byte, kind 1"),
+    (2, "right", "second byte, kind 2"),
+    (2, "right", "second byte, kind 4"),
     (2, "right", "number not 0"),
     (2, "right", "variable too high"),
     (3, "left", "ends early"),
@@ -40,7 +47,10 @@ const CAUSES: &[(u8, &str, &str)] = &[
     (4, "recipe", "no multiple of 4"),
     (4, "recipe", "too long"),
     (5, "recipe", "kind above 4"),
-    (5, "recipe", "second byte"),
+    (5, "recipe", "second byte, kind 0"),
+    (5, "recipe", "second byte, kind 1"),
+    (5, "recipe", "second byte, kind 2"),
+    (5, "recipe", "second byte, kind 4"),
     (5, "recipe", "number not 0"),
     (5, "recipe", "variable"),
     (6, "recipe", "ends early"),
@@ -109,7 +119,7 @@ pub fn run(options: &Options) {
         }
         counts.slow_pairs += slow_pairs;
         counts.slow_calls += u64::from(slow_pairs > 0);
-        count(&call, &outcome, &mut counts);
+        count(&call, &outcome, steps, &mut counts);
         if options.book.is_some() {
             println!("call {number} of the book\n{}answer {}, pairs {}", describe(&call), outcome.answer, outcome.pairs);
             return;
@@ -141,14 +151,14 @@ fn list_by_library(left: &Term, part: &Term, shift: usize) -> Result<Result<Vec<
     })
 }
 
-fn count(call: &Call, outcome: &Outcome, counts: &mut Counts) {
+fn count(call: &Call, outcome: &Outcome, steps: usize, counts: &mut Counts) {
     counts.calls += 1;
     counts.pairs += outcome.search.pairs;
     match outcome.refusal {
         Some(Refusal { number, table, cause }) => *counts.causes.entry((number, table, cause)).or_default() += 1,
         None => counts.answered += 1,
     }
-    for (at, (event, happened)) in events(call, outcome).into_iter().enumerate() {
+    for (at, (event, happened)) in events(call, outcome).into_iter().chain(large_events(call, outcome, steps)).enumerate() {
         if at == counts.events.len() {
             counts.events.push((event, 0));
         }
@@ -208,6 +218,37 @@ fn events(call: &Call, outcome: &Outcome) -> Vec<(&'static str, bool)> {
             number == 12 && refused.is_some_and(|used| used.is_filled && used.right_sweeps.is_none()),
         ),
     ]
+}
+
+/// The same, of constants above 65,535.
+fn large_events(call: &Call, outcome: &Outcome, steps: usize) -> [(&'static str, bool); 6] {
+    let is_answered = outcome.refusal.is_none();
+    let used = outcome.search.used.as_ref().filter(|_| is_answered);
+    let rule = used.map(|used| read_rule(&call.book[used.rule * PLACE_BYTES..][..PLACE_BYTES]).expect("it was valid"));
+    let in_side = |side: fn(Rule) -> Term| rule.clone().is_some_and(|rule| has_large(&encode(&side(rule))));
+    let in_recipe = is_answered && has_large(&call.recipe);
+    let in_output = is_answered && has_large(&outcome.output[..outcome.answer as usize * RECORD_BYTES]);
+    [
+        ("no pair is used, constants above 65535 in the recipe", used.is_none() && in_recipe),
+        ("a pair is used, constants above 65535 in the recipe", used.is_some() && in_recipe),
+        ("    in the left side", in_side(|rule| rule.left)),
+        ("    in the right side", in_side(|rule| rule.right)),
+        ("    in the new recipe", used.is_some() && in_output),
+        ("the answer or the pairs hang on top bytes", is_answered && hangs_on_top_bytes(call, outcome, steps)),
+    ]
+}
+
+/// Whether the answer or the pairs would be others if the top bytes of constants were zero. Not if that would take the lister too long.
+fn hangs_on_top_bytes(call: &Call, outcome: &Outcome, steps: usize) -> bool {
+    let mut cut = call.clone();
+    cut_constants(&mut cut.book);
+    cut_constants(&mut cut.recipe);
+    if (&cut.book, &cut.recipe) == (&call.book, &call.recipe) {
+        return false;
+    }
+    let other = expected_within(&cut, steps);
+    let is_too_slow = other.refusal.is_some_and(|refusal| refusal.cause == TOO_MANY_STEPS);
+    !is_too_slow && (other.answer, other.pairs) != (outcome.answer, outcome.pairs)
 }
 
 fn report(counts: &Counts) {

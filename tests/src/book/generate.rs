@@ -4,6 +4,7 @@ use super::damage::damage;
 use super::*;
 use crate::generate::*;
 use crate::limits::abstractions;
+use crate::palette::{constant, near, palette, Palette};
 use crate::random::Random;
 
 /// Rules in book order, and a recipe.
@@ -16,13 +17,13 @@ pub fn call(random: &mut Random, most_steps: usize) -> Call {
     let palette = palette(random);
     let Problem { mut rules, recipe } = match random.below(100) {
         0..=31 => any_rules(random, &palette),
-        32..=45 => long_recipe(random),
+        32..=45 => long_recipe(random, &palette),
         46..=65 => applied_form(random, &palette),
         66..=76 => slow_right_side(random, &palette),
-        77..=97 => near_limit(random),
+        77..=97 => near_limit(random, &palette),
         _ => long_listing(random, &palette),
     };
-    add_idle_rules(random, &mut rules, &recipe);
+    add_idle_rules(random, &mut rules, &recipe, &palette);
     let book = rules.iter().flat_map(|rule| place(rule, |length| behind_count(random, length))).collect();
     // Now and then a recipe that isn't normal.
     let recipe = if random.chance(2) {
@@ -52,13 +53,12 @@ pub fn call(random: &mut Random, most_steps: usize) -> Call {
 
 /// What the book gives; nothing if it refuses the call, or if the lister needs more than `most_steps` for a pair.
 fn written(call: &Call, most_steps: usize) -> Option<Term> {
-    let mut list = |left: &Term, part: &Term| list_pair(left, part, most_steps).unwrap_or_else(|| refuse(9, "lines", "too many steps"));
-    let Outcome { answer, output, .. } = expected(call, &mut list);
+    let Outcome { answer, output, .. } = expected_within(call, most_steps);
     read_recipe(&output[..answer.max(0) as usize * RECORD_BYTES]).ok()
 }
 
 /// The place of a rule, with bytes behind the counted records of each side.
-pub fn place(rule: &Rule, mut behind: impl FnMut(usize) -> Vec<u8>) -> Vec<u8> {
+pub(super) fn place(rule: &Rule, mut behind: impl FnMut(usize) -> Vec<u8>) -> Vec<u8> {
     let sides = [&rule.left, &rule.right];
     let mut place = sides.map(|side| (side.size() as u16).to_be_bytes()).concat();
     for side in sides {
@@ -80,9 +80,12 @@ fn behind_count(random: &mut Random, length: usize) -> Vec<u8> {
     }
 }
 
-/// Different constants that no palette has on purpose; their two bytes are nearly those of others.
-fn names<const COUNT: usize>(random: &mut Random) -> [Term; COUNT] {
+/// Different constants that no palette has on purpose, of its bits; their bytes are nearly those of others.
+fn names<const COUNT: usize>(random: &mut Random, palette: &Palette) -> [Term; COUNT] {
     let mut numbers = vec![3, 7, 254, 257, 258, 511, 512, 4_096, 32_768, 65_279, 65_534];
+    if palette.bits() == CONSTANT_BITS {
+        numbers.extend([0x01_0003, 0x02_0003, 0x03_0000, 0x01_0007, 0x07_0000, 0x01_0102, 0x02_0101, 0x7F_FFFF, 0xFE_FFFF, 0xFF_00FF, 0xFF_FEFF]);
+    }
     std::array::from_fn(|_| Constant(numbers.swap_remove(random.below(numbers.len()))))
 }
 
@@ -108,7 +111,7 @@ fn some_closed_part(random: &mut Random, recipe: &Term) -> Term {
 // Small rules of all shapes.
 
 fn any_rules(random: &mut Random, palette: &Palette) -> Problem {
-    let varied = varied_palette(random);
+    let varied = varied_palette(random, palette);
     let (size, palette) = if random.chance(10) { (random.between(15, 40), &varied) } else { (random.between(1, 14), palette) };
     let recipe = normal_term(random, size, 0, false, palette);
     let count = random.pick(&[1, 1, 2, 2, 3, 3, 4, 6]);
@@ -124,7 +127,7 @@ fn any_rule(random: &mut Random, recipe: &Term, palette: &Palette) -> Rule {
         6..=7 => pattern(random, 6, palette),
         8 => some_constant(random, recipe),
         _ => {
-            let [absent] = names(random);
+            let [absent] = names(random, palette);
             application(absent, Variable(random.pick(&palette.variables)))
         }
     };
@@ -177,8 +180,9 @@ fn right_side(random: &mut Random, left: &Term, palette: &Palette) -> Term {
     }
 }
 
-/// Puts in rules that mostly aren't used: with a head that no part has; with a variable on the right that the left lacks, or that line 0 leaves open.
-fn add_idle_rules(random: &mut Random, rules: &mut Vec<Rule>, recipe: &Term) {
+/// Puts in rules that mostly aren't used: with a head that no part has, but perhaps one that is nearly it; with a variable on the right that the left lacks,
+/// or that line 0 leaves open.
+fn add_idle_rules(random: &mut Random, rules: &mut Vec<Rule>, recipe: &Term, palette: &Palette) {
     let count = match random.below(100) {
         0..=59 => 0,
         60..=95 => random.between(1, 4),
@@ -186,14 +190,15 @@ fn add_idle_rules(random: &mut Random, rules: &mut Vec<Rule>, recipe: &Term) {
         _ => MOST_PLACES,
     };
     for _ in 0..count {
-        let number = random.between(40_000, 60_000) as u16;
+        let present = some_constant(random, recipe);
+        let head = if random.chance(50) { nearly(random, &present, palette) } else { Constant(random.between(40_000, 60_000) as u32) };
         let rule = match random.below(if recipe.size() < 12 { 10 } else { 7 }) {
-            0..=3 => Rule { left: spine(&Constant(number), [Variable(random.below(VARIABLES))]), right: Constant(1) },
-            4 => Rule { left: spine(&Constant(number), [Variable(1), Variable(2)]), right: spine(&Constant(2), [Variable(2), Variable(3)]) },
-            5 => Rule { left: Constant(number), right: abstraction(Local(0)) },
+            0..=3 => Rule { left: spine(&head, [Variable(random.below(VARIABLES))]), right: Constant(1) },
+            4 => Rule { left: spine(&head, [Variable(1), Variable(2)]), right: spine(&Constant(2), [Variable(2), Variable(3)]) },
+            5 => Rule { left: head, right: abstraction(Local(0)) },
             6 => Rule { left: Variable(5), right: spine(&Variable(5), [Variable(random.between(6, 7))]) },
             // Line 0 leaves the argument open, which has the lower number, and a later line doesn't.
-            7 => Rule { left: spine(&Variable(7), [Variable(6)]), right: spine(&Constant(number), [Variable(6)]) },
+            7 => Rule { left: spine(&Variable(7), [Variable(6)]), right: spine(&head, [Variable(6)]) },
             8 => Rule { left: spine(&Variable(3), [Variable(2)]), right: spine(&Variable(2), [Variable(3)]) },
             _ => Rule { left: spine(&abstraction(Variable(4)), [Variable(5)]), right: spine(&Variable(4), [Variable(5)]) },
         };
@@ -204,13 +209,13 @@ fn add_idle_rules(random: &mut Random, rules: &mut Vec<Rule>, recipe: &Term) {
 
 // Long recipes of many different constants, and rules with rigid heads.
 
-/// Many constants, so that few parts of a long recipe are equal: each equal part doubles the steps of the lister.
-fn varied_palette(random: &mut Random) -> Palette {
-    Palette { constants: (0..40).map(|_| random.below(65_536) as u16).collect(), variables: (0..VARIABLES).collect() }
+/// Many constants, and all variables.
+fn varied_palette(random: &mut Random, palette: &Palette) -> Palette {
+    Palette { variables: (0..VARIABLES).collect(), ..palette.varied(random) }
 }
 
-fn long_recipe(random: &mut Random) -> Problem {
-    let palette = varied_palette(random);
+fn long_recipe(random: &mut Random, palette: &Palette) -> Problem {
+    let palette = varied_palette(random, palette);
     let size = if random.chance(10) { MOST_RECIPE_RECORDS } else { random.between(20, MOST_RECIPE_RECORDS) };
     let recipe = normal_term(random, size, 0, false, &palette);
     let count = match random.below(100) {
@@ -250,6 +255,12 @@ fn with_variables(random: &mut Random, term: &Term, palette: &Palette) -> Term {
     }
 }
 
+/// Another constant, with one other byte.
+fn nearly(random: &mut Random, constant: &Term, palette: &Palette) -> Term {
+    let Constant(number) = constant else { unreachable!("a constant") };
+    Constant(near(random, *number, palette.bits()))
+}
+
 /// The term with another constant in one place: nothing changes if it has none there.
 fn with_another_constant(random: &mut Random, term: &Term, palette: &Palette) -> Term {
     match term {
@@ -261,6 +272,7 @@ fn with_another_constant(random: &mut Random, term: &Term, palette: &Palette) ->
             }
         }
         Abstraction(body) => abstraction(with_another_constant(random, body, palette)),
+        Constant(_) if random.chance(50) => nearly(random, term, palette),
         Constant(_) => constant(random, palette),
         leaf => leaf.clone(),
     }
@@ -269,7 +281,7 @@ fn with_another_constant(random: &mut Random, term: &Term, palette: &Palette) ->
 // Rules used at a head, so that the whole has a redex.
 
 fn applied_form(random: &mut Random, palette: &Palette) -> Problem {
-    let [name, other] = names(random);
+    let [name, other] = names(random, palette);
     let (head, argument) = match random.below(10) {
         0..=4 => slow_pair(random, palette),
         5..=6 => slow_spine(random),
@@ -347,7 +359,7 @@ fn surround(random: &mut Random, term: Term, palette: &Palette) -> Term {
 // Right sides that take many sweeps.
 
 fn slow_right_side(random: &mut Random, palette: &Palette) -> Problem {
-    let [name] = names(random);
+    let [name] = names(random, palette);
     let (head, argument) = if random.chance(70) { slow_pair(random, palette) } else { slow_spine(random) };
     let slow = application(head.clone(), argument.clone());
     let (rule, part) = if is_side(&slow) && random.chance(40) {
@@ -396,9 +408,9 @@ impl Copies {
     }
 }
 
-fn near_limit(random: &mut Random) -> Problem {
-    let palette = varied_palette(random);
-    let [name, other, third] = names(random);
+fn near_limit(random: &mut Random, palette: &Palette) -> Problem {
+    let palette = varied_palette(random, palette);
+    let [name, other, third] = names(random, &palette);
     let p0 = Variable(0);
     let left = spine(&name, [p0.clone()]);
     let (rule, copies) = match random.below(10) {
@@ -431,7 +443,7 @@ fn near_limit(random: &mut Random) -> Problem {
 // Listings of more than 2,048 lines, and of more than 16,384 records.
 
 fn long_listing(random: &mut Random, palette: &Palette) -> Problem {
-    let [name, other, third, repeated] = names(random);
+    let [name, other, third, repeated] = names(random, palette);
     // With so many copies there are 2 to that number lines, each with a value of one record more than the recipe.
     let (count, most_size) = random.pick(&[(12, 27), (11, 25), (9, 33), (8, 66), (8, 65)]);
     let mut target = spine(&other, (0..count).map(|_| repeated.clone()));

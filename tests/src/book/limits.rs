@@ -18,11 +18,10 @@ use Given::*;
 /// How many calls were compared.
 pub fn run() -> Result<usize, String> {
     let calls: Vec<(Call, Given)> =
-        [pairs_used(), listings(), sides(), order(), left_and_right_sides(), wholes(), lengths()].into_iter().flatten().collect();
+        [pairs_used(), constants(), listings(), sides(), order(), left_and_right_sides(), wholes(), lengths()].into_iter().flatten().collect();
     let count = calls.len();
     for (shift, (call, given)) in calls.into_iter().enumerate() {
-        let mut list = |left: &Term, part: &Term| list_pair(left, part, usize::MAX).expect("no step limit");
-        let outcome = expected(&call, &mut list);
+        let outcome = expected_within(&call, usize::MAX);
         match given {
             Refused(number) => assert_eq!((outcome.answer, outcome.pairs), (-i64::from(number), call.pairs), "{}", describe(&call)),
             New(recipe, pairs) => {
@@ -59,6 +58,48 @@ fn pairs_used() -> Vec<(Call, Given)> {
         (call(&last_of_64, "k1"), new("k2", 64)),
         (call_of(book(&[nothing; MOST_PLACES]), &longest), New(longest, 6144)),
     ]
+}
+
+/// Constants of 24 bits, each of which is itself and no other one; and second bytes, which in all other kinds have to be zero.
+fn constants() -> Vec<(Call, Given)> {
+    let sound = || call(&[(r"@ @ k1 \ #0 p0", r"@ k2 \ @ #0 p0")], r"@ @ k1 \ #0 k3");
+    let left: Records = |call| &mut call.book[2 * COUNT_BYTES..];
+    let right: Records = |call| &mut call.book[2 * COUNT_BYTES + SIDE_BYTES..];
+    let recipe: Records = |call| &mut call.recipe;
+    let mut calls = vec![
+        (call(&[("k65537", "k2")], "k1"), new("k1", 1)),
+        (call(&[("k1", "k2")], "k65537"), new("k65537", 1)),
+        (call(&[("k65537", "k8"), ("k1", "k9")], "@ k65537 k1"), new("@ k8 k1", 3)),
+        (call(&[("k65537", "k8"), ("k1", "k9")], "@ k1 k65537"), new("@ k9 k65537", 4)),
+        (call(&[("k65535", "k65536")], "@ k65536 k65535"), new("@ k65536 k65536", 3)),
+        (call(&[("k65536", "k16777215")], "@ k65535 k65536"), new("@ k65535 k16777215", 3)),
+        (call(&[("k16777215", "k0")], "@ k65535 k16777215"), new("@ k65535 k0", 3)),
+        (call(&[("@ k65536 p0", "@ p0 k131072")], "@ k65536 k131073"), new("@ k131073 k131072", 1)),
+        (call(&[(r"@ \ @ k16777215 p0 p1", "p0")], "@ k16777215 k65536"), new("k65536", 1)),
+        // Line 0 of two, and not of four as with `k1` twice.
+        (call(&[("@ p0 k1", "p0")], "@ @ k2 k1 k65537"), new(r"\ @ @ k2 #0 k65537", 1)),
+        // The first constant of each is another.
+        (sound(), new(r"@ k2 \ @ #0 k3", 1)),
+        (with_second_byte(sound(), left, CONSTANT), new(r"@ @ k1 \ #0 k3", 5)),
+        (with_second_byte(sound(), right, CONSTANT), new(r"@ k65538 \ @ #0 k3", 1)),
+        (with_second_byte(sound(), recipe, CONSTANT), new(r"@ @ k65537 \ #0 k3", 5)),
+    ];
+    for kind in [0, 1, 2, 4] {
+        calls.push((with_second_byte(sound(), left, kind), Refused(2)));
+        calls.push((with_second_byte(sound(), right, kind), Refused(2)));
+    }
+    calls.extend([0, 1, 2].map(|kind| (with_second_byte(sound(), recipe, kind), Refused(5))));
+    calls
+}
+
+/// The records of a part of a call.
+type Records = fn(&mut Call) -> &mut [u8];
+
+/// The first record of the kind gets the second byte 1.
+fn with_second_byte(mut call: Call, records: Records, kind: u8) -> Call {
+    let record = records(&mut call).chunks_exact_mut(RECORD_BYTES).find(|record| record[0] == kind);
+    record.expect("a record of the kind")[1] = 1;
+    call
 }
 
 /// Lines: the first one decides, and full tables have 2,048 lines and 16,384 records.
