@@ -1,6 +1,7 @@
 #!/bin/sh
 # records.sh FILE: the term that FILE writes as text, as a table of records on standard output.
 # The text is words with blanks or line ends between: `@`, `\`, `#N`, `kN` and `pN` as in document 01, or the name of a constant in constants.txt.
+# A constant's number has three bytes, and each other kind's has two.
 set -eu
 here=$(cd "$(dirname "$0")" && pwd)
 escapes=$(LC_ALL=C awk '
@@ -14,8 +15,9 @@ escapes=$(LC_ALL=C awk '
             else if ($i ~ /^k[0-9]+$/) { kind = 3; n = substr($i, 2) + 0 }
             else if ($i ~ /^p[0-9]+$/) { kind = 4; n = substr($i, 2) + 0 }
             else if ($i in number) { kind = 3; n = number[$i] + 0 }
-            if (kind < 0 || n > 65535) { print "records.sh: not a word of a term: " $i > "/dev/stderr"; exit 1 }
-            printf "\\%03o\\000\\%03o\\%03o", kind, int(n / 256), n % 256
+            most = kind == 3 ? 16777215 : 65535
+            if (kind < 0 || n > most) { print "records.sh: not a word of a term: " $i > "/dev/stderr"; exit 1 }
+            printf "\\%03o\\%03o\\%03o\\%03o", kind, int(n / 65536), int(n / 256) % 256, n % 256
         }
     }' "$here/constants.txt" "$1")
 # shellcheck disable=SC2059

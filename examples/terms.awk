@@ -11,7 +11,8 @@ $2 == "-" { print "line " $1 ": assigns nothing"; next }
     text = ""
     for (i = 4; i <= NF; i++) {
         kind = substr($i, 2, 1)
-        n = hex(substr($i, 5))
+        # Three bytes: the first is the top byte of a constant, and zero in every other kind.
+        n = hex(substr($i, 3))
         if (kind == "0") word = "@"
         else if (kind == "1") word = "\\"
         else if (kind == "2") word = "#" n

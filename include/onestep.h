@@ -5,9 +5,10 @@
  * call. The book's number of pairs counts as a table that is written, and its pointer must not be NULL. Every call takes a work area of ONESTEP_TABLE
  * bytes; it is all zero on return, unless its own length was wrong. On a refusal every other table, the number of pairs too, is as it was.
  *
- * A table holds records of 4 bytes: kind, a zero byte, and a 16-bit number, high byte first. Kinds: 0 application, followed by its head and its
- * argument; 1 abstraction, followed by its body; 2 local, 0 the innermost; 3 constant; 4 variable, 0 to 7. A record is bad if its kind is above 4, its
- * second byte isn't 0, its number isn't 0 in kind 0 or 1, or it is a variable above 7.
+ * A table holds records of 4 bytes: kind, and a number in three bytes, high byte first. The first of the three, the record's second byte, is the top
+ * byte of a constant's number, and 0 in all other kinds. Kinds: 0 application, followed by its head and its argument; 1 abstraction, followed by its
+ * body; 2 local, 0 the innermost; 3 constant, 0 to 16,777,215; 4 variable, 0 to 7. A record is bad if its kind is above 4, its second byte isn't 0 in
+ * another kind than 3, its number isn't 0 in kind 0 or 1, or it is a variable above 7.
  * An assignment is one line of ONESTEP_LINE bytes (first record and count of records for each variable, 16 bits each, high byte first; a count of 0
  * is open) and a value table that the line points into.
  * A book is 1 to ONESTEP_PLACES places of ONESTEP_PLACE bytes, each with a rule: the record counts of its left and its right side, 16 bits each, high

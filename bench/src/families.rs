@@ -17,7 +17,7 @@ struct Found {
     ratios: [Option<f64>; BASELINES.len()],
 }
 
-const BASELINES: [Baseline; 3] = [Baseline::Pruned, Baseline::Bare, Baseline::Tuned];
+pub const BASELINES: [Baseline; 3] = [Baseline::Pruned, Baseline::Bare, Baseline::Tuned];
 /// What the baselines are called, in their order.
 const NAMES: [&str; BASELINES.len()] = ["(a)", "(b)", "(c)"];
 

@@ -7,6 +7,7 @@
 
 mod book;
 mod cases;
+mod constants;
 mod families;
 mod full_size;
 mod generate;
@@ -59,7 +60,8 @@ fn main() {
     }
     print_setting(cases.len(), arguments.limit);
     timing::print_noise("before");
-    let mut all_right = families::print(&cases, arguments.limit);
+    let mut all_right = constants::check(arguments.limit);
+    all_right &= families::print(&cases, arguments.limit);
     all_right &= operations::print(&cases);
     all_right &= operations::print_by_sweeps();
     all_right &= book::print();

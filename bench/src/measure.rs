@@ -99,6 +99,13 @@ pub fn measure(case: &Case, mut tried: Vec<Tried>) -> Row {
     Row { answer, agrees, library, others }
 }
 
+/// Whether the library gives the expected answer, and the baselines the same, down to the bytes. Nothing is timed.
+pub fn agrees(case: &Case, baselines: &[Baseline], limit: Duration) -> bool {
+    let (mut tables, mut work) = (Tables::new(), Work::new());
+    let answer = library::list(&case.pattern, &case.recipe, &mut tables, &mut work);
+    answer == case.expected && baselines.iter().all(|&baseline| is_same(answer, &tables, &Tried::new(case, baseline, limit)))
+}
+
 /// The case measured against (a) and (c).
 pub fn measure_pruned(case: &Case, limit: Duration) -> Row {
     measure(case, [Baseline::Pruned, Baseline::Tuned].map(|baseline| Tried::new(case, baseline, limit)).into())

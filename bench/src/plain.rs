@@ -21,7 +21,7 @@ enum Node {
     Application(Term, Term),
     Abstraction(Term),
     Local(usize),
-    Constant(u16),
+    Constant(u32),
     Variable(usize),
 }
 
@@ -76,9 +76,10 @@ fn read_term(table: &[u8], most_records: usize, last_kind: u8) -> Result<Term, i
     if table.is_empty() || table.len() > 4 * most_records || table.len() % 4 != 0 {
         return Err(0);
     }
-    let records: Vec<(u8, u16)> = table.chunks_exact(4).map(|bytes| (bytes[0], u16::from_be_bytes([bytes[2], bytes[3]]))).collect();
-    let is_good = |&(kind, number): &(u8, u16)| kind <= last_kind && !(kind < 2 && number != 0) && !(kind == 4 && number as usize >= VARIABLES);
-    if table.chunks_exact(4).any(|bytes| bytes[1] != 0) || !records.iter().all(is_good) {
+    let records: Vec<(u8, u32)> = table.chunks_exact(4).map(|bytes| (bytes[0], u32::from_be_bytes([0, bytes[1], bytes[2], bytes[3]]))).collect();
+    let is_good = |&(kind, number): &(u8, u32)| kind <= last_kind && !(kind < 2 && number != 0) && !(kind == 4 && number as usize >= VARIABLES);
+    // a constant's number has three bytes, and each other kind's two
+    if table.chunks_exact(4).any(|bytes| bytes[1] != 0 && bytes[0] != 3) || !records.iter().all(is_good) {
         return Err(1);
     }
     let mut rest = records.iter();
@@ -89,7 +90,7 @@ fn read_term(table: &[u8], most_records: usize, last_kind: u8) -> Result<Term, i
 }
 
 /// Takes one part below `depth` binders off the records.
-fn read_part<'a>(records: &mut impl Iterator<Item = &'a (u8, u16)>, depth: usize) -> Option<Term> {
+fn read_part<'a>(records: &mut impl Iterator<Item = &'a (u8, u32)>, depth: usize) -> Option<Term> {
     let &(kind, number) = records.next()?;
     Some(Rc::new(match kind {
         0 => {
@@ -332,7 +333,7 @@ fn loose_locals(term: &Term) -> Vec<usize> {
 }
 
 /// The constants of a term, from left to right.
-fn constants(term: &Term) -> Vec<u16> {
+fn constants(term: &Term) -> Vec<u32> {
     let mut found = Vec::new();
     visit_leaves(term, 0, &mut |leaf, _| match leaf {
         Constant(n) => found.push(*n),
@@ -387,7 +388,7 @@ fn size(term: &Term) -> usize {
 }
 
 fn write_term(term: &Term, out: &mut Vec<u8>) {
-    let mut write_record = |kind: u8, number: usize| out.extend([kind, 0, (number >> 8) as u8, number as u8]);
+    let mut write_record = |kind: u8, number: usize| out.extend([kind, (number >> 16) as u8, (number >> 8) as u8, number as u8]);
     match &**term {
         Application(head, argument) => {
             write_record(0, 0);
@@ -435,7 +436,7 @@ fn is_viable(rule: &Rule) -> bool {
 }
 
 /// The constants of a pattern that no match can remove, from left to right.
-fn collect_rigid(pattern: &Term, found: &mut Vec<u16>) {
+fn collect_rigid(pattern: &Term, found: &mut Vec<u32>) {
     match &**pattern {
         Application(head, argument) if !is_flexible(head) => {
             collect_rigid(head, found);

@@ -26,8 +26,9 @@ pub fn kind(record: Record) -> u32 {
     record >> 24
 }
 
+/// The three bytes behind the kind. The first of them is the top byte of a constant, and zero in every other kind.
 pub fn number(record: Record) -> u32 {
-    record & 0xffff
+    record & 0xff_ffff
 }
 
 pub fn records_of(bytes: &[u8]) -> Vec<Record> {

@@ -8,7 +8,7 @@
 #include <string.h>
 #include "onestep.h"
 
-enum { RECORD = 4, SIDE = 32 * RECORD, RECIPE = 96 * RECORD, CALLS = 64 };
+enum { RECORD = 4, CONSTANT = 3, SIDE = 32 * RECORD, RECIPE = 96 * RECORD, CALLS = 64 };
 
 struct rule {
     const char *left, *right;
@@ -21,7 +21,7 @@ static const struct rule rules[] = {
 
 static const char first_recipe[] = "@ average @ @ @ compose @ map \\ @ @ times #0 #0 @ map @ times gravity heights";
 
-/* The constants from 0 on; those from 1 on are named as in examples/constants.txt. */
+/* The constants from 0 to 12; those from 1 on are named as in examples/constants.txt. */
 static const char *const names[] = {"k0",     "compose", "map",      "sum",     "average", "plus",   "times",
                                     "square", "root",    "bandpass", "detrend", "heights", "gravity"};
 
@@ -38,24 +38,34 @@ static void put_number(uint8_t *at, size_t n) {
     at[1] = (uint8_t)(n % 256);
 }
 
+/* The number of a record, three bytes behind the kind. The first of them is the top byte of a constant, and 0 in every other kind. */
+static size_t record_number(const uint8_t *record) { return (size_t)record[1] * 65536 + number(record + 2); }
+
+static void put_record(uint8_t *record, size_t kind, size_t n) {
+    record[0] = (uint8_t)kind;
+    record[1] = (uint8_t)(n / 65536);
+    put_number(record + 2, n % 65536);
+}
+
+static void stop_at(const char *word, size_t length) {
+    fprintf(stderr, "not a word of a term: %.*s\n", (int)length, word);
+    exit(2);
+}
+
 /* Writes the record of a word: `@`, `\`, `#N`, `kN`, `pN` or the name of a constant. */
-static void put_record(uint8_t *record, const char *word, size_t length) {
+static void put_word(uint8_t *record, const char *word, size_t length) {
     static const char kinds[] = "@\\#kp";
     const char *kind = strchr(kinds, word[0]);
     size_t constant = 0;
-    record[1] = 0;
     if (kind != NULL && (length == 1 || (word[1] >= '0' && word[1] <= '9'))) {
-        record[0] = (uint8_t)(kind - kinds);
-        put_number(record + 2, length == 1 ? 0 : strtoul(word + 1, NULL, 10));
+        size_t n = length == 1 ? 0 : strtoul(word + 1, NULL, 10), most = *kind == 'k' ? 16777215 : 65535;
+        if (n > most) stop_at(word, length);
+        put_record(record, (size_t)(kind - kinds), n);
         return;
     }
     while (constant < NAMES && (strlen(names[constant]) != length || memcmp(names[constant], word, length) != 0)) constant++;
-    if (constant == NAMES) {
-        fprintf(stderr, "not a word of a term: %.*s\n", (int)length, word);
-        exit(2);
-    }
-    record[0] = 3;
-    put_number(record + 2, constant);
+    if (constant == NAMES) stop_at(word, length);
+    put_record(record, CONSTANT, constant);
 }
 
 /* Writes the term of a text, whose words have one blank between, into a table of `room` bytes, and gives its number of records. */
@@ -67,7 +77,7 @@ static size_t put_term(uint8_t *table, size_t room, const char *text) {
             fprintf(stderr, "too many records: %s\n", text);
             exit(2);
         }
-        put_record(table + RECORD * count, word, length);
+        put_word(table + RECORD * count, word, length);
         word += length + (word[length] == ' ');
     }
     return count;
@@ -83,8 +93,8 @@ static void print_term(const uint8_t *records, size_t count) {
     static const char *const kinds[] = {"@", "\\", "#", "k", "p"};
     for (size_t i = 0; i < count; i++) {
         const uint8_t *record = records + RECORD * i;
-        size_t n = number(record + 2);
-        if (record[0] == 3 && n < NAMES) printf(" %s", names[n]);
+        size_t n = record_number(record);
+        if (record[0] == CONSTANT && n < NAMES) printf(" %s", names[n]);
         else if (record[0] < 2) printf(" %s", kinds[record[0]]);
         else printf(" %s%zu", kinds[record[0]], n);
     }

@@ -54,12 +54,15 @@ static int read_term(struct term *term, const char *folder, const char *name) {
 /* A 16-bit number, high byte first. */
 static size_t number(const uint8_t *at) { return (size_t)at[0] * 256 + at[1]; }
 
+/* The number of a record, three bytes behind the kind. The first of them is the top byte of a constant, and 0 in every other kind. */
+static size_t record_number(const uint8_t *record) { return (size_t)record[1] * 65536 + number(record + 2); }
+
 static void print_term(const uint8_t *records, size_t count) {
     static const char *const kinds[] = {"@", "\\", "#", "k", "p"};
     for (size_t i = 0; i < count; i++) {
         const uint8_t *record = records + RECORD * i;
         printf(" %s", kinds[record[0]]);
-        if (record[0] >= 2) printf("%zu", number(record + 2));
+        if (record[0] >= 2) printf("%zu", record_number(record));
     }
     printf("\n");
 }

@@ -73,9 +73,14 @@ fn number(bytes: &[u8]) -> usize {
     usize::from(bytes[0]) * 256 + usize::from(bytes[1])
 }
 
+/// The number of a record, three bytes behind the kind. The first of them is the top byte of a constant, and 0 in every other kind.
+fn record_number(record: &[u8]) -> usize {
+    usize::from(record[1]) * 65_536 + number(&record[2..])
+}
+
 /// A term in document 01's notation.
 fn text(records: &[u8]) -> String {
-    let word = |r: &[u8]| match (r[0], number(&r[2..])) {
+    let word = |r: &[u8]| match (r[0], record_number(r)) {
         (0, _) => "@".to_string(),
         (1, _) => "\\".to_string(),
         (kind, n) => format!("{}{n}", ["#", "k", "p"][usize::from(kind) - 2]),

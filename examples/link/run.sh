@@ -38,6 +38,11 @@ run_all() {
     "$1" "$room/refused" || echo "status $?"
     term pattern '@ map #0'
     "$1" "$room/refused" || echo "status $?"
+    # No text gives these records: a local and a variable whose second byte isn't zero, as a constant's may be.
+    term pattern '@ map p0' && printf '\002\001\000\000' >"$room/refused/recipe.rec"
+    "$1" "$room/refused" || echo "status $?"
+    printf '\004\001\000\000' >"$room/refused/pattern.rec"
+    "$1" "$room/refused" || echo "status $?"
 }
 
 # compare PROGRAM STORED: what PROGRAM printed, with the file STORED.
