@@ -6,8 +6,8 @@ use mathlib.Core.Option.{Option, none, some}
 use mathlib.Core.List.{List, [], _∷_, _++_, append-assoc}
 use Prim.Native.Nat.{ℕ, suc, _+_, _*_, _%_, _<_, _≤_}
 use native.Mathlib.Omega.{arith}
-use lib.ListN.{length, getD, take, drop, List·getD-append, take-append-drop}
-use lib.Seq.{sets, sets-eq, take-take, take-add, take-at, drop-at, length-sets, length-take-le, getD-append-add, getD-take}
+use lib.ListN.{length, getD, take, drop, take-append-drop}
+use lib.Seq.{sets, sets-eq, take-take, take-add, take-at, drop-at, length-sets, length-take-le, getD-take}
 use Rattle.terms.specs.Term.{Term, size}
 use Rattle.terms.specs.Figures.{variables}
 use Rattle.terms.specs.Table.{encode}
@@ -20,10 +20,10 @@ use Rattle.records.specs.Parts.{Part}
 use Rattle.records.proofs.Parts.{part}
 use Rattle.heights.specs.Heights.{heights, HeightsAt}
 use Rattle.heights.proofs.Heights.{heights-length}
+use Rattle.copying.proofs.Stores.{take-sets, getD-stored}
 use Rattle.assignments.specs.declared.Entry.{Entry}
 use Rattle.assignments.specs.declared.Entry.the-variants.{Open, Assigned}
 use Rattle.assignments.specs.Held.{EntryHeld, Holds}
-use Rattle.shifting.proofs.Lowering.{take-sets}
 use Rattle.agenda.specs.declared.Agenda.{Agenda}
 use Rattle.agenda.specs.declared.StoredGoal.{StoredGoal}
 use Rattle.agenda.specs.Stored.{storedBytes, StoredAt}
@@ -167,14 +167,6 @@ state-kept n P W X s a gs hs l k x = record {
   assigns = x .assigns;
   room = x .room;
 }
-
--- bytes that were stored
-pub getD-stored : (vs l : List ℕ) (at i : ℕ) → i < length vs → at + length vs ≤ length l → getD (sets l at vs) (at + i) 0 ≡ getD vs i 0
-getD-stored vs l at i h k =
-    let p : length (take at l) ≡ at = length-take-le at l (omega arith) in
-    ap₂ (λ (x : List ℕ) (j : ℕ). getD x (j + i) 0) (sets-eq vs l at k ∙ append-assoc (take at l) vs (drop (at + length vs) l)) (sym p)
-    ∙ getD-append-add (take at l) (vs ++ drop (at + length vs) l) i 0
-    ∙ List·getD-append vs (drop (at + length vs) l) 0 i h
 
 -- a part that was stored
 pub part-stored : (t : Term) (l : List ℕ) (at : ℕ) → at + 4 * size t ≤ length l → Part (sets l at (encode t)) at t

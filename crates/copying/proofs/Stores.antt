@@ -1,14 +1,14 @@
 -- Runs of stores, `sets l o vs`: one behind another, one byte more, and what was stored read back. By induction on the bytes stored.
 -- Assumes nothing.
-use mathlib.Core.Path.{_≡_, sym, ap, ap₂, _∙_}
+use mathlib.Core.Path.{_≡_, refl, sym, ap, ap₂, _∙_}
 use mathlib.Core.Bool.{true, false}
-use mathlib.Core.List.{List, [], _∷_, _++_}
+use mathlib.Core.List.{List, [], _∷_, _++_, append-assoc}
 use Prim.Native.Nat.{ℕ, suc, _+_, _-_, _≤_, _<_}
 use native.Mathlib.Nat.{add-zero, add-suc, suc-add}
 use native.Mathlib.Numerals.{add-one}
 use native.Mathlib.Omega.{arith}
-use lib.ListN.{length, getD, take, drop, set}
-use lib.Seq.{sets, sets-eq, take-suc, take-at, take-all, length-take-le}
+use lib.ListN.{length, getD, take, drop, set, List·getD-append}
+use lib.Seq.{sets, sets-eq, take-suc, take-at, take-all, take-set-le, length-take-le, getD-append-add}
 use Rattle.copying.specs.Equality.{Same}
 
 pub sets-then : (xs ys out : List ℕ) (o : ℕ) → sets (sets out o xs) (o + length xs) ys ≡ sets out o (xs ++ ys)
@@ -37,6 +37,18 @@ copied-all out p s o i h e = e ∙ ap (sets out o) (take-all i s h)
 pub stored : (out p xs : List ℕ) (n : ℕ) → p ≡ sets out 0 xs → n ≡ length xs → n ≤ length out → take (n - 0) (drop 0 p) ≡ xs
 stored out p xs n e h w =
     ap (take (n - 0)) (e ∙ sets-eq xs out 0 (omega arith)) ∙ take-at xs (drop (0 + length xs) out) (n - 0) (omega arith)
+
+-- the bytes before those that are stored, and those themselves
+pub take-sets : (xs out : List ℕ) (n o : ℕ) → n ≤ o → take n (sets out o xs) ≡ take n out
+take-sets [] out n o h = refl
+take-sets (x ∷ xs) out n o h = take-sets xs (set out o x) n (suc o) (omega arith) ∙ take-set-le n out o x h
+
+pub getD-stored : (vs l : List ℕ) (at i : ℕ) → i < length vs → at + length vs ≤ length l → getD (sets l at vs) (at + i) 0 ≡ getD vs i 0
+getD-stored vs l at i h k =
+    let p : length (take at l) ≡ at = length-take-le at l (omega arith) in
+    ap₂ (λ (x : List ℕ) (j : ℕ). getD x (j + i) 0) (sets-eq vs l at k ∙ append-assoc (take at l) vs (drop (at + length vs) l)) (sym p)
+    ∙ getD-append-add (take at l) (vs ++ drop (at + length vs) l) i 0
+    ∙ List·getD-append vs (drop (at + length vs) l) 0 i h
 
 -- bytes compared one by one
 pub same-more : (a b : List ℕ) (i : ℕ) → i < length a → i < length b → getD a i 0 ≡ getD b i 0 → take i a ≡ take i b

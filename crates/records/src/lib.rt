@@ -453,6 +453,13 @@ pub const PLACE: usize = RECORD + 2 * RECORD * PATTERN_RECORDS;
 
 pub const MOST_PLACES: usize = 64;
 
+// The buoys of a shelf, the records of its table, and the highest count of changes.
+pub const BUOYS: usize = 200;
+
+pub const SHELF_RECORDS: usize = 16384;
+
+pub const CEILING: usize = 4294967295;
+
 // The bytes of a line, which has an entry of a record's length for each variable.
 pub const LINE: usize = RECORD * VARIABLES;
 

@@ -38,6 +38,13 @@ module _ (rows : List Row) (W : Type 0) (v : Verdict) (x : Judged rows W v) wher
   unfolding Judged
   right-at e = subst (Judged rows W) e x
 
+  pub verdict-refused : (c : Refusal) → v ≡ Verdict.Refused c → Refused rows (number c)
+  unfolding Judged
+  verdict-refused c e = subst (Judged rows W) e x
+
+  pub verdict-passed : v ≡ Verdict.Right → Passed rows
+  verdict-passed e = right-at e .0
+
   pub right-known : v ≡ Verdict.Right → W
   right-known e = right-at e .1
 

@@ -33,6 +33,8 @@ number Refusal.NoMatch = 14
 number Refusal.NoNormalForm = 15
 number Refusal.BookSize = 16
 number Refusal.LongRecipe = 17
+number Refusal.Buoy = 18
+number Refusal.ShelfRoom = 19
 
 -- "Each is given when its cause holds and no earlier one does, and at no other time."
 unfoldable pub Judged : List Row → Type 0 → Verdict → Type 0

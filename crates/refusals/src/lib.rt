@@ -6,7 +6,7 @@
 // rests on the rows of `terms`, and in code on `records` and `assignments` alone, so that an operation which searches nothing refuses by
 // the same rows.
 //
-// The enum has a case for each cause that an operation can give. Those of 9 and 10 are named after what there is no room for.
+// The enum has a case for each cause that an operation can give. Those of 9, 10 and 19 are named after what there is no room for, or where.
 
 use records::LINE;
 use records::PatternCheck;
@@ -44,6 +44,8 @@ pub enum Refusal {
     NoNormalForm,
     BookSize,
     LongRecipe,
+    Buoy,
+    ShelfRoom,
 }
 
 // What one step of judging the tables finds.
@@ -74,6 +76,8 @@ pub fn number_of(refusal: Refusal) -> u64
         Refusal::NoNormalForm => 15,
         Refusal::BookSize => 16,
         Refusal::LongRecipe => 17,
+        Refusal::Buoy => 18,
+        Refusal::ShelfRoom => 19,
     }
 }
 

@@ -3,13 +3,13 @@
 use mathlib.Core.Path.{_≡_, refl, sym, ap, ap₂, _∙_, subst}
 use mathlib.Core.Bool.{Bool, true, false}
 use mathlib.Core.Logic.{_↔_}
-use mathlib.Core.List.{List, [], _∷_}
+use mathlib.Core.List.{List, []}
 use Prim.Native.Nat.{ℕ, suc, _+_, _-_, _*_, _≤_, _<_}
 use native.Mathlib.Omega.{arith}
 use native.Mathlib.Decide.{decLt}
 use lib.Dec.{T, ltb}
-use lib.ListN.{length, getD, take, set, length-take}
-use lib.Seq.{sets, take-take, take-set-le}
+use lib.ListN.{length, getD, take, length-take}
+use lib.Seq.{sets, take-take}
 use borrow.Author.Tests.{lt-ltb, le-ltb, eq-eqb, ltb-true, ltb-false}
 use Rattle.terms.specs.Figures.{numbers}
 use Rattle.terms.specs.Term.{Term, app, lam, loc, size, shift, unshift, uses}
@@ -24,6 +24,7 @@ use Rattle.records.specs.Tests.{Says, Walked, Near, further}
 use Rattle.records.proofs.Parts.{whole, application, part-bytes, leaf-size}
 use Rattle.records.proofs.Slices.{part-slice, slice-length, slice-walked}
 use Rattle.records.proofs.Tests.{walked-ends, walked-app, walked-stop, walked-lam, walked-leaf, walked-no, part-local, part-other}
+use Rattle.copying.proofs.Stores.{take-sets}
 use Rattle.substitution.specs.Writers.{Wrote}
 use Rattle.substitution.proofs.Writers.{Change, Other, wrote-application, wrote-abstraction, wrote-local, slice-wrote}
 use Rattle.shifting.specs.Lowering.{Movable, Inside, Lowers, Leaves, Lowered}
@@ -76,11 +77,6 @@ movable-local-no n c d i e =
 
 unshifts : (d : ℕ) → Change (unshift d)
 unshifts d = record { application = λ k f a. refl; abstraction = λ k b. refl; constant = λ k n. refl; variable = λ k n. refl }
-
--- what stands before a run of stores
-pub take-sets : (xs out : List ℕ) (n o : ℕ) → n ≤ o → take n (sets out o xs) ≡ take n out
-take-sets [] out n o h = refl
-take-sets (x ∷ xs) out n o h = take-sets xs (set out o x) n (suc o) (omega arith) ∙ take-set-le n out o x h
 
 take-less : (p q : List ℕ) (n m : ℕ) → n ≤ m → take m p ≡ take m q → take n p ≡ take n q
 take-less p q n m h e = sym (take-take n m p h) ∙ ap (take n) e ∙ take-take n m q h

@@ -11,6 +11,9 @@
 --   mostSweeps      document 02: "when 64 sweeps reach no normal form"
 --   placeBytes      document 02: "a lent table of 260-byte places"
 --   mostPlaces      document 02: "a book that is empty or above 64 places"
+--   buoys           document 02: "Keep recipes by buoy, 0 to 199": how many there are
+--   shelfRecords    document 02: "in one lent record table of 16,384 records"
+--   ceiling         document 02: "staying at 4,294,967,295 once there"
 use Prim.Native.Nat.{ℕ}
 
 abbrev pub variables : ℕ
@@ -48,3 +51,12 @@ placeBytes = 260
 
 abbrev pub mostPlaces : ℕ
 mostPlaces = 64
+
+abbrev pub buoys : ℕ
+buoys = 200
+
+abbrev pub shelfRecords : ℕ
+shelfRecords = 16384
+
+abbrev pub ceiling : ℕ
+ceiling = 4294967295
