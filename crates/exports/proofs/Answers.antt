@@ -1,9 +1,9 @@
--- The number of an answer fits 64 bits, so that it is handed on as it is: a count of lines or records is bounded by the largest table, and
--- a refusal's number is one of seventeen. Assumes nothing.
+-- The number of an answer fits 64 bits, so that it is handed on as it is: a count of lines or records is bounded by the largest table, a
+-- shelf's count has 32 bits, and a refusal's number is one of nineteen. Assumes nothing.
 use mathlib.Core.Path.{_≡_, ap, _∙_, subst}
 use mathlib.Core.List.{List, _++_}
 use mathlib.Core.Logic.{inl}
-use Prim.Native.Nat.{ℕ, zero, suc, _≤_, _<_}
+use Prim.Native.Nat.{ℕ, zero, suc, _/_, _≤_, _<_}
 use native.Mathlib.Decide.{decLt}
 use native.Mathlib.Omega.{arith}
 use lib.Dec.{lit<}
@@ -12,10 +12,10 @@ use lib.ListN.{length}
 use mir.Syntax.{w64}
 use mir.Val.{SFits, toZ, ofZ}
 use mir.ValLaws.{toZ-pos, toZ-ofZ}
-use Rattle.terms.specs.Figures.{recipeRecords, sweptRecords, tableBytes, mostSweeps}
+use Rattle.terms.specs.Figures.{recipeRecords, sweptRecords, tableBytes, mostSweeps, ceiling}
 use Rattle.terms.specs.Term.{size}
 use Rattle.terms.specs.Sweep.{largest}
-use Rattle.terms.specs.Refusal.{Passed, sweptFormRows, outputRows, unmatchedRows}
+use Rattle.terms.specs.Refusal.{Passed, outputTableRows, sweptFormRows, outputRows, unmatchedRows}
 use Rattle.terms.proofs.Refusal.{passed-first, passed-later}
 use Rattle.terms.proofs.Sweep.{sweep-largest}
 use Rattle.terms.proofs.Normalization.{first-normal-short}
@@ -30,6 +30,10 @@ use Rattle.book.specs.Operations.{WrittenRecipe, Booked}
 use Rattle.enumeration.specs.declared.ListAnswer.{ListAnswer}
 use Rattle.enumeration.specs.Written.{WrittenLines}
 use Rattle.matcher.specs.Operations.{lentForList, Listed}
+use Rattle.storage.specs.Storage.{recipeOf}
+use Rattle.shelf.specs.declared.ReadAnswer.{ReadAnswer}
+use Rattle.shelf.specs.declared.CountAnswer.{CountAnswer}
+use Rattle.shelf.specs.Operations.{takeOutRows, readTableRows, shortRows, ReadOut, Counted}
 use Rattle.exports.specs.Answers.{refusalCode}
 
 -- a line table has at most 2,048 lines
@@ -86,9 +90,30 @@ booked-few b r o w a after x n c e =
     go f (yes d) = absurd (f .room .0 d)
     go f (no d) = omega (arith, f .records)
 
+-- a recipe that is read has room in the output table
+pub read-few : (b : ℕ) (d t o : List ℕ) (a : ReadAnswer) (after : List ℕ) → ReadOut b d t o a after → (n : ℕ) → a ≡ ReadAnswer.Records n
+    → n ≤ tableBytes
+unfolding ReadOut
+read-few b d t o a after x n e =
+    let y = subst (λ (c : ReadAnswer). ReadOut b d t o c after) e x in
+    let p = passed-later (readTableRows b d t o) (shortRows b d t o) (y .0) in
+    let q = passed-later (takeOutRows b d t) (outputTableRows o) (passed-first (readTableRows b d t o) (shortRows b d t o) (y .0)) in
+    go (length o) (length (recipeOf b d t)) (λ h. q .0 (inl h)) (p .0) (y .1)
+  where
+    go : (m l : ℕ) → ¬ (tableBytes < m) → ¬ (m < l) → n ≡ l / 4 → n ≤ tableBytes
+    go m l h g f = omega arith
+
+-- the count of a shelf has 32 bits
+pub counted-few : (d : List ℕ) (a : CountAnswer) → Counted d a → (n : ℕ) → a ≡ CountAnswer.Count n → n ≤ ceiling
+unfolding Counted
+counted-few d a x n e = subst (Counted d) e x .2
+
 -- the numbers of answers fit
+pub fits-count : (n : ℕ) → n ≤ ceiling → SFits w64 (pos n)
+fits-count n h = record { sfits = omega arith }
+
 pub fits-records : (n : ℕ) → n ≤ tableBytes → SFits w64 (pos n)
-fits-records n h = record { sfits = omega arith }
+fits-records n h = fits-count n (omega arith)
 
 fits-minus : (n : ℕ) → n ≤ tableBytes → SFits w64 (negℤ (pos n))
 fits-minus zero h = record { sfits = lit< tt }

@@ -15,7 +15,12 @@ use Rattle.rewriting.specs.declared.RewriteAnswer.{RewriteAnswer}
 use Rattle.book.specs.declared.BookAnswer.{BookAnswer}
 use Rattle.enumeration.specs.declared.ListAnswer.{ListAnswer}
 use Rattle.matcher.specs.Operations.{Listed, NineExactly}
+use Rattle.shelf.specs.declared.PutAnswer.{PutAnswer}
+use Rattle.shelf.specs.declared.TakeOutAnswer.{TakeOutAnswer}
+use Rattle.shelf.specs.declared.ReadAnswer.{ReadAnswer}
+use Rattle.shelf.specs.declared.CountAnswer.{CountAnswer}
 use Rattle.exports.specs.Answers.{refusalCode, listCode, checkCode, sweepCode, rewriteCode, bookCode, pairsAfter}
+use Rattle.exports.specs.Answers.{putCode, takeOutCode, readCode, countCode}
 use Rattle.exports.specs.Answers.{ListedAs, NineAs}
 
 -- answers that are counts or refusals, read back from their codes
@@ -54,6 +59,34 @@ rewrite-code-inj = answer-inj RewriteAnswer.Records RewriteAnswer.Refused rewrit
     back : (a : RewriteAnswer) → answer RewriteAnswer.Records RewriteAnswer.Refused (rewriteCode a) ≡ a
     back (RewriteAnswer.Records n) = refl
     back (RewriteAnswer.Refused c) = answer-refusal RewriteAnswer.Records RewriteAnswer.Refused c
+
+pub read-code-inj : (a b : ReadAnswer) → readCode a ≡ readCode b → a ≡ b
+read-code-inj = answer-inj ReadAnswer.Records ReadAnswer.Refused readCode back
+  where
+    back : (a : ReadAnswer) → answer ReadAnswer.Records ReadAnswer.Refused (readCode a) ≡ a
+    back (ReadAnswer.Records n) = refl
+    back (ReadAnswer.Refused c) = answer-refusal ReadAnswer.Records ReadAnswer.Refused c
+
+pub count-code-inj : (a b : CountAnswer) → countCode a ≡ countCode b → a ≡ b
+count-code-inj = answer-inj CountAnswer.Count CountAnswer.Refused countCode back
+  where
+    back : (a : CountAnswer) → answer CountAnswer.Count CountAnswer.Refused (countCode a) ≡ a
+    back (CountAnswer.Count n) = refl
+    back (CountAnswer.Refused c) = answer-refusal CountAnswer.Count CountAnswer.Refused c
+
+pub put-code-inj : (a b : PutAnswer) → putCode a ≡ putCode b → a ≡ b
+put-code-inj = answer-inj (λ n. PutAnswer.Yes) PutAnswer.Refused putCode back
+  where
+    back : (a : PutAnswer) → answer (λ n. PutAnswer.Yes) PutAnswer.Refused (putCode a) ≡ a
+    back PutAnswer.Yes = refl
+    back (PutAnswer.Refused c) = answer-refusal (λ n. PutAnswer.Yes) PutAnswer.Refused c
+
+pub take-out-code-inj : (a b : TakeOutAnswer) → takeOutCode a ≡ takeOutCode b → a ≡ b
+take-out-code-inj = answer-inj (λ n. TakeOutAnswer.Yes) TakeOutAnswer.Refused takeOutCode back
+  where
+    back : (a : TakeOutAnswer) → answer (λ n. TakeOutAnswer.Yes) TakeOutAnswer.Refused (takeOutCode a) ≡ a
+    back TakeOutAnswer.Yes = refl
+    back (TakeOutAnswer.Refused c) = answer-refusal (λ n. TakeOutAnswer.Yes) TakeOutAnswer.Refused c
 
 -- with the number of pairs
 pub book-code-inj : (before : ℕ) (a b : BookAnswer) → bookCode a ≡ bookCode b → pairsAfter before a ≡ pairsAfter before b → a ≡ b

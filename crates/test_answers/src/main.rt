@@ -1,12 +1,12 @@
-// The answers of list, check, sweep, rewrite and the book of rules, case by case.
+// The answers of list, check, sweep, rewrite, the book of rules and the shelf, case by case.
 //
 // The program reads a table of cases from standard input, runs the operations on them, and prints a line for each: its name, the
 // operation, the answer, and whether the bytes behind the answer (`rest`: the whole output table, if the answer is a refusal) and the work
 // area are as they were. The table that is kept beside it has document 01's cases, rewrites that take several sweeps, constants of 24 bits,
-// values that are closed beside parts that are not, books of rules, every refusal that the operations can give, both sides of each limit,
-// and the order of the refusals. It promises that it is safe and that it ends; `matcher`, `rewriting` and `book` promise the answers and a
-// refusal's number. It rests on `matcher`, on `test_rewriting` and `test_book` for the other operations, on `notation` to read the cases,
-// and on `test_report` to print what came of them.
+// values that are closed beside parts that are not, books of rules, walks over a shelf, every refusal that the operations can give, both
+// sides of each limit, and the order of the refusals. It promises that it is safe and that it ends; `matcher`, `rewriting`, `book` and
+// `shelf` promise the answers and a refusal's number. It rests on `matcher`, on `test_rewriting`, `test_book` and `test_shelf` for the
+// other operations, on `notation` to read the cases, and on `test_report` to print what came of them.
 //
 // A case is one line of fields, each ended by `;` or the line:
 //     NAME; list; PATTERN; RECIPE; LINES; VALUES; WORK
@@ -14,10 +14,13 @@
 //     NAME; sweep; PATTERN; LINE; VALUES; OUTPUT; WORK
 //     NAME; rewrite; LEFT; RIGHT; RECIPE; LINE; VALUES; OUTPUT; WORK
 //     NAME; book; BOOK; RECIPE; OUTPUT; WORK
+//     NAME; walk; CALL; CALL; ...
 // WORK, OUTPUT and, of list, LINES and VALUES are numbers of bytes; without one the work area has its right length. The others are tables,
-// in the items of `notation`, and BOOK in the entries of `test_book`. Any other line is a heading, and printed as it is.
+// in the items of `notation`, and BOOK in the entries of `test_book`. CALL is a call on the case's shelf, in the parts of `test_shelf`. Any
+// other line is a heading, and printed as it is.
 // The values that list wrote are taken to end where the first byte is as it was before the call.
-// Cases behind the first 65,536 bytes, and bytes of a table behind the room that `test_report` or `test_book` has for it, are cut off.
+// Cases behind the first 65,536 bytes, and bytes of a table behind the room that `test_report`, `test_book` or `test_shelf` has for it, are
+// cut off.
 
 use enumeration::ListAnswer;
 use libc::STDIN_FILENO;
@@ -38,6 +41,7 @@ use test_report::short;
 use test_rewriting::check;
 use test_rewriting::rewrite;
 use test_rewriting::sweep;
+use test_shelf::walk;
 
 fn say_list(answer: ListAnswer, lines: &[u8], values: &[u8]) {
     match answer {
@@ -79,6 +83,7 @@ fn run(case: &[u8]) {
         b's' => sweep(case),
         b'r' => rewrite(case),
         b'b' => apply(case),
+        b'w' => walk(case),
         _ => say_heading(case),
     }
 }

@@ -1,0 +1,4 @@
+pub mod Records
+pub mod Keeping
+pub mod Causes
+pub mod Law

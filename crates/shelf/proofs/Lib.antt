@@ -1,0 +1,3 @@
+pub mod Judges
+pub mod Answers
+pub mod Determined

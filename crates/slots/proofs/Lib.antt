@@ -1,0 +1,3 @@
+pub mod Counts
+pub mod Strings
+pub mod Replacing
