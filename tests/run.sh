@@ -6,6 +6,9 @@
 #
 # The library is target/staticlib/libexports.a unless given. A difference ends the run with status 1 and prints the call.
 #
+# The shelf is set against a plain map: as many calls as of the other operations, in walks from a new shelf, each handed what the one before left, and then
+# all buoys read; one call for five of these is made on tables of any bytes, where nothing but safety is compared.
+#
 # Calls of the old form, in which constants have 16 bits, have to be answered as old_form.txt says. With the library as it was before constants had 24 bits
 # that file was made by
 #
@@ -37,6 +40,6 @@ if [ "$status" -ge 124 ]; then
     # The library crashed or did not come back: make the calls again, keeping the last one.
     echo "DIFFERENCE: ended with status $status; the last call:"
     timeout --foreground 900 "$build/compare" calls="$calls" trace="$build/call" "$@" >/dev/null 2>&1 || true
-    if [ -f "$build/call" ]; then cat "$build/call"; else echo "one of the fixed calls (src/cases.rs, src/limits.rs, src/book/limits.rs, old_form.txt)"; fi
+    if [ -f "$build/call" ]; then cat "$build/call"; else echo "one of the fixed calls (src/cases.rs, src/*/limits.rs, src/limits.rs, old_form.txt)"; fi
 fi
 exit "$status"

@@ -40,6 +40,24 @@ extern "C" {
         work: *mut u8, work_length: usize,
         pairs: *mut u64,
     ) -> i64;
+    fn onestep_shelf_put(
+        buoy: usize,
+        recipe: *const u8, recipe_length: usize,
+        directory: *mut u8, directory_length: usize,
+        records: *mut u8, records_length: usize,
+    ) -> i64;
+    fn onestep_shelf_take_out(
+        buoy: usize,
+        directory: *mut u8, directory_length: usize,
+        records: *mut u8, records_length: usize,
+    ) -> i64;
+    fn onestep_shelf_read(
+        buoy: usize,
+        directory: *const u8, directory_length: usize,
+        records: *const u8, records_length: usize,
+        output: *mut u8, output_length: usize,
+    ) -> i64;
+    fn onestep_shelf_count(directory: *const u8, directory_length: usize) -> i64;
 }
 
 pub fn list(pattern: &[u8], recipe: &[u8], lines: &mut [u8], values: &mut [u8], work: &mut [u8]) -> i64 {
@@ -103,4 +121,40 @@ pub fn book(book: &[u8], recipe: &[u8], output: &mut [u8], work: &mut [u8], pair
             pairs,
         )
     }
+}
+
+pub fn shelf_put(buoy: usize, recipe: &[u8], directory: &mut [u8], records: &mut [u8]) -> i64 {
+    unsafe {
+        onestep_shelf_put(
+            buoy,
+            recipe.as_ptr(), recipe.len(),
+            directory.as_mut_ptr(), directory.len(),
+            records.as_mut_ptr(), records.len(),
+        )
+    }
+}
+
+pub fn shelf_take_out(buoy: usize, directory: &mut [u8], records: &mut [u8]) -> i64 {
+    unsafe {
+        onestep_shelf_take_out(
+            buoy,
+            directory.as_mut_ptr(), directory.len(),
+            records.as_mut_ptr(), records.len(),
+        )
+    }
+}
+
+pub fn shelf_read(buoy: usize, directory: &[u8], records: &[u8], output: &mut [u8]) -> i64 {
+    unsafe {
+        onestep_shelf_read(
+            buoy,
+            directory.as_ptr(), directory.len(),
+            records.as_ptr(), records.len(),
+            output.as_mut_ptr(), output.len(),
+        )
+    }
+}
+
+pub fn shelf_count(directory: &[u8]) -> i64 {
+    unsafe { onestep_shelf_count(directory.as_ptr(), directory.len()) }
 }

@@ -1,9 +1,10 @@
-//! Compares the static library with an independent implementation of documents 01 and 02, written without its code, on random calls of all five
+//! Compares the static library with an independent implementation of documents 01 and 02, written without its code, on random calls of all
 //! operations from a fixed seed: the answer and every byte of every lent table.
 //!
 //! - terms, sweep, lister: terms as trees, the sweep, and the plain lister (the equations of one-step matching, all subsets, no pruning)
 //! - tables, operations: bytes and their validity, and list, check, sweep and rewrite with the refusals in the documents' order
 //! - book: the book of rules, with its own calls
+//! - shelf: the shelf as a map, with walks of calls from a new shelf, and tables of any bytes
 //! - library, compare: the C interface, and one call of it compared
 //! - random, palette, generate, damage: random numbers, the constants and variables of a call, random calls, and damage to them
 //! - large: which random calls have constants above 65,535, and what hangs on their top byte
@@ -12,10 +13,11 @@
 //! - definition: listings set against the definition of a full listing, by enumerating small values: one in four of those compared, and those that the
 //!   plain lister is too slow for
 //!
-//! Options: calls=N, books=N (calls of the book; unless given, one for eight of the others), seed=N, steps=N (the limit of the plain lister: of a call that
-//! needs more the library's own listing is set against the definition, and the call isn't counted as compared), only=N, book=N (the one call of that number,
-//! described, of the four operations or of the book), trace=FILE (writes each call to the file before it is made: after a crash the file holds the call),
-//! old_form=FILE (does nothing but write the file of calls of the old form, with the answers of this library: it was made so with the library as it was
+//! Options: calls=N, books=N (calls of the book; unless given, one for eight of the others), shelves=N (calls from new shelves; unless given, as many as of
+//! the others; one for five of these on any bytes), seed=N, steps=N (the limit of the plain lister: of a call that needs more the library's own listing is
+//! set against the definition, and the call isn't counted as compared), only=N, book=N (the one call of that number, described, of the four operations or of
+//! the book), walk=N (the walk of that number, described), trace=FILE (writes each call to the file before it is made: after a crash the file holds the
+//! call), old_form=FILE (does nothing but write the file of calls of the old form, with the answers of this library: it was made so with the library as it was
 //! before constants had 24 bits).
 #![deny(unsafe_code)]
 
@@ -35,6 +37,7 @@ mod old_form;
 mod operations;
 mod palette;
 mod random;
+mod shelf;
 mod sweep;
 mod tables;
 mod terms;
@@ -46,7 +49,7 @@ use std::thread;
 
 /// One listing in this many is set against the definition too.
 const EVERY_LISTING: u64 = 4;
-/// The stack of the thread that makes the calls of the book: a call takes up to 0.8 MB, and the terms are trees here.
+/// The stack of the thread that makes the calls of the shelf and of the book: a call takes up to 0.8 MB, and the terms are trees here.
 const STACK: usize = 16 << 20;
 /// With so many assignments at most.
 const MOST_TRIES: usize = 400;
@@ -54,10 +57,12 @@ const MOST_TRIES: usize = 400;
 struct Options {
     calls: u64,
     books: Option<u64>,
+    shelves: Option<u64>,
     seed: u64,
     steps: usize,
     only: Option<u64>,
     book: Option<u64>,
+    walk: Option<u64>,
     trace: Option<String>,
     old_form: Option<String>,
 }
@@ -66,6 +71,11 @@ impl Options {
     /// How many random calls of the book: unless given, one for eight of the others.
     fn books(&self) -> u64 {
         self.books.unwrap_or(self.calls / 8)
+    }
+
+    /// How many random calls of the shelf: unless given, as many as of the others.
+    fn shelves(&self) -> u64 {
+        self.shelves.unwrap_or(self.calls)
     }
 
     /// Writes a call to the file of the trace, if there is one.
@@ -77,17 +87,30 @@ impl Options {
 }
 
 fn options() -> Options {
-    let mut options = Options { calls: 200_000, books: None, seed: 20_010_412, steps: 20_000, only: None, book: None, trace: None, old_form: None };
+    let mut options = Options {
+        calls: 200_000,
+        books: None,
+        shelves: None,
+        seed: 20_010_412,
+        steps: 20_000,
+        only: None,
+        book: None,
+        walk: None,
+        trace: None,
+        old_form: None,
+    };
     for argument in std::env::args().skip(1) {
         let (name, value) = argument.split_once('=').unwrap_or_else(|| panic!("not name=value: {argument}"));
         let number = || value.parse::<u64>().unwrap_or_else(|_| panic!("no number: {argument}"));
         match name {
             "calls" => options.calls = number(),
             "books" => options.books = Some(number()),
+            "shelves" => options.shelves = Some(number()),
             "seed" => options.seed = number(),
             "steps" => options.steps = number() as usize,
             "only" => options.only = Some(number()),
             "book" => options.book = Some(number()),
+            "walk" => options.walk = Some(number()),
             "trace" => options.trace = Some(value.to_string()),
             "old_form" => options.old_form = Some(value.to_string()),
             _ => panic!("no such option: {argument}"),
@@ -134,6 +157,43 @@ fn main() {
     if let Some(file) = &options.old_form {
         return old_form::draw::write(file, options.seed, options.steps);
     }
+    fixed_calls();
+    if options.walk.is_some() || options.trace.is_some() {
+        shelf::run(&options);
+    }
+    if options.walk.is_some() {
+        return;
+    }
+    if options.book.is_some() || options.trace.is_some() {
+        book::calls::run(&options);
+    }
+    if options.book.is_some() {
+        return;
+    }
+    thread::scope(|threads| {
+        // beside the others, since either takes long; a trace has one call at a time, so that there they were made before
+        let beside = (options.only.is_none() && options.trace.is_none())
+            .then(|| thread::Builder::new().stack_size(STACK).spawn_scoped(threads, || run_beside(&options)).expect("a thread"));
+        let compared = compare_calls(&options, &mut counts);
+        if let Some(beside) = beside {
+            beside.join().expect("the calls of the shelf and of the book end");
+        }
+        if options.only.is_none() {
+            report(&counts);
+            check_coverage(compared, &counts);
+            println!("all {compared} random calls equal");
+        }
+    });
+}
+
+/// The random calls of the shelf and of the book.
+fn run_beside(options: &Options) {
+    shelf::run(options);
+    book::calls::run(options);
+}
+
+/// The calls whose answers are known beforehand; a difference ends the program.
+fn fixed_calls() {
     match cases::run() {
         Ok(calls) => println!("cases 1 to 11 of document 01: {calls} calls, all equal"),
         Err(difference) => fail("in the cases of document 01", &difference),
@@ -146,30 +206,14 @@ fn main() {
         Ok(calls) => println!("calls of the book at its limits: {calls}, all equal"),
         Err(difference) => fail("in the calls of the book at its limits", &difference),
     }
+    match shelf::limits::run() {
+        Ok(calls) => println!("calls of the shelf at its limits: {calls}, all equal"),
+        Err(difference) => fail("in the calls of the shelf at its limits", &difference),
+    }
     match old_form::run() {
         Ok(calls) => println!("{calls} calls of the old form answered as before"),
         Err(difference) => fail("in the calls of the old form", &difference),
     }
-    if options.book.is_some() || options.trace.is_some() {
-        book::calls::run(&options);
-    }
-    if options.book.is_some() {
-        return;
-    }
-    thread::scope(|threads| {
-        // beside the others, since either takes long; a trace has one call at a time, so that there they were made before
-        let books = (options.only.is_none() && options.trace.is_none())
-            .then(|| thread::Builder::new().stack_size(STACK).spawn_scoped(threads, || book::calls::run(&options)).expect("a thread"));
-        let compared = compare_calls(&options, &mut counts);
-        if let Some(books) = books {
-            books.join().expect("the calls of the book end");
-        }
-        if options.only.is_none() {
-            report(&counts);
-            check_coverage(compared, &counts);
-            println!("all {compared} random calls equal");
-        }
-    });
 }
 
 /// Makes the calls of the four operations, and gives how many were compared.
