@@ -1,9 +1,10 @@
 /* onestep: a proved one-step matcher for buoy recipes.
  *
  * Each table is lent as a pointer and a length in bytes. A length of 0 may come with any pointer that is not NULL. The tables that are written (the
- * output table, list's line and value tables, the work area) must not overlap any other table, and nobody else may write to a lent table during a
- * call. The book's number of pairs counts as a table that is written, and its pointer must not be NULL. Every call takes a work area of ONESTEP_TABLE
- * bytes; it is all zero on return, unless its own length was wrong. On a refusal every other table, the number of pairs too, is as it was.
+ * output table, list's line and value tables, the work area, in a put or a take-out the shelf's two tables) must not overlap any other table, and
+ * nobody else may write to a lent table during a call. The book's number of pairs counts as a table that is written, and its pointer must not be NULL.
+ * Every call but the shelf's takes a work area of ONESTEP_TABLE bytes; it is all zero on return, unless its own length was wrong. On a refusal every
+ * other table, the number of pairs too, is as it was.
  *
  * A table holds records of 4 bytes: kind, and a number in three bytes, high byte first. The first of the three, the record's second byte, is the top
  * byte of a constant's number, and 0 in all other kinds. Kinds: 0 application, followed by its head and its argument; 1 abstraction, followed by its
@@ -13,17 +14,22 @@
  * is open) and a value table that the line points into.
  * A book is 1 to ONESTEP_PLACES places of ONESTEP_PLACE bytes, each with a rule: the record counts of its left and its right side, 16 bits each, high
  * byte first, then room for 32 records of the left side and for 32 of the right side. Records behind a count are not read.
+ * A shelf keeps recipes by buoy, 0 to 199, in two tables: a directory of ONESTEP_DIRECTORY bytes and a record table of ONESTEP_TABLE bytes. A new, empty
+ * shelf is a directory of zero bytes and a record table of any bytes. Lend each call both tables as the call before it left them. There is no other
+ * state, so that a program can keep a shelf in a file. What a shelf with other bytes answers is left free; no call goes beyond the tables it is lent.
  *
  * A negative result is minus a refusal number. The one given is the first whose cause holds, in this order: 8; pattern or left side 1, 2, 3; recipe 4
  * to 7; right side 1, 2, 3; then 9, 10 (list), or 11; 12 on the left side; 14; 12 on the right side; 15; 13. Of the book: 8; 16; of each rule in book
  * order left side 1, 2, 3, right side 1, 2, 3; recipe 4 to 7; then pair by pair 9, 10, and of the pair used 12 on the left side, 12 and 15 on the
- * right side, 12 and 15 on the whole; 17; 13.
+ * right side, 12 and 15 on the whole; 17; 13. Of a shelf's put: 18; 8; recipe 4 to 7; 19. Of take-out and read: 18 for a number above 199; 8 of the
+ * directory; 18 for a buoy without a recipe; 8 of the record table; of read then 8 of the output table; 13. Of count: 8.
  *    1 pattern, left or right side: length 0, above 128 bytes, or no multiple of 4; in a book, a count of 0 or above 32
  *    2 one of its records is bad          3 it isn't one tree, or a local lacks a binder
  *    4 recipe: length 0, above 384 bytes, or no multiple of 4
  *    5 one of its records is bad or a variable   6 it isn't one tree, or a local lacks a binder   7 it isn't normal
  *    8 the line isn't 32 bytes, list's line table is no multiple of 32 or above 65,536 bytes, the value or output table is no multiple of 4 or above
- *      65,536 bytes, the book is no multiple of 260 bytes, or the work area isn't 65,536 bytes
+ *      65,536 bytes, the book is no multiple of 260 bytes, the work area or the shelf's record table isn't 65,536 bytes, or the directory isn't
+ *      24,576 bytes or is one whose recipes have more records together than the record table
  *    9 list: the full listing has more lines than the line table has room for; book: a listing has more than 2,048 lines
  *   10 list: the lines have room, but their values have more records than the value table; book: than 16,384
  *   11 check, sweep, rewrite: a variable that occurs has no usable value
@@ -33,6 +39,8 @@
  *   15 rewrite, book: 64 sweeps of the filled right side, or of the book's whole, reach no normal form
  *   16 book: it has no place, or more than 64
  *   17 book: the new recipe is above 96 records
+ *   18 shelf: the buoy is above 199; take-out, read: or has no recipe
+ *   19 put: the kept recipes of the other buoys and the new one have more than 16,384 records together
  */
 #ifndef ONESTEP_H
 #define ONESTEP_H
@@ -44,7 +52,7 @@
 extern "C" {
 #endif
 
-enum { ONESTEP_LINE = 32, ONESTEP_TABLE = 65536, ONESTEP_PLACE = 260, ONESTEP_PLACES = 64 };
+enum { ONESTEP_LINE = 32, ONESTEP_TABLE = 65536, ONESTEP_PLACE = 260, ONESTEP_PLACES = 64, ONESTEP_BUOYS = 200, ONESTEP_DIRECTORY = 24576 };
 
 /* Writes the full listing of the pattern and the recipe, and gives its number of lines: every match agrees with exactly one line in each entry that the
  * line assigns, and whatever values a line's open variables get, the filled pattern sweeps to the recipe. The lines go up by variable 0, then 1, to 7;
@@ -77,6 +85,21 @@ int64_t onestep_rewrite(const uint8_t *left, size_t left_length, const uint8_t *
  * function that takes a recipe takes it. */
 int64_t onestep_book(const uint8_t *book, size_t book_length, const uint8_t *recipe, size_t recipe_length, uint8_t *output, size_t output_length,
                      uint8_t *work, size_t work_length, uint64_t *pairs);
+
+/* Puts the recipe on the shelf, in the place of the one that the buoy had, and gives 1. */
+int64_t onestep_shelf_put(size_t buoy, const uint8_t *recipe, size_t recipe_length, uint8_t *directory, size_t directory_length, uint8_t *table,
+                          size_t table_length);
+
+/* Takes the buoy's recipe out, and gives 1. */
+int64_t onestep_shelf_take_out(size_t buoy, uint8_t *directory, size_t directory_length, uint8_t *table, size_t table_length);
+
+/* Writes the buoy's recipe, the last one that was put and not taken out, and gives its number of records; bytes behind it stay. An output table of 384
+ * bytes is long enough. */
+int64_t onestep_shelf_read(size_t buoy, const uint8_t *directory, size_t directory_length, const uint8_t *table, size_t table_length,
+                           uint8_t *output, size_t output_length);
+
+/* The number of puts and take-outs that were done since the shelf was new; it stays at 4,294,967,295 once there. */
+int64_t onestep_shelf_count(const uint8_t *directory, size_t directory_length);
 
 #ifdef __cplusplus
 }

@@ -67,15 +67,38 @@ extern "C" {
         work_length: usize,
         pairs: *mut u64,
     ) -> i64;
+    fn onestep_shelf_put(
+        buoy: usize,
+        recipe: *const u8,
+        recipe_length: usize,
+        directory: *mut u8,
+        directory_length: usize,
+        table: *mut u8,
+        table_length: usize,
+    ) -> i64;
+    fn onestep_shelf_take_out(buoy: usize, directory: *mut u8, directory_length: usize, table: *mut u8, table_length: usize) -> i64;
+    fn onestep_shelf_read(
+        buoy: usize,
+        directory: *const u8,
+        directory_length: usize,
+        table: *const u8,
+        table_length: usize,
+        output: *mut u8,
+        output_length: usize,
+    ) -> i64;
+    fn onestep_shelf_count(directory: *const u8, directory_length: usize) -> i64;
 }
 
 /// The C type of `onestep_list`.
 pub type List = unsafe extern "C" fn(*const u8, usize, *const u8, usize, *mut u8, usize, *mut u8, usize, *mut u8, usize) -> i64;
 
-/// Bytes of a full line table, value table, output table or work area.
+/// Bytes of a full line table, value table or output table, of a work area, and of a shelf's record table.
 pub const TABLE: usize = 65536;
 /// Bytes of a line: for each variable first record and count of records, 16 bits each.
 pub const LINE: usize = 4 * VARIABLES;
+
+/// Bytes of a shelf's directory.
+pub const DIRECTORY: usize = 24576;
 
 /// A line table and a value table of full size.
 pub struct Tables {
@@ -100,7 +123,7 @@ impl Work {
     }
 }
 
-// SAFETY of the five calls: each table is lent with its own length. Tables that are written come as `&mut`, so they overlap nothing
+// SAFETY of the nine calls: each table is lent with its own length. Tables that are written come as `&mut`, so they overlap nothing
 // else, and nobody else reaches them during the call. That is what `onestep.h` asks of a caller.
 
 pub fn list(pattern: &[u8], recipe: &[u8], out: &mut Tables, work: &mut Work) -> i64 {
@@ -182,4 +205,20 @@ pub fn book(book: &[u8], recipe: &[u8], output: &mut [u8], work: &mut Work, pair
     unsafe {
         onestep_book(book.as_ptr(), book.len(), recipe.as_ptr(), recipe.len(), output.as_mut_ptr(), output.len(), work.0.as_mut_ptr(), work.0.len(), pairs)
     }
+}
+
+pub fn shelf_put(buoy: usize, recipe: &[u8], directory: &mut [u8], table: &mut [u8]) -> i64 {
+    unsafe { onestep_shelf_put(buoy, recipe.as_ptr(), recipe.len(), directory.as_mut_ptr(), directory.len(), table.as_mut_ptr(), table.len()) }
+}
+
+pub fn shelf_take_out(buoy: usize, directory: &mut [u8], table: &mut [u8]) -> i64 {
+    unsafe { onestep_shelf_take_out(buoy, directory.as_mut_ptr(), directory.len(), table.as_mut_ptr(), table.len()) }
+}
+
+pub fn shelf_read(buoy: usize, directory: &[u8], table: &[u8], output: &mut [u8]) -> i64 {
+    unsafe { onestep_shelf_read(buoy, directory.as_ptr(), directory.len(), table.as_ptr(), table.len(), output.as_mut_ptr(), output.len()) }
+}
+
+pub fn shelf_count(directory: &[u8]) -> i64 {
+    unsafe { onestep_shelf_count(directory.as_ptr(), directory.len()) }
 }

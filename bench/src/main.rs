@@ -1,9 +1,10 @@
 //! Benchmark of the proved matcher. `run.sh` compiles and runs it.
 //!
-//!     bench CASES [--limit MILLISECONDS] [--hard [--show COUNT]] [--case NAME] [--part NAME --from NUMBER]
+//!     bench CASES [--limit MILLISECONDS] [--hard [--show COUNT]] [--shelf] [--case NAME] [--part NAME --from NUMBER]
 //!
 //! CASES is the folder of cases; the limit is what one search of (a), (b) or (c) may take (2000). With `--hard` only the tables of hard and of random cases
-//! are printed, and with `--show` some of the random cases that were stopped. `--case`, `--part` and `--from` are for the child processes.
+//! are printed, and with `--show` some of the random cases that were stopped; with `--shelf` only the table of the shelf. `--case`, `--part` and `--from`
+//! are for the child processes.
 
 mod book;
 mod cases;
@@ -20,6 +21,8 @@ mod measure;
 mod operations;
 mod plain;
 mod random;
+mod shelf;
+mod shelves;
 mod terms;
 mod timing;
 mod tuned;
@@ -34,6 +37,7 @@ struct Arguments {
     limit: Duration,
     case: Option<String>,
     is_hard: bool,
+    is_shelf: bool,
     show: usize,
     part: Option<String>,
     from: usize,
@@ -45,9 +49,9 @@ fn main() {
         run_part(&part, arguments.from);
         return;
     }
-    if arguments.is_hard {
+    if arguments.is_hard || arguments.is_shelf {
         timing::print_noise("before");
-        let all_right = hard::print() & full_size::print(arguments.show);
+        let all_right = if arguments.is_hard { hard::print() & full_size::print(arguments.show) } else { shelf::print() };
         println!();
         timing::print_noise("after");
         end_with(all_right);
@@ -65,6 +69,7 @@ fn main() {
     all_right &= operations::print(&cases);
     all_right &= operations::print_by_sweeps();
     all_right &= book::print();
+    all_right &= shelf::print();
     all_right &= growth::print_by_records(arguments.limit);
     all_right &= growth::print_by_lines(arguments.limit);
     all_right &= growth::print_long_listings(arguments.limit);
@@ -90,12 +95,13 @@ fn run_part(part: &str, from: usize) {
 fn read_arguments() -> Arguments {
     let mut words = env::args().skip(1);
     let folder = PathBuf::from(words.next().expect("the folder of cases"));
-    let mut arguments = Arguments { folder, limit: Duration::from_millis(2000), case: None, is_hard: false, show: 0, part: None, from: 0 };
+    let mut arguments = Arguments { folder, limit: Duration::from_millis(2000), case: None, is_hard: false, is_shelf: false, show: 0, part: None, from: 0 };
     while let Some(word) = words.next() {
         let mut value = || words.next().expect("something behind the option");
         match word.as_str() {
             "--limit" => arguments.limit = Duration::from_millis(value().parse().expect("milliseconds")),
             "--hard" => arguments.is_hard = true,
+            "--shelf" => arguments.is_shelf = true,
             "--show" => arguments.show = value().parse().expect("a number of cases"),
             "--case" => arguments.case = Some(value()),
             "--part" => arguments.part = Some(value()),

@@ -123,7 +123,7 @@ pub fn print_noise(when: &str) {
     let clearing = alone(|| black_box(&mut area).fill(0));
     let (best, most) = (samples[0], samples[samples.len() - 1]);
     println!("machine noise {when}: 200 times the same work: best {best:.1} µs, median {middle:.1} µs, most {most:.1} µs;");
-    println!("clearing 65,536 bytes, as each call of the library does: best {:.2} µs, median {:.2} µs", clearing.best, clearing.median);
+    println!("clearing 65,536 bytes, as each call of the library but the shelf's does: best {:.2} µs, median {:.2} µs", clearing.best, clearing.median);
 }
 
 fn fixed_work() -> u64 {

@@ -38,6 +38,8 @@ static const char *const causes[] = {
     "64 sweeps reach no normal form",
     "the book has no place, or more than 64",
     "the new recipe is above 96 records",
+    "the shelf has no such buoy, or no recipe of it",
+    "the shelf has no room for the recipe",
 };
 
 static int read_term(struct term *term, const char *folder, const char *name) {

@@ -22,7 +22,7 @@ const VARIABLES: usize = 8;
 const LINE: usize = ENTRY * VARIABLES;
 const TABLE: usize = 65_536;
 
-const CAUSES: [&str; 17] = [
+const CAUSES: [&str; 19] = [
     "the pattern or right side has no record, more than 32, or a record cut short",
     "a record of the pattern or right side is bad",
     "the pattern or right side is not one term, or a local has no binder",
@@ -40,6 +40,8 @@ const CAUSES: [&str; 17] = [
     "64 sweeps reach no normal form",
     "the book has no place, or more than 64",
     "the new recipe is above 96 records",
+    "the shelf has no such buoy, or no recipe of it",
+    "the shelf has no room for the recipe",
 ];
 
 /// A count, or why the operation refused.

@@ -1,7 +1,7 @@
 #!/bin/sh
 # run.sh [path of the static library]: builds rewrite.c and rewrite.rs, runs both on the examples and on some terms that are refused, and compares what they
-# print with the file `printed`; builds and runs book.c, and compares what it prints with the file `printed_book`. Both files were checked by hand. The
-# library is target/staticlib/libexports.a unless given.
+# print with the file `printed`; builds and runs book.c and shelf.c, and compares what they print with the files `printed_book` and `printed_shelf`. All
+# three files were checked by hand. The library is target/staticlib/libexports.a unless given.
 set -eu
 here=$(cd "$(dirname "$0")" && pwd)
 top=$here/../..
@@ -14,6 +14,7 @@ trap 'exit 1' HUP INT TERM
 cc -std=c11 -Wall -Wextra -Werror -I"$top/include" "$here/rewrite.c" "$library" -o "$room/rewrite_c"
 rustc --edition 2021 -O -D warnings "$here/rewrite.rs" -C link-arg="$library" -o "$room/rewrite_rs"
 cc -std=c11 -Wall -Wextra -Werror -I"$top/include" "$here/book.c" "$library" -o "$room/book_c"
+cc -std=c11 -Wall -Wextra -Werror -I"$top/include" "$here/shelf.c" "$library" -o "$room/shelf_c"
 
 # term NAME TEXT: a file of records in the folder of the terms that are refused.
 term() {
@@ -62,4 +63,6 @@ for program in rewrite_c rewrite_rs; do
 done
 "$room/book_c" >"$room/printed" || echo "status $?" >>"$room/printed"
 compare book_c printed_book
+"$room/shelf_c" "$room" >"$room/printed" || echo "status $?" >>"$room/printed"
+compare shelf_c printed_shelf
 echo "examples/link: the programs print what they should"
