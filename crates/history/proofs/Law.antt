@@ -13,10 +13,9 @@ use Rattle.terms.proofs.Refusal.{passed-first}
 use Rattle.refusals.specs.Judged.{number}
 use Rattle.refusals.specs.Lent.{overwritten}
 use Rattle.slots.specs.Slots.{total}
-use Rattle.slots.proofs.Counts.{total-set}
 use Rattle.storage.specs.Storage.{countsOf, recipeOf, directoryRows, roomRows}
 use Rattle.storage.specs.Steps.{Storable}
-use Rattle.storage.proofs.Tables.{counts-length}
+use Rattle.storage.proofs.Storing.{none-storable}
 use Rattle.shelf.specs.declared.PutAnswer.{PutAnswer}
 use Rattle.shelf.specs.declared.TakeOutAnswer.{TakeOutAnswer}
 use Rattle.shelf.specs.declared.ReadAnswer.{ReadAnswer}
@@ -61,19 +60,6 @@ module _ (cs : List Call) (d t d′ t′ : List ℕ) (i : Keeps cs d t) where
       few : (n : ℕ) → ¬ (shelfRecords < n) → n ≤ shelfRecords
       few n h = omega arith
 
-  none-storable : (b : ℕ) → b < buoys → Storable changes b [] d t
-  none-storable b h =
-      let n = counts-length d (i .shelf .directory) in
-      record {
-        counter = omega arith;
-        within = h;
-        shelf = i .shelf;
-        records = 0;
-        whole = refl;
-        most = omega arith;
-        room = omega (arith, total-set (countsOf d) b 0 (omega arith), i .shelf .directory .fits);
-      }
-
   step : (c : Call) → Step c d t d′ t′ → Right cs c × Keeps (c ∷ cs) d′ t′
   unfolding Step Right Put TakenOut ReadOut Counted
   step (put b r PutAnswer.Yes) s = (
@@ -87,8 +73,8 @@ module _ (cs : List Call) (d t d′ t′ : List ℕ) (i : Keeps cs d t) where
   )
   step (takeOut b TakeOutAnswer.Yes) s = (
     take-out-passed cs d t i b (s .0),
-    change-keeps cs d t i b [] d′ t′ (none-storable b (omega (arith, s .0 .0))) (s .1) (takeOut b TakeOutAnswer.Yes) (inl refl)
-        (λ k. refl) refl,
+    change-keeps cs d t i b [] d′ t′ (none-storable changes b d t (omega arith) (omega (arith, s .0 .0)) (i .shelf)) (s .1)
+        (takeOut b TakeOutAnswer.Yes) (inl refl) (λ k. refl) refl,
   )
   step (takeOut b (TakeOutAnswer.Refused c)) s = (
     take-out-refused cs d t i b (number c) (s .0),

@@ -16,10 +16,9 @@ use Rattle.refusals.specs.declared.Verdict.{Verdict}
 use Rattle.refusals.specs.Judged.{number, Judged, firstOf, tableRow}
 use Rattle.refusals.specs.Lent.{overwritten}
 use Rattle.refusals.proofs.Judging.{judged-first, verdict-refused, verdict-passed, right-known}
-use Rattle.slots.proofs.Counts.{total-set}
-use Rattle.storage.specs.Storage.{counterNumber, countsOf, countOf, recipeOf, directoryRows, Stored}
+use Rattle.storage.specs.Storage.{counterNumber, countOf, recipeOf, directoryRows, Stored}
 use Rattle.storage.specs.Steps.{Directory, Shelf, Storable}
-use Rattle.storage.proofs.Tables.{counts-length}
+use Rattle.storage.proofs.Storing.{none-storable}
 use Rattle.shelf.specs.declared.PutAnswer.{PutAnswer}
 use Rattle.shelf.specs.declared.TakeOutAnswer.{TakeOutAnswer}
 use Rattle.shelf.specs.declared.ReadAnswer.{ReadAnswer}
@@ -57,18 +56,7 @@ module _ (b : ℕ) (d t : List ℕ) (v : Verdict) (x : Judged (takeOutRows b d t
   take-out-refused c e = (verdict-refused _ _ v x c e, refl, refl)
 
   pub take-out-storable : v ≡ Verdict.Right → (i : ℕ) → i < counterNumber → Storable i b [] d t
-  take-out-storable e i h =
-      let k = right-known _ _ v x e in
-      let n : b < length (countsOf d) = omega (arith, counts-length d (k .shelf .directory), k .within) in
-      record {
-        counter = h;
-        within = k .within;
-        shelf = k .shelf;
-        records = 0;
-        whole = refl;
-        most = omega arith;
-        room = omega (arith, total-set (countsOf d) b 0 n, k .shelf .directory .fits);
-      }
+  take-out-storable e i h = let k = right-known _ _ v x e in none-storable i b d t h (k .within) (k .shelf)
 
   pub take-out-done : v ≡ Verdict.Right → (d′ t′ : List ℕ) → Stored changes b [] d t d′ t′ → TakenOut b d t TakeOutAnswer.Yes d′ t′
   unfolding TakenOut

@@ -1,7 +1,7 @@
 -- A recipe stored: the part of the directory that has the counts is written, and then a counter. The tables are those of a shelf again, and
 -- no other recipe has changed. Assumes nothing.
-use mathlib.Core.Path.{_≡_, sym, ap, ap₂, _∙_}
-use mathlib.Core.List.{List, _++_}
+use mathlib.Core.Path.{_≡_, refl, sym, ap, ap₂, _∙_}
+use mathlib.Core.List.{List, [], _++_}
 use Prim.Native.Nat.{ℕ, _+_, _*_, _/_, _<_}
 use native.Mathlib.Omega.{arith}
 use lib.ListN.{length, drop, set, getD, length-set, take-append-drop}
@@ -9,12 +9,27 @@ use lib.Seq.{sets, set-append-left, length-sets, take-set-lt, getD-set-other}
 use Rattle.terms.specs.Figures.{words, buoys}
 use Rattle.copying.proofs.Stores.{take-sets}
 use Rattle.slots.specs.Slots.{cut, joined, replaced, Replaceable}
+use Rattle.slots.proofs.Counts.{total-set}
 use Rattle.slots.proofs.Replacing.{cut-replaced}
 use Rattle.counters.specs.Counters.{counterBytes, raised, countAt}
 use Rattle.counters.proofs.Bytes.{count-stored}
-use Rattle.storage.specs.Storage.{countsOf, counterAt, countOf, held, Stored}
+use Rattle.storage.specs.Storage.{countsOf, counterNumber, counterAt, countOf, held, Stored}
 use Rattle.storage.specs.Steps.{Shelf, Storable}
 use Rattle.storage.proofs.Tables.{counts-length, shelf-bounds}
+
+-- no bytes have room in any buoy's place
+pub none-storable : (k b : ℕ) (d t : List ℕ) → k < counterNumber → b < buoys → Shelf d t → Storable k b [] d t
+none-storable k b d t g h s =
+    let n : b < length (countsOf d) = omega (arith, counts-length d (s .directory)) in
+    record {
+      counter = g;
+      within = h;
+      shelf = s;
+      records = 0;
+      whole = refl;
+      most = omega arith;
+      room = omega (arith, total-set (countsOf d) b 0 n, s .directory .fits);
+    }
 
 module _ (k b : ℕ) (r d t : List ℕ) (h : Storable k b r d t) where
   within-counts : b < length (countsOf d)
