@@ -4,12 +4,13 @@ case, types and modules in camel case, and ' for a prime. Names of the library a
 top, behind the script that brings an older repository over. It prints names that fall together."""
 import collections
 import glob
+import os
 import re
 
 TOKEN = re.compile(r"[^\s(){}\[\];,.\"`«»]+")
 IMPORT = re.compile(r"^(?:pub )?(?:ghost )?use ([^\s{;]+?)(?:\.\{([^}]*)\})?(?: as \S+)?;?$", re.M)
 DECLARED = re.compile(
-    r"^\s*(?:\| )?(?:unfoldable )?(?:abbrev )?(?:pub )?(?:abbrev |unfoldable |data |record |ruleset )?(?:pub )?([^\s(){}:,;=]+)(?: [({][^:]*:[^=]*)?\s*:(?![:=])",
+    r"^\s*(?:\| )?(?:unfoldable )?(?:abbrev )?(?:pub )?(?:abbrev |unfoldable |data |record |ruleset )?(?:pub )?([^\s(){}:,;=]+)(?: [({][^:\n]*:[^=\n]*)?[ \n]*:(?![:=])",
     re.M)
 # Lemmas that would have the name of a function, and one abbreviation that would have that of another.
 LEMMAS = {n: n.replace("-", "_") + "_lem" for n in (
@@ -44,6 +45,10 @@ def is_old(name):
                 or (name[0].islower() and re.search(r"[a-z][A-Z]", name)))
 
 
+def is_own_file(parts):
+    return os.path.exists("/".join(["crates"] + parts[1:]) + ".antt")
+
+
 def imported(text, own):
     """Names that a file has from outside of this repository, or from generated modules."""
     names = set()
@@ -51,7 +56,7 @@ def imported(text, own):
         parts = m.group(1).split(".")
         if m.group(2) is None:
             continue
-        mine = parts[0] == "Rattle" and parts[1] in own and not GENERATED & set(parts) and not any("Lts" in p for p in parts)
+        mine = parts[0] == "Rattle" and parts[1] in own and (is_own_file(parts) or not GENERATED & set(parts)) and not any("Lts" in p for p in parts)
         if not mine:
             names |= {w.strip().split(" as ")[0] for w in m.group(2).split(",")} | {w.strip().split(" as ")[-1] for w in m.group(2).split(",")}
     return {n for n in names if n}

@@ -10,6 +10,8 @@
 // each body is written in one pass over the target. It costs writing the part before the last choice again. A benchmark in which writing
 // bodies dominates would change that.
 
+#![tactic(auto)]
+
 ghost use Rattle.std.specs.Prelude.{◌≡◌, ◌+◌, ◌≤◌, ◌<◌, length};
 ghost use Rattle.terms.specs.Figures.{table_bytes};
 ghost use Rattle.terms.specs.Term.{shift};
@@ -20,7 +22,7 @@ ghost use Rattle.abstractions.specs.Occurrences.{DepthSource, WroteDepths, Looks
 use records::{Kind, RECORD, Walk};
 
 // How many bytes a part takes, and how many copies of a term it has.
-#[derive(Drop)]
+#[derive(Clone, Copy)]
 pub struct Counted {
     pub length: usize,
     pub count: usize,
@@ -59,7 +61,7 @@ pub fn copies(s: &[u8], d: usize, e: &[u8]) -> Counted
 }
 
 // How many bytes a part takes, where what is written for it ends, and the number of the next choice.
-#[derive(Drop)]
+#[derive(Clone, Copy)]
 pub struct Built {
     pub length: usize,
     pub end: usize,
@@ -170,7 +172,7 @@ fn is_copy(s: &[u8], e: &[u8], d: usize) -> bool
 
 // What looking for a copy among the first parts comes to: there is none, and so many of them are left behind the part that was looked
 // through, or one is found.
-#[derive(Drop)]
+#[derive(Clone, Copy)]
 enum Look {
     Left(usize),
     Found,

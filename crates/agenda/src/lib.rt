@@ -13,6 +13,8 @@
 // Longer patterns or recipes would change that. Types that several crates of the search share stand here: the kit wants no type whose name
 // is a function's but for its capital.
 
+#![tactic(auto)]
+
 pub mod heads;
 pub mod locals;
 
@@ -22,7 +24,7 @@ ghost use Rattle.terms.specs.Term.{Term};
 ghost use Rattle.records.specs.Parts.{Part};
 ghost use Rattle.heights.specs.Heights.{heights};
 ghost use Rattle.agenda.specs.State.{goal_bytes, height_bytes, heights_place, WrittenTarget};
-ghost use Rattle.agenda.specs.Stored.{stored_bytes, StoredAt, StoredFits, storedMatch, stored_build};
+ghost use Rattle.agenda.specs.Stored.{stored_bytes, StoredAt, StoredFits, stored_match, stored_build};
 
 use assignments::Span;
 use records::{RECORD, VALUE_RECORDS};
@@ -30,7 +32,7 @@ use sweeping::SWEPT_BYTES;
 
 // Where a search stands in the work area: the first free byte, and where its two lists of goals begin (0: none is left). Easy goals have
 // one way to go on; the others are deferred until no easy one is left.
-#[derive(Drop)]
+#[derive(Clone, Copy)]
 pub struct Agenda {
     pub top: usize,
     pub easy: usize,
@@ -38,7 +40,7 @@ pub struct Agenda {
 }
 
 // A variable that takes a value, and the agenda then.
-#[derive(Drop)]
+#[derive(Clone, Copy)]
 pub struct Binding {
     pub variable: usize,
     pub span: Span,
@@ -46,7 +48,7 @@ pub struct Binding {
 }
 
 // What taking the first easy goal comes to: no assignment satisfies it, or the agenda that is left, perhaps with a variable assigned.
-#[derive(Drop)]
+#[derive(Clone, Copy)]
 pub enum Step {
     Failed,
     Left(Agenda),
@@ -54,14 +56,14 @@ pub enum Step {
 }
 
 // What one alternative of a goal comes to.
-#[derive(Drop)]
+#[derive(Clone, Copy)]
 pub enum Branch {
     Failed,
     Next(Agenda),
 }
 
 // What is known of the swept form of a part while some variables are open: a term with holes that it fits, as so many bytes.
-#[derive(Drop)]
+#[derive(Clone, Copy)]
 pub struct Skeleton {
     pub bytes: [u8; SWEPT_BYTES],
     pub length: usize,
@@ -70,7 +72,7 @@ pub struct Skeleton {
 // What is known of an application that was deferred, before its ways are gone through: how many there are, where its argument begins in the
 // pattern, whether the argument has a rigid head, its skeleton, whether the application's head lacks a local of the target, and how many
 // binders stand above each record of the target.
-#[derive(Drop)]
+#[derive(Clone, Copy)]
 pub struct Ways {
     pub count: usize,
     pub argument: usize,
@@ -81,7 +83,7 @@ pub struct Ways {
 }
 
 // What a test of deferred goals comes to: no assignment satisfies them, or the agenda that is left, or that the test doesn't apply.
-#[derive(Drop)]
+#[derive(Clone, Copy)]
 pub enum Decision {
     Failed,
     Next(Agenda),
@@ -89,7 +91,7 @@ pub enum Decision {
 }
 
 // What a goal to build comes to: as one alternative, or that the bodies are to be gone through, one for each choice among so many copies.
-#[derive(Drop)]
+#[derive(Clone, Copy)]
 pub enum Plan {
     Failed,
     Next(Agenda),
@@ -102,7 +104,7 @@ pub enum Plan {
 //
 // Without an argument the part has to sweep to the target. A goal to build has one: its part has to sweep to an abstraction that uses its
 // local and comes to the target with the argument put in.
-#[derive(Drop)]
+#[derive(Clone, Copy)]
 pub struct StoredGoal {
     pub part: usize,
     pub origin: usize,
@@ -122,7 +124,7 @@ pub const HEIGHT_BYTES: usize = VALUE_RECORDS;
 
 // The goal that a part sweeps to a target, which is one that begins at `origin` or a part of it.
 pub fn match_goal(part: usize, origin: usize, target: usize, next: usize) -> StoredGoal
-    ensures { result ≡ storedMatch part origin target next }
+    ensures { result ≡ stored_match part origin target next }
 {
     StoredGoal {
         part,

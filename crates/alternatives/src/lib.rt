@@ -9,6 +9,8 @@
 // target's part j. One function takes a number and leaves the next agenda, so that the loop over them has one law. What is known of an
 // application is found once, before its ways are gone through.
 
+#![tactic(auto)]
+
 ghost use Rattle.std.specs.Prelude.{◌+◌, ◌<◌};
 ghost use Rattle.arguments.specs.Applications.{ApplicationDeferred, WaysCounted};
 ghost use Rattle.arguments.specs.Ways.{Way};

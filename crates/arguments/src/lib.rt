@@ -9,6 +9,8 @@
 // Of parts that give the same argument the first one counts. A part whose head differs from a rigid argument's is passed over before
 // anything is written: most parts of most targets.
 
+#![tactic(auto)]
+
 ghost use Rattle.std.specs.Prelude.{suc, ◌+◌, ◌<◌};
 ghost use Rattle.abstractions.specs.Occurrences.{DepthOf};
 ghost use Rattle.arguments.specs.Applications.{ApplicationDeferred, WaysCounted, ArgumentPlace, Placed, ArgumentRoom, ArgumentPushed};

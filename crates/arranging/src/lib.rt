@@ -4,6 +4,8 @@
 // their values are laid out anew behind one another. The crate promises that the tables are those of the same lines in order, with nothing
 // else changed. It rests on `listing` for how a line and its values stand, and on `copying` for bytes.
 
+#![tactic(auto)]
+
 ghost use Rattle.std.specs.Prelude.{◌≡◌, ◌+◌, ◌<◌, length, take, drop};
 ghost use Rattle.terms.specs.Figures.{variables};
 ghost use Rattle.terms.specs.Listing.{Lexicographic};
@@ -17,7 +19,7 @@ use assignments::Entry;
 use records::{LINE, RECORD, VARIABLES};
 
 // How one thing stands to another in an order.
-#[derive(Drop)]
+#[derive(Clone, Copy)]
 enum Comparison {
     Earlier,
     Same,
@@ -114,7 +116,7 @@ fn left_is_next(a: &[u8], i: usize, b: &[u8], j: usize, values: &[u8]) -> bool
 }
 
 // Where the lines that are left of two tables begin.
-#[derive(Drop)]
+#[derive(Clone, Copy)]
 struct MergePlaces {
     left: usize,
     right: usize,

@@ -7,6 +7,8 @@
 // The entries stand in a crate of their own between `records` and `sweeping`, because the sweep reads them and the search passes the same
 // entries on.
 
+#![tactic(auto)]
+
 ghost use Rattle.std.specs.Prelude.{◌≡◌, ◌+◌, ◌*◌, ◌≤◌, ◌<◌, length, take, drop};
 ghost use Rattle.terms.specs.Figures.{variables};
 ghost use Rattle.terms.specs.Term.{Term};
@@ -16,14 +18,14 @@ ghost use Rattle.assignments.specs.Entries.{entry_at, Read, Given, VariableAt, M
 use records::{Kind, RECORD, VALUE_RECORDS, VARIABLES};
 
 // A run of records of a value table.
-#[derive(Drop)]
+#[derive(Clone, Copy)]
 pub struct Span {
     pub first: usize,
     pub count: usize,
 }
 
 // What an assignment has for one variable.
-#[derive(Drop)]
+#[derive(Clone, Copy)]
 pub enum Entry {
     Open,
     Assigned(Span),

@@ -10,6 +10,8 @@
 // full tables, so that they are made once for all pairs. The constant stands in the last record of the value table, behind all values of
 // line 0, which have at most 160 records each.
 
+#![tactic(auto)]
+
 ghost use Rattle.std.specs.Prelude.{◌≡◌, ◌+◌, ◌*◌, ◌≤◌, ◌<◌, length};
 ghost use Rattle.terms.specs.Figures.{variables, words};
 ghost use Rattle.terms.specs.Term.{Term};
@@ -26,7 +28,7 @@ use refusals::{Refusal, Verdict};
 use sweeping::{Length, SWEPT_BYTES};
 
 // What comes of a pair: it is passed over, the part becomes a form of so many records, or the search is refused.
-#[derive(Drop)]
+#[derive(Clone, Copy)]
 pub enum PairAnswer {
     PassedOver,
     Records(usize),

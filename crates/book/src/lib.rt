@@ -8,6 +8,8 @@
 //
 // The rules are judged only if there are at most 64 places, since each place takes a call within a call.
 
+#![tactic(auto)]
+
 ghost use Rattle.std.specs.Prelude.{◌≡◌, ◌/◌, ◌≤◌, length};
 ghost use Rattle.terms.specs.Figures.{table_bytes, place_bytes, most_places};
 ghost use Rattle.terms.specs.Term.{Term};
@@ -26,7 +28,7 @@ use scanning::SearchAnswer;
 use sweeping::SWEPT_BYTES;
 
 // What the operation answers: the new recipe's records and the number of pairs, or a refusal.
-#[derive(Drop)]
+#[derive(Clone, Copy)]
 pub enum BookAnswer {
     Records(usize, usize),
     Refused(Refusal),

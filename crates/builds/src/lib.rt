@@ -7,6 +7,8 @@
 //
 // Where the argument uses a local that the head lacks, the one body left is written with every choice made.
 
+#![tactic(auto)]
+
 ghost use Rattle.std.specs.Prelude.{◌≤◌, length};
 ghost use Rattle.agenda.specs.State.{Ready, relinking};
 ghost use Rattle.builds.specs.Choices.{ChosenBody, Planned};

@@ -4,6 +4,8 @@
 // The crate promises that nothing but the copied or moved bytes changes, where the two places of a move may overlap, and that the answer
 // says whether the tables are equal. It rests on nothing.
 
+#![tactic(auto)]
+
 ghost use Rattle.std.specs.Prelude.{◌≡◌, ◌+◌, ◌≤◌, length};
 ghost use Rattle.std.proofs.lemmas.List.Edits.{sets};
 ghost use Rattle.copying.specs.Equality.{Same};

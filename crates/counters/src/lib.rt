@@ -3,6 +3,8 @@
 // The crate promises what a counter's number is, and that adding one to it changes its four bytes alone. It rests on `records` for the
 // numbers of two bytes.
 
+#![tactic(auto)]
+
 ghost use Rattle.std.specs.Prelude.{◌≡◌, ◌+◌, ◌≤◌, length};
 ghost use Rattle.std.proofs.lemmas.List.Edits.{sets};
 ghost use Rattle.terms.specs.Figures.{ceiling};

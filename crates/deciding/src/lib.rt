@@ -10,6 +10,8 @@
 // open, and where the value of an assigned variable drops the open ones. Sweeping needs locals of small numbers; a state doesn't say that
 // of the pattern, so the walk that finds the part's end asks it. A part with a form above 256 records is left to the search.
 
+#![tactic(auto)]
+
 ghost use Rattle.terms.specs.Figures.{pattern_records};
 ghost use Rattle.records.specs.Tests.{Asks, Walked};
 ghost use Rattle.records.specs.declared.Ask.TheVariants.{Bound};

@@ -11,6 +11,8 @@
 // every call the clearing of 128 KB. So the first search has room for 128 lines and 8,192 records, and only a longer listing takes the
 // second, with 128 KB on the stack. A station with a smaller stack would change that.
 
+#![tactic(auto)]
+
 ghost use Rattle.std.specs.Prelude.{◌≡◌, ◌*◌, ◌≤◌, length};
 ghost use Rattle.terms.specs.Figures.{variables, table_bytes};
 ghost use Rattle.records.specs.Tests.{Says};
@@ -24,7 +26,7 @@ use refusals::Refusal;
 use sweeping::Length;
 
 // What list answers: the number of lines, or a refusal.
-#[derive(Drop)]
+#[derive(Clone, Copy)]
 pub enum ListAnswer {
     Lines(usize),
     Refused(Refusal),

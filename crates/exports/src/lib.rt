@@ -12,6 +12,8 @@
 // because the kit builds a static library only from a crate that the same command checks: `rt staticlib exports` after `rt ci` proves these
 // ten functions again, and not the crates below. A kit that builds a static library from an rlib would change that.
 
+#![tactic(auto)]
+
 ghost use Rattle.std.specs.Prelude.{◌≡◌};
 ghost use Rattle.refusals.specs.Lent.{cleared};
 ghost use Rattle.exports.specs.Answers.{refusal_code, ListedAs, NineAs, CheckedAs, SweptAs, RewrittenAs, BookedAs};

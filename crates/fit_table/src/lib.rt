@@ -5,6 +5,8 @@
 // but that row or that column is written. So a table that was right stays right (`proofs/Afresh`). It rests on `fitting` for the question
 // itself, on `rules` for the sides of a book and on `storage` for the recipes of a shelf.
 
+#![tactic(auto)]
+
 ghost use Rattle.std.specs.Prelude.{◌≡◌, ◌<◌, length};
 ghost use Rattle.terms.specs.Figures.{table_bytes, most_places, buoys};
 ghost use Rattle.records.specs.Checks.{Pattern};

@@ -8,6 +8,8 @@
 // Two heads are read in a small part of the time that a search takes, and most rules have another head than most recipes: so they are read
 // first. Before a pair of the book is listed the same is asked, so that the test of heads is public.
 
+#![tactic(auto)]
+
 ghost use Rattle.records.specs.Tests.{Says};
 ghost use Rattle.records.specs.Checks.{Pattern, Recipe};
 ghost use Rattle.fitting.specs.Fitting.{HasMatch};

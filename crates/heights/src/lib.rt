@@ -10,6 +10,8 @@
 // them are its own. Beside the heights that are written, those of the row are kept: a record takes those of its parts from the front and
 // puts its own there. The first of the row is held in a variable, so that no record has to wait until the one behind it is stored.
 
+#![tactic(auto)]
+
 ghost use Rattle.std.specs.Prelude.{◌≡◌, ◌+◌, ◌-◌, max, get_or};
 ghost use Rattle.std.proofs.lemmas.List.Edits.{sets};
 ghost use Rattle.terms.specs.Term.{Term};
@@ -40,7 +42,7 @@ fn outside(h: u8) -> u8
 }
 
 // The height of a part, and where the row then begins of which it is the first.
-#[derive(Drop)]
+#[derive(Clone, Copy)]
 struct Front {
     height: u8,
     first: usize,

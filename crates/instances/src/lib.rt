@@ -4,6 +4,8 @@
 // whatever follows behind; how a walk over two parts ends is told here for other walks too. The crate promises its answer for the very
 // terms that stand there. It rests on `records` for single records and parts, and on `shifting` for a copy of the term that is put in.
 
+#![tactic(auto)]
+
 ghost use Rattle.std.specs.Prelude.{◌≡◌, get_or};
 ghost use Rattle.terms.specs.Table.{local_kind};
 ghost use Rattle.instances.specs.Instances.{both_further, NearBoth, Substitutes, Substituted};
@@ -11,14 +13,14 @@ ghost use Rattle.instances.specs.Instances.{both_further, NearBoth, Substitutes,
 use records::{Kind, RECORD, Walk};
 
 // How many bytes two parts take.
-#[derive(Drop)]
+#[derive(Clone, Copy)]
 pub struct Places {
     pub first: usize,
     pub second: usize,
 }
 
 // How a walk over two parts ends: behind both, or where they differ.
-#[derive(Drop)]
+#[derive(Clone, Copy)]
 pub enum Pairing {
     Upto(Places),
     No,

@@ -12,5 +12,7 @@
 // have `#0` and `@ #1 k5` for the second), and an argument that holds open variables isn't known yet. Rules of planners that need it for
 // more than constants would change that.
 
+#![tactic(auto)]
+
 pub mod joining;
 pub mod pairs;

@@ -11,7 +11,7 @@ use records::{Kind, RECORD};
 
 // The constants of two applications of one variable, in pairs: the variable stands at bytes `first` and `second` of the pattern, and
 // `count` constants behind it at each.
-#[derive(Drop)]
+#[derive(Clone, Copy)]
 pub struct Pairs {
     pub first: usize,
     pub second: usize,
@@ -19,14 +19,14 @@ pub struct Pairs {
 }
 
 // What two parts of the pattern are: one variable applied to pairs of constants, which differ, or anything else.
-#[derive(Drop)]
+#[derive(Clone, Copy)]
 pub enum Spines {
     Apart(Pairs),
     Other,
 }
 
 // The local that stands for two constants, or that they are none of the pairs.
-#[derive(Drop)]
+#[derive(Clone, Copy)]
 pub enum Found {
     Local(usize),
     Nothing,

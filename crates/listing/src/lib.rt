@@ -8,6 +8,8 @@
 // There is no mode that only counts and no flag: a found line is always counted, and written where it fits. Lines are stored as they are
 // found in the layout of a listing, so that one definition of the layout serves these tables and those in order (`arranging`).
 
+#![tactic(auto)]
+
 ghost use Rattle.std.specs.Prelude.{◌≡◌, [], ◌+◌, ◌≤◌, ◌<◌, length};
 ghost use Rattle.std.proofs.lemmas.List.Edits.{sets};
 ghost use Rattle.terms.specs.Figures.{words};
@@ -19,7 +21,7 @@ use assignments::Entry;
 use records::{LINE, RECORD, VARIABLES};
 
 // How many lines were found, and how many records their values have.
-#[derive(Drop)]
+#[derive(Clone, Copy)]
 pub struct Tally {
     pub lines: usize,
     pub records: usize,

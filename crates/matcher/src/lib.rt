@@ -9,6 +9,8 @@
 // What a planner has to believe is the contract of `list`, which rests on `specs/Operations`, `enumeration/specs/Written`, `refusals/specs`
 // and `terms/specs` alone. The contracts of the search below cite the theory of `matching`; no promise of `list` does.
 
+#![tactic(auto)]
+
 ghost use Rattle.std.specs.Prelude.{◌≡◌};
 ghost use Rattle.refusals.specs.Judged.{Judged};
 ghost use Rattle.refusals.specs.Lent.{cleared};

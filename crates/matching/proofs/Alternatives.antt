@@ -19,8 +19,8 @@ use Rattle.matching.proofs.Decide.{by_dec}
 use Rattle.matching.proofs.Step.{constant_normal}
 use Rattle.matching.proofs.Lists.{Under}
 use Rattle.matching.proofs.Cuts.{Choice, argument_first}
-use Rattle.matching.proofs.Goals.{Listing, listing-goal, listing-same}
-use Rattle.matching.proofs.Goals.{listing_none, listing-both}
+use Rattle.matching.proofs.Goals.{Listing, listing_goal, listing_same}
+use Rattle.matching.proofs.Goals.{listing_none, listing_both}
 use Rattle.matching.proofs.Targets.{part_normal}
 use Rattle.matching.proofs.Occurrences.{first_of, first_one, first_same, dec_first}
 
@@ -101,9 +101,9 @@ module _ (n : ℕ) (S : ℕ → Type 0) (f a t : Term) (x : Listable n S (match 
   listing_parts : (u : Term) → t ≡ u → Listing n S (Alternative f a u 0)
   listing_parts (app g e) p =
       let (y, z) = listable_parts n S f a g e (subst (λ u. Listable n S (match (app f a) u)) p x) in
-      listing-same n S (Alternative f a (app g e) 0) (λ φ. Meets (match f g) φ × Meets (match a e) φ)
+      listing_same n S (Alternative f a (app g e) 0) (λ φ. Meets (match f g) φ × Meets (match a e) φ)
       (λ φ v. (λ q. (cc, cc), λ (q, r). cc))
-      (listing-both n S (Meets (match f g)) (Meets (match a e)) (listing-goal n S (match f g) y) (listing-goal n S (match a e) z))
+      (listing_both n S (Meets (match f g)) (Meets (match a e)) (listing_goal n S (match f g) y) (listing_goal n S (match a e) z))
   listing_parts (lam b) p = listing_none n S (Alternative f a (lam b) 0) (λ φ v. alternative_no_parts φ f a (lam b) (λ q. omega (arith, q)))
   listing_parts (loc k) p = listing_none n S (Alternative f a (loc k) 0) (λ φ v. alternative_no_parts φ f a (loc k) (λ q. omega (arith, q)))
   listing_parts (con k) p = listing_none n S (Alternative f a (con k) 0) (λ φ v. alternative_no_parts φ f a (con k) (λ q. omega (arith, q)))
@@ -111,15 +111,15 @@ module _ (n : ℕ) (S : ℕ → Type 0) (f a t : Term) (x : Listable n S (match 
 
   pub listing_alternative : (i : ℕ) → Listing n S (Alternative f a t i)
   listing_alternative zero = listing_parts t refl
-  listing_alternative (suc zero) = listing-goal n S (match f (constant t)) (listable_constant n S f a t x)
+  listing_alternative (suc zero) = listing_goal n S (match f (constant t)) (listable_constant n S f a t x)
   listing_alternative (suc (suc j)) =
       by_dec (λ _. Listing n S (Alternative f a t (suc (suc j)))) (dec_first t j)
       (λ (e, y).
       let (z, w) = listable_argument n S f a t j e y x in
-      listing-same n S (Alternative f a t (suc (suc j))) (λ φ. Meets (match a e) φ × Meets (build f t e) φ)
+      listing_same n S (Alternative f a t (suc (suc j))) (λ φ. Meets (match a e) φ × Meets (build f t e) φ)
       (λ φ v. (
         λ q. let r = (alternative_argument φ f a [] t j e y).0 (q, tt) in (r.0, r.1.0),
         λ (q, r). ((alternative_argument φ f a [] t j e y).1 (q, (r, tt))).0,
       ))
-      (listing-both n S (Meets (match a e)) (Meets (build f t e)) (listing-goal n S (match a e) z) (listing-goal n S (build f t e) w)))
+      (listing_both n S (Meets (match a e)) (Meets (build f t e)) (listing_goal n S (match a e) z) (listing_goal n S (build f t e) w)))
       (λ m. listing_none n S (Alternative f a t (suc (suc j))) (λ φ v. alternative_no_argument φ f a t j (λ e y. m (e, y))))

@@ -15,7 +15,7 @@ use Rattle.matching.specs.Goals.{Sweeps, Goal.match, Goal.build, Listable}
 use Rattle.matching.specs.Bodies.{ChosenSoFar, copies, body}
 use Rattle.matching.proofs.Decide.{by_dec}
 use Rattle.matching.proofs.Lists.{lists_same, lists_none, lists_or}
-use Rattle.matching.proofs.Goals.{Listing, listing-goal}
+use Rattle.matching.proofs.Goals.{Listing, listing_goal}
 use Rattle.matching.proofs.Bodies.{body_normal, body_eta, chosen_next, chosen_apart, chosen_all}
 
 abbrev pub choose_at : (ℕ → Bool) → ℕ → Bool → ℕ → Bool
@@ -45,7 +45,7 @@ module _ (n : ℕ) (S : ℕ → Type 0) (f t e : Term) (x : Listable n S (build 
       go false u p q = none (λ φ s. subst T (sym ((chosen_all φ f t e c k l).0 s).1 ∙ u) tt)
       go true u true q = none (λ φ s. body_eta φ f e t c x.1 q ((chosen_all φ f t e c k l).0 s).0)
       go true u false q =
-          let y = listing-goal n S (match f (lam (body e 0 t c 0))) (listable_chosen n S f t e c x q) in
+          let y = listing_goal n S (match f (lam (body e 0 t c 0))) (listable_chosen n S f t e c x q) in
           record {
             lines = y.lines;
             lists = lists_same n S (ChosenSoFar f t e c k) (Sweeps f (lam (body e 0 t c 0))) y.lines

@@ -9,3 +9,5 @@
 // any predicate of assignments that certain lines list it, and its laws (same, none, one, or, some, and) build the proof of any lister: a
 // search in another order, or with other cuts, uses the same laws. No promise of an operation rests on `specs/` here: contracts of the
 // search do, and theorems and must-fail edits of this crate. The plain lister is a device, and stands in `proofs/`.
+
+#![tactic(auto)]

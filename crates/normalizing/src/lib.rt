@@ -7,6 +7,8 @@
 //
 // A table of up to 384 records is taken, although a swept form has at most 256, so that a longer term without variables can be swept too.
 
+#![tactic(auto)]
+
 ghost use Rattle.terms.specs.Term.{Term};
 ghost use Rattle.normalizing.specs.Normalized.{Begins, Normalizable, SweptAgain, Normalized};
 
@@ -16,7 +18,7 @@ use sweeping::{Length, SWEPT_BYTES};
 
 // How sweeping until normal ends: with a normal form of so many records, with a sweep that gets too long, or with no normal form after all
 // sweeps that are allowed.
-#[derive(Drop)]
+#[derive(Clone, Copy)]
 pub enum NormalForm {
     Records(usize),
     TooLong,

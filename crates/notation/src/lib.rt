@@ -7,6 +7,8 @@
 // A number of bytes is written in digits, or as a number of lines: `2 lines`. It promises that a table's length and a field lie within what
 // they are part of; what is read is not promised: the programs print it. It rests on `records` for the kinds and a line's length.
 
+#![tactic(auto)]
+
 ghost use Rattle.std.specs.Prelude.{◌≤◌, length};
 ghost use Rattle.io.specs.Counts.{IsPrefixLen};
 
@@ -24,7 +26,7 @@ const NUMBER: usize = BYTE * WORD;
 const TEN: usize = 10;
 
 // An item of a text, and how many times it stands there.
-#[derive(Drop)]
+#[derive(Clone, Copy)]
 struct Item {
     sign: u8,
     number: usize,

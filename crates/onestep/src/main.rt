@@ -2,6 +2,8 @@
 //
 // It promises that it is safe and ends, and rests on `program`.
 
+#![tactic(auto)]
+
 fn main() {
     program::run(b"pattern.rec", b"recipe.rec");
 }

@@ -10,5 +10,7 @@
 // first, then the fewest parts of the target that an application's argument may sweep to, a body of a goal to build counting for four of
 // these.
 
+#![tactic(auto)]
+
 pub mod order;
 pub mod repeated;

@@ -5,7 +5,7 @@ ghost use Rattle.std.specs.Prelude.{◌≡◌, ◌<◌, ◌≤◌};
 ghost use Rattle.records.specs.Parts.{Whole};
 ghost use Rattle.agenda.specs.State.{Ready};
 ghost use Rattle.ordering.specs.Forwarding.{Forwarded};
-ghost use Rattle.ordering.specs.Ordering.{Reaches, Branches, Costed, Ranks, Drops, Dropped, linked as linkedTo};
+ghost use Rattle.ordering.specs.Ordering.{Reaches, Branches, Costed, Ranks, Drops, Dropped, linked as linked_to};
 
 use agenda::{Agenda, GOAL, StoredGoal};
 use assignments::Entry;
@@ -88,7 +88,7 @@ fn cost(pattern: &[u8], work: &[u8], at: usize, entries: [Entry; VARIABLES]) -> 
 }
 
 // A goal of a list, and its cost.
-#[derive(Drop)]
+#[derive(Clone, Copy)]
 struct Choice {
     goal: usize,
     cost: usize,
@@ -119,7 +119,7 @@ fn cheapest_from(pattern: &[u8], work: &[u8], list: usize, entries: [Entry; VARI
 }
 
 // Where a list of goals begins, and the first free byte behind what was written.
-#[derive(Drop)]
+#[derive(Clone, Copy)]
 pub struct Rest {
     pub list: usize,
     pub top: usize,
@@ -127,7 +127,7 @@ pub struct Rest {
 
 // A goal with another one next.
 fn linked(goal: StoredGoal, next: usize) -> StoredGoal
-    ensures { result ≡ linkedTo goal next }
+    ensures { result ≡ linked_to goal next }
 {
     StoredGoal {
         part: goal.part,

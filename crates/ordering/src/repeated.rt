@@ -12,7 +12,7 @@ use joins::pairs::{Pairs, Spines};
 use records::{VARIABLES, Walk};
 
 // Two goals that apply one variable to constants, and the pairs of these.
-#[derive(Drop)]
+#[derive(Clone, Copy)]
 pub struct Occurrences {
     pub first: usize,
     pub second: usize,
@@ -20,7 +20,7 @@ pub struct Occurrences {
 }
 
 // What a walk over a list of goals finds.
-#[derive(Drop)]
+#[derive(Clone, Copy)]
 pub enum Search {
     Found(Occurrences),
     Nothing,

@@ -5,6 +5,8 @@
 // goes to standard output, and in which order, no contract can say: the programs' outputs are compared with stored ones. It rests on
 // `records`, `assignments`, `listing` and `arranging`, on `copying` for bytes, and on the kit's `io` to write them.
 
+#![tactic(auto)]
+
 ghost use Rattle.std.specs.Prelude.{◌≡◌, [], ◌∷◌, ◌+◌, ◌*◌, ◌/◌, ◌≤◌, ◌<◌, length, take};
 ghost use Rattle.std.proofs.lemmas.List.Edits.{sets};
 ghost use Rattle.io.specs.Counts.{IsPrefixLen};

@@ -9,6 +9,8 @@
 // It has room to read one record more than a table may have, which `print_files` asks for, so that `list` itself refuses a file that is too
 // long, with 1 or 4. The function that runs takes the two paths, so that the cases of `test_program` are folders of one crate.
 
+#![tactic(auto)]
+
 ghost use Rattle.std.specs.Prelude.{◌+◌, ◌*◌, ◌≡◌, length};
 ghost use Rattle.io.specs.Counts.{IsPrefixLen};
 ghost use Rattle.terms.specs.Figures.{pattern_records, recipe_records, table_bytes};

@@ -10,6 +10,8 @@
 // `good_records` tells. The checks need no `requires`: what they find is what the other functions require, so that a caller with raw bytes
 // can meet it.
 
+#![tactic(auto)]
+
 ghost use Rattle.std.specs.Prelude.{◌≡◌, [], ◌+◌, ◌*◌, ◌≤◌, ◌<◌, length, get_or};
 ghost use Rattle.std.proofs.Math.Option.{some};
 ghost use Rattle.std.proofs.lemmas.List.Edits.{sets};
@@ -29,13 +31,13 @@ ghost use Rattle.records.specs.Checks.{Good, TableChecked};
 pub const RECORD: usize = 4;
 
 // The kind of a record, by its number in document 01.
-#[derive(Drop)]
+#[derive(Clone, Copy)]
 pub struct Kind {
     pub code: u8,
 }
 
 // What a byte is, read as a kind.
-#[derive(Drop)]
+#[derive(Clone, Copy)]
 pub enum KindRead {
     Known(Kind),
     Unknown,
@@ -149,7 +151,7 @@ pub fn put_record(out: &mut [u8], at: usize, kind: Kind, number: usize)
 }
 
 // How far a pass over records came, and how many parts are missing there.
-#[derive(Drop)]
+#[derive(Clone, Copy)]
 struct Pass {
     at: usize,
     missing: usize,
@@ -175,7 +177,7 @@ fn pass_part(s: &[u8], from: usize) -> Pass
 }
 
 // Where the part that a table begins with ends.
-#[derive(Drop)]
+#[derive(Clone, Copy)]
 pub enum End {
     At(usize),
     Nowhere,
@@ -272,7 +274,7 @@ pub fn good_records(s: &[u8], variables: usize) -> bool
 }
 
 // What is asked of each local of a part: that its number is below n, or that it isn't n. Below a binder n is one more.
-#[derive(Drop)]
+#[derive(Clone, Copy)]
 pub enum Ask {
     Bound,
     Other,
@@ -291,7 +293,7 @@ impl Ask {
 
 // How a walk over the part that a slice begins with ends: behind so many bytes, which are the part, or where it finds that what is asked of
 // the part doesn't hold.
-#[derive(Drop)]
+#[derive(Clone, Copy)]
 pub enum Walk {
     Upto(usize),
     No,
@@ -472,7 +474,7 @@ pub const LINE: usize = RECORD * VARIABLES;
 pub const TABLE_BYTES: usize = 65536;
 
 // What a check of a pattern or a right side finds.
-#[derive(Drop)]
+#[derive(Clone, Copy)]
 pub enum PatternCheck {
     Right,
     BadLength,
@@ -481,7 +483,7 @@ pub enum PatternCheck {
 }
 
 // What a check of a recipe finds.
-#[derive(Drop)]
+#[derive(Clone, Copy)]
 pub enum RecipeCheck {
     Right,
     BadLength,

@@ -11,6 +11,8 @@
 // is searched, so that nothing is promised of that answer. Contracting while goals are matched would need targets for parts that stand in
 // no table.
 
+#![tactic(auto)]
+
 mod guards;
 
 ghost use Rattle.std.specs.Prelude.{◌≡◌, ◌≤◌, length, get_or};

@@ -8,6 +8,8 @@
 //
 // The enum has a case for each cause that an operation can give. Those of 9, 10 and 19 are named after what there is no room for, or where.
 
+#![tactic(auto)]
+
 ghost use Rattle.std.specs.Prelude.{◌≡◌, ◌++◌, ◌⊎◌, ◌*◌, ◌≤◌, ◌<◌, length};
 ghost use Rattle.terms.specs.Figures.{variables, table_bytes};
 ghost use Rattle.terms.specs.Refusal.{OccursIn, BadTable, assignment_table_rows, pattern_rows, recipe_rows, assignment_rows};
@@ -19,7 +21,7 @@ ghost use Rattle.refusals.specs.Lent.{cleared};
 use records::{LINE, PatternCheck, RECORD, RecipeCheck, TABLE_BYTES};
 
 // Why an operation refuses. Documents 01 and 02 number these causes.
-#[derive(Drop)]
+#[derive(Clone, Copy)]
 pub enum Refusal {
     PatternLength,
     PatternRecord,
@@ -44,7 +46,7 @@ pub enum Refusal {
 }
 
 // What one step of judging the tables finds.
-#[derive(Drop)]
+#[derive(Clone, Copy)]
 pub enum Verdict {
     Right,
     Refused(Refusal),

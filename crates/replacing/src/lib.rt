@@ -6,6 +6,8 @@
 // closed and without variables if both were. It rests on `copying` for the copies, on `records` for parts and on `normalizing` for the
 // sweeps.
 
+#![tactic(auto)]
+
 ghost use Rattle.replacing.specs.Replacing.{SpliceRoom, SpliceWritten};
 ghost use Rattle.replacing.specs.Wholes.{WholeTables, WholeNormalized};
 

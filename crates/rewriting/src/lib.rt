@@ -9,6 +9,8 @@
 // A form is made in a local table of 256 records and copied at the end, so that every refusal, 12, 13 and 15 included, leaves the output as
 // it was without undoing anything. The work area is only made zero, after the tables were judged.
 
+#![tactic(auto)]
+
 ghost use Rattle.std.specs.Prelude.{◌≡◌};
 ghost use Rattle.records.specs.Checks.{Recipe};
 ghost use Rattle.refusals.specs.Judged.{Judged, FilledTables};
@@ -22,20 +24,20 @@ use refusals::{Refusal, Verdict};
 use sides::MatchTest;
 use sweeping::{Length, SWEPT_BYTES};
 
-#[derive(Drop)]
+#[derive(Clone, Copy)]
 pub enum CheckAnswer {
     Yes,
     No,
     Refused(Refusal),
 }
 
-#[derive(Drop)]
+#[derive(Clone, Copy)]
 pub enum SweepAnswer {
     Records(usize),
     Refused(Refusal),
 }
 
-#[derive(Drop)]
+#[derive(Clone, Copy)]
 pub enum RewriteAnswer {
     Records(usize),
     Refused(Refusal),

@@ -6,6 +6,8 @@
 // holds; else that every side is one that an operation takes. It rests on `refusals` for the verdict on one side. `specs/Pairs` has the
 // order in which rules are tried on the closed parts of a recipe.
 
+#![tactic(auto)]
+
 ghost use Rattle.std.specs.Prelude.{◌≡◌, ◌+◌, ◌*◌, ◌/◌, ◌≤◌, length};
 ghost use Rattle.terms.specs.Figures.{place_bytes};
 ghost use Rattle.terms.specs.Layout.{word_at};

@@ -8,6 +8,8 @@
 // A listing needs tables, which are made once for all pairs; each listing overwrites those before it. They are given back before the form
 // is put into the recipe, so that the sweep of the whole has the stack for itself.
 
+#![tactic(auto)]
+
 ghost use Rattle.std.specs.Prelude.{◌≡◌, false, ◌+◌, ◌-◌, ◌*◌, ◌/◌, ◌≤◌, ◌<◌, length};
 ghost use Rattle.terms.specs.Figures.{recipe_records, table_bytes, place_bytes, most_places};
 ghost use Rattle.terms.specs.Term.{Term};
@@ -26,7 +28,7 @@ use sweeping::SWEPT_BYTES;
 
 // How trying the rules on one part ends: all are passed over, a form of so many records stands for the part, or the search is refused. The
 // last number is that of the pairs up to there.
-#[derive(Drop)]
+#[derive(Clone, Copy)]
 enum Scan {
     PassedOver(usize),
     Form(usize, usize),
@@ -35,7 +37,7 @@ enum Scan {
 
 // How the search ends: with nothing to use, with a form for the part that begins at a record (that record, the form's records), or refused.
 // The last number is that of the pairs up to there.
-#[derive(Drop)]
+#[derive(Clone, Copy)]
 pub enum SearchAnswer {
     Nothing(usize),
     Form(usize, usize, usize),

@@ -21,8 +21,8 @@ use Rattle.matching.specs.Goals.{Goal, Goal.match, Goal.build, All, Listable}
 use Rattle.matching.specs.Alternatives.{Alternative}
 use Rattle.matching.proofs.Decide.{by_dec}
 use Rattle.matching.proofs.Lists.{Under}
-use Rattle.matching.proofs.Goals.{Listing, listing-goals, listing-line, listing-both}
-use Rattle.matching.proofs.Goals.{listing-same, listing_none, listing-or}
+use Rattle.matching.proofs.Goals.{Listing, listing_goals, listing_line, listing_both}
+use Rattle.matching.proofs.Goals.{listing_same, listing_none, listing_or}
 use Rattle.matching.proofs.Alternatives.{alternatives, alternatives_apart, listing_alternative}
 use Rattle.matching.proofs.Bodies.{chosen_none, chosen_next, chosen_apart, chosen_all}
 use Rattle.matching.proofs.Choices.{listing_chosen}
@@ -53,13 +53,13 @@ module _ (k : ℕ) (P W : List ℕ) (s : Agenda) (a : List Entry) where
       (gs hs js : List Goal) (l : Line) (K : Goal → Type 0) (at : ℕ) (Q : Predicate) → State k P W s a gs js l → Chain K P W s.top at hs
       → Listing variables (OccursIn P) Q → Listing variables (OccursIn P) (Beside gs Q hs l)
   listing_beside gs hs js l K at Q x c y =
-      listing-same variables (OccursIn P) (Beside gs Q hs l) (λ φ. All gs φ × ((Q φ × All hs φ) × Extends φ l))
+      listing_same variables (OccursIn P) (Beside gs Q hs l) (λ φ. All gs φ × ((Q φ × All hs φ) × Extends φ l))
       (λ φ v. (λ q. (q.0, (q.1, q.2)), λ q. (q.0, q.1.0, q.1.1)))
-      (listing-both variables (OccursIn P) (All gs) (λ φ. (Q φ × All hs φ) × Extends φ l)
-      (listing-goals variables (OccursIn P) gs (chain_listable _ P W s.top s.easy gs x.easy))
-      (listing-both variables (OccursIn P) (λ φ. Q φ × All hs φ) (λ φ. Extends φ l)
-      (listing-both variables (OccursIn P) Q (All hs) y (listing-goals variables (OccursIn P) hs (chain_listable K P W s.top at hs c)))
-      (listing-line variables (OccursIn P) l x.line x.assigns)))
+      (listing_both variables (OccursIn P) (All gs) (λ φ. (Q φ × All hs φ) × Extends φ l)
+      (listing_goals variables (OccursIn P) gs (chain_listable _ P W s.top s.easy gs x.easy))
+      (listing_both variables (OccursIn P) (λ φ. Q φ × All hs φ) (λ φ. Extends φ l)
+      (listing_both variables (OccursIn P) Q (All hs) y (listing_goals variables (OccursIn P) hs (chain_listable K P W s.top at hs c)))
+      (listing_line variables (OccursIn P) l x.line x.assigns)))
 
   -- the ways of an application
   pub ways_all :
@@ -108,10 +108,10 @@ module _ (k : ℕ) (P W : List ℕ) (s : Agenda) (a : List Entry) where
   listing_left gs hs l zero i n h x = listing_none variables (OccursIn P) (Over (λ j. Way j gs hs l) i n) (λ φ v (j, p, q, r). omega arith)
   listing_left gs hs l (suc m) i n h x =
       by_dec (λ _. Listing variables (OccursIn P) (Over (λ j. Way j gs hs l) i n)) (dec_lt i n)
-      (λ g. listing-same variables (OccursIn P) (Over (λ j. Way j gs hs l) i n)
+      (λ g. listing_same variables (OccursIn P) (Over (λ j. Way j gs hs l) i n)
       (λ φ. Way i gs hs l φ ⊎ Over (λ j. Way j gs hs l) (suc i) n φ)
       (λ φ v. (to φ, from φ g))
-      (listing-or variables (OccursIn P) (Way i gs hs l) (Over (λ j. Way j gs hs l) (suc i) n)
+      (listing_or variables (OccursIn P) (Way i gs hs l) (Over (λ j. Way j gs hs l) (suc i) n)
       (λ φ v p (j, u, w, q). omega (arith, ways_apart gs hs l i j x φ p q))
       (way_listing gs hs l i x) (listing_left gs hs l m (suc i) n (omega arith) x)))
       (λ g. listing_none variables (OccursIn P) (Over (λ j. Way j gs hs l) i n) (λ φ v (j, p, q, r). omega arith))

@@ -13,6 +13,8 @@
 // same, later. What is promised is that what they refuse, decide or put in a goal's place is right. That the cuts are made at all is shown
 // by `bench/run.sh --hard`, and not by a proof.
 
+#![tactic(auto)]
+
 ghost use Rattle.std.specs.Prelude.{◌≡◌, ◌<◌};
 ghost use Rattle.agenda.specs.State.{Sat, relinking};
 ghost use Rattle.arguments.specs.Ways.{Way};

@@ -5,6 +5,8 @@
 // there is, refusals included: then every table is as it was. What that comes to over any calls from a new, empty shelf is the law of
 // `history`, which speaks of calls and answers alone. It rests on `storage` for the two tables and on `refusals` for the verdicts.
 
+#![tactic(auto)]
+
 ghost use Rattle.refusals.specs.Judged.{Judged};
 ghost use Rattle.shelf.specs.Operations.{put_rows, take_out_rows, Put, TakenOut, ReadOut, Counted};
 ghost use Rattle.shelf.specs.Steps.{Puttable, Kept};
@@ -16,25 +18,25 @@ use refusals::{Refusal, Verdict};
 const CHANGES: usize = 0;
 
 // What each operation answers. Document 02: "an operation with nothing to count answers yes".
-#[derive(Drop)]
+#[derive(Clone, Copy)]
 pub enum PutAnswer {
     Yes,
     Refused(Refusal),
 }
 
-#[derive(Drop)]
+#[derive(Clone, Copy)]
 pub enum TakeOutAnswer {
     Yes,
     Refused(Refusal),
 }
 
-#[derive(Drop)]
+#[derive(Clone, Copy)]
 pub enum ReadAnswer {
     Records(usize),
     Refused(Refusal),
 }
 
-#[derive(Drop)]
+#[derive(Clone, Copy)]
 pub enum CountAnswer {
     Count(usize),
     Refused(Refusal),

@@ -5,6 +5,8 @@
 // behind, and promises its answer for the very terms that stand there. It rests on `records` for single records and parts, on `copying`
 // for a record that stays as it is, and on `substitution` for what a writer leaves.
 
+#![tactic(auto)]
+
 ghost use Rattle.std.specs.Prelude.{◌≡◌, ◌≤◌, ◌<◌, length};
 ghost use Rattle.terms.specs.Figures.{numbers};
 ghost use Rattle.terms.specs.Term.{Term, loc, shift, unshift};

@@ -9,6 +9,8 @@
 // level of application in what is swept two of 1,024 bytes, for each abstraction one. The levels are those of a side at the first sweep, at
 // most 31, and those of a swept form at the others, at most 255; `tests/stack.sh` measures what that takes.
 
+#![tactic(auto)]
+
 ghost use Rattle.records.specs.Checks.{Recipe};
 ghost use Rattle.refusals.specs.Judged.{FilledTables};
 ghost use Rattle.sides.specs.Sides.{SweptSide, Matched, NormalSide};
@@ -18,7 +20,7 @@ use records::{MOST_SWEEPS, RECORD};
 use sweeping::{Length, SWEPT_BYTES};
 
 // Whether a filled pattern sweeps to the recipe.
-#[derive(Drop)]
+#[derive(Clone, Copy)]
 pub enum MatchTest {
     Yes,
     No,

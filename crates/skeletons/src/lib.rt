@@ -13,6 +13,8 @@
 // that an abstraction over it binds, so that the abstraction is sure not to contract. Holes of both kinds are variables' records, told
 // apart by their numbers.
 
+#![tactic(auto)]
+
 ghost use Rattle.std.specs.Prelude.{◌≡◌, List, ℕ, ◌<◌, ◌≤◌, length, get_or};
 ghost use Rattle.std.proofs.lemmas.List.Edits.{sets};
 ghost use Rattle.terms.specs.Figures.{numbers, table_bytes};

@@ -5,6 +5,8 @@
 // that it says exactly whether a string has room, and that a string put in a key's place changes no other: the table then begins with all
 // strings, and behind them it is as it was. It knows nothing of what the strings mean. It rests on `copying`.
 
+#![tactic(auto)]
+
 ghost use Rattle.std.specs.Prelude.{◌≡◌, [], ◌*◌, ◌/◌, ◌≤◌, ◌<◌, length, take, set, get_or};
 ghost use Rattle.terms.specs.Figures.{table_bytes};
 ghost use Rattle.records.specs.Tests.{Says};

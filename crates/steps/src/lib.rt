@@ -5,6 +5,8 @@
 // leaves has exactly the assignments of the one before, or that there are none. It rests on `agenda` for goals, and on `matching` for one
 // step of matching.
 
+#![tactic(auto)]
+
 ghost use Rattle.std.specs.Prelude.{◌≡◌, true, ◌+◌, ◌≤◌, ◌<◌, length, get_or};
 ghost use Rattle.terms.specs.Table.{application_kind, abstraction_kind, variable_kind};
 ghost use Rattle.terms.specs.Term.{Term};

@@ -8,6 +8,8 @@
 // A shelf has no state but these bytes, so that a program can keep it in a file and go on from there. The directory has one length for all
 // that is to be kept beside the recipes: what has no use yet is zero in a new shelf, and stays as it is.
 
+#![tactic(auto)]
+
 ghost use Rattle.std.specs.Prelude.{◌≡◌, ◌*◌, ◌/◌, ◌≤◌, ◌<◌, length, set, get_or};
 ghost use Rattle.terms.specs.Figures.{buoys, shelf_records, ceiling};
 ghost use Rattle.slots.specs.Slots.{total};

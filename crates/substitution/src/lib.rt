@@ -4,6 +4,8 @@
 // The crate promises that what it writes is the table of the changed term, and how many bytes the part takes. It rests on `records` for
 // single records, and on `copying` for those that stay as they are.
 
+#![tactic(auto)]
+
 ghost use Rattle.std.specs.Prelude.{◌≡◌, ◌+◌, ◌≤◌, ◌<◌, length};
 ghost use Rattle.terms.specs.Figures.{numbers};
 ghost use Rattle.terms.specs.Term.{Term, loc, shift};
@@ -14,14 +16,14 @@ ghost use Rattle.substitution.specs.Writers.{substitute_for, NumbersFit, Source,
 use records::{Kind, RECORD};
 
 // How many bytes a part takes of the slice that begins with it, and where what is written for it ends.
-#[derive(Drop)]
+#[derive(Clone, Copy)]
 pub struct Place {
     pub length: usize,
     pub end: usize,
 }
 
 // How many bytes a part takes of the slice that begins with it, and how often it uses a local.
-#[derive(Drop)]
+#[derive(Clone, Copy)]
 pub struct Uses {
     pub length: usize,
     pub count: usize,

@@ -6,6 +6,8 @@
 // that part is then dropped. It rests on `records` for single records and parts, on `substitution` for the contraction of a redex, and
 // on `assignments` for the entries.
 
+#![tactic(auto)]
+
 ghost use Rattle.std.specs.Prelude.{◌≡◌, not, ◌&&◌, get_or};
 ghost use Rattle.terms.specs.Term.{Term, is_eta, is_abstraction};
 ghost use Rattle.terms.specs.Table.{encode, application_kind, abstraction_kind};
@@ -21,7 +23,7 @@ use records::{Kind, RECORD, SWEPT_RECORDS, VARIABLES};
 pub const SWEPT_BYTES: usize = RECORD * SWEPT_RECORDS;
 
 // The records of a swept form, or that it has too many.
-#[derive(Drop)]
+#[derive(Clone, Copy)]
 pub enum Length {
     Records(usize),
     TooLong,

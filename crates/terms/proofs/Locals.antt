@@ -47,6 +47,7 @@ unused_closed d (lam b) h = unused_closed (suc d) b below
   where
     below : (j : ℕ) → suc d ≤ j → uses j b ≡ false
     below (suc j) g = h j (omega arith)
+    below Prim.Native.Nat.zero g = elim g [ ]
 unused_closed d (loc n) h = go (dec_lt n d)
   where
     go : Dec (n < d) → n < d

@@ -9,6 +9,7 @@ module _ {A : Type 0} where
   pub in_left : (x : A) (l m : List A) → In x l → In x (l ++ m)
   in_left x (y ∷ l) m (inl p) = inl p
   in_left x (y ∷ l) m (inr p) = inr (in_left x l m p)
+  in_left x [] m x'' = elim x'' [ ]
 
   pub in_right : (x : A) (l m : List A) → In x m → In x (l ++ m)
   in_right x [] m p = p
@@ -26,6 +27,7 @@ module _ {A : Type 0} where
 
 pub in_one : {X : Type 0} {x y : X} → In x (y ∷ []) → x ≡ y
 in_one (inl p) = p
+in_one {X = X} {y = y} (inr x'') = elim x'' [ ]
 
 abbrev pub dec-⊎ : {A B : Type 0} → Dec A → Dec B → Dec (A ⊎ B)
 dec-⊎ (yes a) b = yes (inl a)

@@ -95,6 +95,7 @@ first_normal_short most t u x h = go x.count x.enough x.few x.first x.is
         short : Dec (swept_records < largest (sweeps n t)) → size u ≤ swept_records
         short (yes d) = absurd (h (record { before = n; few = m; made = f; long = d }))
         short (no d) = omega (arith, ap size (e ∙ sweeps_last n t), sweep_largest (sweeps n t))
+    go zero l m f e = elim l [ ]
 
 -- sweeps bring in no variable and no loose local
 pub sweeps_closed_below : (n : ℕ) (t : Term) → Closed 0 t → Below 0 t → Closed 0 (sweeps n t) × Below 0 (sweeps n t)

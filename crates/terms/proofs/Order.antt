@@ -200,6 +200,7 @@ module _ (weight : Line → ℕ) (total : List Line → ℕ) (start : total [] �
         omega (arith, r.1, next m ms, next m r.0),
         λ x q. ⊎_elim (λ e. inr (inl e)) (λ e. ⊎_elim inl (λ z. inr (inr z)) (r.2 x e)) q,
       )
+  without l [] x' = elim x' [ ]
 
   pub found_total : (ls ms : List Line) → Distinct ls → ((x : Line) → In x ls → In x ms) → total ls ≤ total ms
   found_total [] ms h f = omega (arith, start)

@@ -16,14 +16,17 @@ refused_once (r ∷ rows) k m (inl p) (inl q) = p.1 ∙ sym q.1
 refused_once (r ∷ rows) k m (inl p) (inr q) = absurd (q.0 p.0)
 refused_once (r ∷ rows) k m (inr p) (inl q) = absurd (p.0 q.0)
 refused_once (r ∷ rows) k m (inr p) (inr q) = refused_once rows k m p.1 q.1
+refused_once [] k m x'' _ = elim x'' [ ]
 
 pub refused_passed : (rows : List Row) (k : ℕ) → Refused rows k → Passed rows → ⊥
 refused_passed (r ∷ rows) k (inl p) h = h.0 p.0
 refused_passed (r ∷ rows) k (inr p) h = refused_passed rows k p.1 h.1
+refused_passed [] k x'' h = elim x'' [ ]
 
 pub refused_first : (rows more : List Row) (k : ℕ) → Refused rows k → Refused (rows ++ more) k
 refused_first (r ∷ rows) more k (inl p) = inl p
 refused_first (r ∷ rows) more k (inr p) = inr (p.0, refused_first rows more k p.1)
+refused_first [] more k x' = elim x' [ ]
 
 pub refused_later : (rows more : List Row) (k : ℕ) → Passed rows → Refused more k → Refused (rows ++ more) k
 refused_later [] more k h p = p

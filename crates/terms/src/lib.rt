@@ -11,3 +11,4 @@
 // operations. `Figures` has each figure of the documents; theorems about full listings and the table of cases are over the number of
 // variables, and the table is computed at 8 and at 16. `OldForm` is cited by no contract: it states what document 02 asks of tables from
 // before constants had 24 bits. The decision that `Term` derives has to stand at its declaration; nothing in `specs/` uses it.
+#![tactic(auto)]

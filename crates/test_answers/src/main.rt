@@ -22,6 +22,8 @@
 // Cases behind the first 65,536 bytes, and bytes of a table behind the room that `test_report`, `test_book` or `test_shelf` has for it, are
 // cut off.
 
+#![tactic(auto)]
+
 use enumeration::ListAnswer;
 use libc::STDIN_FILENO;
 use notation::{build_field, field, find, lend_field, letter_of, say_heading};

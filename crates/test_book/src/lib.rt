@@ -7,6 +7,8 @@
 // sides' records, and all bytes behind these are 255, so that a program which reads them would refuse the rule. Any other entry is bytes in
 // the items of `notation`, for a place with other counts, or for a part of one. `n x` before an entry has it n times.
 
+#![tactic(auto)]
+
 ghost use Rattle.std.specs.Prelude.{◌≤◌, ◌≡◌, length};
 ghost use Rattle.terms.specs.Figures.{place_bytes};
 

@@ -4,6 +4,8 @@
 // ends, and that a recipe's length is within its room. It rests on `rewriting` for the swept forms, on `test_draw`, which draws terms, and
 // on `test_matches`, which makes assignments.
 
+#![tactic(auto)]
+
 ghost use Rattle.std.specs.Prelude.{length, ◌≡◌, ◌*◌};
 ghost use Rattle.io.specs.Counts.{IsPrefixLen};
 ghost use Rattle.terms.specs.Figures.{recipe_records};

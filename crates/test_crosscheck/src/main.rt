@@ -20,6 +20,8 @@
 // repeated variables, 5 locals, 6 all variables. NUMBER is that of a total in `test_totals`, over all cases so far. Any other line is a
 // heading, and printed as it is.
 
+#![tactic(auto)]
+
 use libc::STDIN_FILENO;
 use notation::{bytes_in, field, find, letter_of, say_heading, within};
 use records::RECORD;

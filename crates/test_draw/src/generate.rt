@@ -34,7 +34,7 @@ const BETA_REDEX: usize = 2;
 const ETA_REDEX: usize = 3;
 
 // A record with no part behind it.
-#[derive(Drop)]
+#[derive(Clone, Copy)]
 struct Leaf {
     kind: u8,
     number: usize,

@@ -3,6 +3,8 @@
 // It promises that it is safe and ends; what the trials find is counted. It rests on `notation` to read an example, on `test_cases`, which
 // draws random cases, and on `test_trials`, which tries them.
 
+#![tactic(auto)]
+
 use notation::build_field;
 use test_cases::{
     RANDOM_RECIPE, draw_pattern, draw_terms, entry_room, example_terms, put_recipe, short,

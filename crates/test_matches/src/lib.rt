@@ -5,6 +5,8 @@
 // disagreement is counted. It rests on `rewriting`, which is tried, on `test_scan`, which reads the lines, on `test_tables` for
 // their order, and on `test_totals`.
 
+#![tactic(auto)]
+
 use notation::{put_number, within};
 use records::{LINE, RECORD, SWEPT_RECORDS, TABLE_BYTES, VARIABLES};
 use rewriting::{CheckAnswer, SweepAnswer};

@@ -3,6 +3,8 @@
 // It promises that it is safe and ends, and that what is written lies within its tables. It rests on `records` for the kinds and figures,
 // on `notation` for writing records, and on `test_scan` to tell which runs are values.
 
+#![tactic(auto)]
+
 ghost use Rattle.std.specs.Prelude.{◌≤◌, length};
 
 use notation::{put_number, put_record};
@@ -21,7 +23,7 @@ const FIRST_CONSTANT: usize = 7;
 const LARGEST: usize = 6;
 
 // How far the tables of the pool are filled, in bytes.
-#[derive(Drop)]
+#[derive(Clone, Copy)]
 pub struct Filled {
     pub entries: usize,
     pub terms: usize,

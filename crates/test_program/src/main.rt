@@ -3,6 +3,8 @@
 // Every output is stored beside it. It promises that it is safe and ends, as `program` does, on which it rests; and on `notation` to print
 // the names.
 
+#![tactic(auto)]
+
 use notation::say_heading;
 use program::run;
 

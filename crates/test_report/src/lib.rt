@@ -2,6 +2,8 @@
 //
 // It promises that it is safe and ends, and how long the tables are. It rests on `notation`, and on `refusals` for a refusal's number.
 
+#![tactic(auto)]
+
 ghost use Rattle.std.specs.Prelude.{◌+◌, ◌*◌, ◌≡◌, length};
 ghost use Rattle.terms.specs.Figures.{variables, table_bytes};
 

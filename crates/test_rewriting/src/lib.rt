@@ -3,6 +3,8 @@
 // It promises that it is safe and ends; `rewriting` promises the answers. It rests on `rewriting`, on `notation` to read the case, and on
 // `test_report` to print what came of it.
 
+#![tactic(auto)]
+
 use notation::{build_field, lend_field, say};
 use records::TABLE_BYTES;
 use rewriting::{CheckAnswer, RewriteAnswer, SweepAnswer};
@@ -14,7 +16,7 @@ use test_report::{
 const NONE: usize = 9;
 
 // Which fields an operation's cases have these tables in.
-#[derive(Drop)]
+#[derive(Clone, Copy)]
 struct Fields {
     line: usize,
     values: usize,

@@ -3,5 +3,7 @@
 // It reads what the matcher wrote by loops of its own, so that a fault there is not repeated here. It promises that it is safe and ends;
 // what it says of terms is not promised, but compared. It rests on `records` for the kinds and figures alone.
 
+#![tactic(auto)]
+
 pub mod agreement;
 pub mod scan;

@@ -15,6 +15,8 @@
 // the recipe at each buoy from FROM on that is below END, with the buoy's number for its last byte, so that no two are equal; its answer is
 // how many puts were answered yes. `bytes` is no call of the shelf: it writes to the directory, for what calls take too long to reach.
 
+#![tactic(auto)]
+
 ghost use Rattle.std.specs.Prelude.{◌≤◌, ◌≡◌, length};
 
 use libc::STDOUT_FILENO;

@@ -3,6 +3,8 @@
 // It promises that it is safe and ends, and how long the tables are. It rests on `test_scan`, which reads what was written, on `refusals`
 // for a refusal's number, and on `test_totals`.
 
+#![tactic(auto)]
+
 ghost use Rattle.std.specs.Prelude.{◌≡◌, length};
 ghost use Rattle.terms.specs.Figures.{table_bytes};
 

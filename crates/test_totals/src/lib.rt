@@ -2,6 +2,8 @@
 //
 // It promises that it is safe and ends. It rests on `notation`, and on the kit's `io` to print numbers.
 
+#![tactic(auto)]
+
 use libc::STDOUT_FILENO;
 use notation::say;
 

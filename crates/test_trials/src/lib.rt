@@ -4,6 +4,8 @@
 // tried, on `test_matches`, which tries each line and each assignment, and on `test_tables`, which lends the tables and tries their
 // layout.
 
+#![tactic(auto)]
+
 use enumeration::ListAnswer;
 use notation::{is_all, within};
 use test_matches::{try_assignments, try_lines};
