@@ -110,8 +110,8 @@ parts_none (suc zero) n m = absurd (m refl)
 parts_none (suc (suc k)) n m = refl
 
 -- a byte that is no kind has no parts either
-pub read_parts : (b : ℕ) → read_parts (kind_of b) ≡ parts b
-read_parts b = go (leb b 4) refl
+pub read_parts_lem : (b : ℕ) → read_parts (kind_of b) ≡ parts b
+read_parts_lem b = go (leb b 4) refl
   where
     go : (t : Bool) → leb b 4 ≡ t → read_parts (cond t (Known (record { code = b })) Unknown) ≡ parts b
     go true e = refl

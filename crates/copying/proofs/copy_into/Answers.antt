@@ -1,0 +1,18 @@
+-- `copying::copy_into` meets its contract. The loop's invariant: the bytes passed are stored from o on. Assumes nothing.
+use Prim.Native.Nat.{◌≤◌, ◌-◌}
+use mathlib.Core.Path.{◌≡◌, refl}
+use native.Mathlib.Omega.{arith}
+use lib.ListN.{length, take, length-set}
+use lib.Seq.{sets}
+use Rattle.copying.proofs.Stores.{copied_more, copied_all}
+use borrow.Author.Rules.{rules}
+use Rattle.copying.proofs.copy_into.Goals as goal
+
+pub loop-i-init : goal.loop-i-init
+loop-i-init c = (omega arith, refl, refl)
+
+pub loop-i-preserved : goal.loop-i-preserved
+loop-i-preserved c = search (rules, length-set, copied_more)
+
+pub returns : goal.returns
+returns c = search (rules, copied_all)

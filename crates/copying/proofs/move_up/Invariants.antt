@@ -1,0 +1,14 @@
+-- `copying::move_up` meets its contract. Assumes nothing.
+use Prim.Native.Nat.{◌≤◌, ◌+◌}
+use mathlib.Core.Path.{◌≡◌}
+use lib.ListN.{length, take, drop, length-set}
+use lib.Seq.{sets}
+use Rattle.copying.proofs.Moves.{up_begun, up_more, up_done}
+use borrow.Author.Rules.{rules}
+use Rattle.copying.proofs.move_up.Given as goal
+
+abbrev pub invariant-loop-i : goal.invariant-loop-i
+invariant-loop-i l = (l.i ≤ l.n) × (length l.t ≡ length l.initial.t) × (l.t ≡ sets l.initial.t (l.to + l.i) (drop l.i (take l.n (drop l.from l.initial.t))))
+
+abbrev pub decreases-loop-i : goal.decreases-loop-i
+decreases-loop-i l = l.i

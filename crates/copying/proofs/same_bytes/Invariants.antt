@@ -1,0 +1,14 @@
+-- `copying::same_bytes` meets its contract. The loop's invariant: the bytes passed are equal. Assumes nothing.
+use Prim.Native.Nat.{◌≤◌, ◌-◌}
+use mathlib.Core.Path.{◌≡◌, refl}
+use native.Mathlib.Omega.{arith}
+use lib.ListN.{length, take}
+use Rattle.copying.proofs.Stores.{longer_not, same_more, same_not, same_all}
+use borrow.Author.Rules.{rules}
+use Rattle.copying.proofs.same_bytes.Given as goal
+
+abbrev pub invariant-loop-i : goal.invariant-loop-i
+invariant-loop-i l = (l.i ≤ length l.a) × (take l.i l.a ≡ take l.i l.b)
+
+abbrev pub decreases-loop-i : goal.decreases-loop-i
+decreases-loop-i l = length l.a - l.i
