@@ -105,6 +105,8 @@ size_leaf : (t : Term) → Leaf t → size t ≡ 1
 size_leaf (loc n) l = refl
 size_leaf (con n) l = refl
 size_leaf (var n) l = refl
+size_leaf (lam _) l = elim l [ ]
+size_leaf (app _ _) l = elim l [ ]
 
 -- the choice decides, and nothing else does
 uses_choose : (b : Bool) (d : ℕ) (t : Term) → uses d (choose b d t) ≡ b
@@ -263,6 +265,8 @@ body_all e =
         ap (λ m. cond (ltb n d) (loc n) (loc m)) (add-one n) ∙ sym (either_no (same (loc n) (shift d 0 e)) _ _ q)
     leaf d (con n) l q k = sym (either_no (same (con n) (shift d 0 e)) _ _ q)
     leaf d (var n) l q k = sym (either_no (same (var n) (shift d 0 e)) _ _ q)
+    leaf d (lam _) l q k = elim l [ ]
+    leaf d (app _ _) l q k = elim l [ ]
 
 pub copies_size : (e : Term) (d : ℕ) (t : Term) → copies e d t ≤ size t
 copies_size e =

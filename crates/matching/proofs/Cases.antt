@@ -129,6 +129,7 @@ proof (no a) h = absurd h
 tests_hold : (n : ℕ) (cs : List Case) → Tests n cs → (c : Case) → In c cs → CaseHolds n c
 tests_hold n (c ∷ cs) h d (inl p) = subst (CaseHolds n) (sym p) (test_holds n c h.0)
 tests_hold n (c ∷ cs) h d (inr i) = tests_hold n cs h.1 d i
+tests_hold n [] h d x'' = elim x'' [ ]
 
 computed_hold : (n : ℕ) → decided (tests? n (cases n)) ≡ true → (c : Case) → In c (cases n) → CaseHolds n c
 computed_hold n e c i = tests_hold n (cases n) (proof (tests? n (cases n)) (subst T (sym e) tt)) c i

@@ -56,10 +56,12 @@ module _ (P : Term → Type 0) (apps : (f a : Term) → P (app f a) ≡ (P f × 
 each_in : (P : Term → Type 0) (l : Line) (v : Term) → Each P l → In (some v) l → P v
 each_in P (o ∷ l) v h (inl e) = rw (← e) at h.0
 each_in P (o ∷ l) v h (inr i) = each_in P l v h.1 i
+each_in P mathlib.Core.List.[] v h x'' = elim x'' [ ]
 
 value_in : (S : ℕ → Type 0) (l : Line) (v : Term) → Assigns S l → In (some v) l → Value v
 value_in S (o ∷ l) v h (inl e) = (rw (← e) at h.0).1
 value_in S (o ∷ l) v h (inr i) = value_in (λ k. S (suc k)) l v h.1 i
+value_in S mathlib.Core.List.[] v h x'' = elim x'' [ ]
 
 -- document 02: "Files of the old form mean what they meant", also for what list writes
 pub listed_as_before : ListedAsBefore

@@ -39,6 +39,8 @@ module _ {A X : Type 0} where
 
   pub guard_in : (o : Dec A) (x b : X) → In b (guard o x) → (b ≡ x) × A
   guard_in (yes p) x b (inl q) = (q, p)
+  guard_in (no _) x b x5 = elim x5 [ ]
+  guard_in (yes p) x b (inr x4) = elim x4 [ ]
 
   pub distinct_guard : (o : Dec A) (x : X) → Distinct (guard o x)
   distinct_guard (yes p) x = (λ q. q, tt)
@@ -48,10 +50,12 @@ module _ {A B : Type 0} (f : A → B) where
   pub in_map : (x : A) (l : List A) → In x l → In (f x) (map f l)
   in_map x (y ∷ l) (inl p) = inl (ap f p)
   in_map x (y ∷ l) (inr p) = inr (in_map x l p)
+  in_map x [] x'' = elim x'' [ ]
 
   pub map_in : (z : B) (l : List A) → In z (map f l) → (x : A) × In x l × (z ≡ f x)
   map_in z (y ∷ l) (inl p) = (y, inl refl, p)
   map_in z (y ∷ l) (inr p) = let q = map_in z l p in (q.0, inr q.1, q.2)
+  map_in z [] x' = elim x' [ ]
 
   pub distinct_map : ((x y : A) → f x ≡ f y → x ≡ y) → (l : List A) → Distinct l → Distinct (map f l)
   distinct_map inj [] h = tt
@@ -62,6 +66,7 @@ module _ {A B : Type 0} (f : A → List B) where
   pub in_flat_map : (x : A) (z : B) (l : List A) → In x l → In z (f x) → In z (flat_map f l)
   in_flat_map x z (y ∷ l) (inl p) q = in_left z (f y) (flat_map f l) (rw p at q)
   in_flat_map x z (y ∷ l) (inr p) q = in_right z (f y) (flat_map f l) (in_flat_map x z l p q)
+  in_flat_map x z [] x3 q = elim x3 [ ]
 
   pub flat_map_in : (z : B) (l : List A) → In z (flat_map f l) → (x : A) × In x l × In z (f x)
   flat_map_in z (y ∷ l) p = go (in_append z (f y) (flat_map f l) p) (flat_map_in z l)
@@ -69,11 +74,13 @@ module _ {A B : Type 0} (f : A → List B) where
       go : In z (f y) ⊎ In z (flat_map f l) → (In z (flat_map f l) → (x : A) × In x l × In z (f x)) → (x : A) × In x (y ∷ l) × In z (f x)
       go (inl q) ih = (y, inl refl, q)
       go (inr q) ih = let r = ih q in (r.0, inr r.1, r.2)
+  flat_map_in z [] p = elim p [ ]
 
 module _ {A B C : Type 0} (f : A → B → C) where
   pub in_pairs : (x : A) (y : B) (l : List A) (m : List B) → In x l → In y m → In (f x y) (pairs f l m)
   in_pairs x y (z ∷ l) m (inl p) q = in_left (f x y) (map (f z) m) (pairs f l m) (rw p (in_map (f z) y m q))
   in_pairs x y (z ∷ l) m (inr p) q = in_right (f x y) (map (f z) m) (pairs f l m) (in_pairs x y l m p q)
+  in_pairs x y [] m x3 q = elim x3 [ ]
 
   pub pairs_in : (z : C) (l : List A) (m : List B) → In z (pairs f l m) → (x : A) × (y : B) × In x l × In y m × (z ≡ f x y)
   pairs_in z (x ∷ l) m p = go (in_append z (map (f x) m) (pairs f l m) p) (pairs_in z l m)
@@ -82,6 +89,7 @@ module _ {A B C : Type 0} (f : A → B → C) where
           → (w : A) × (y : B) × In w (x ∷ l) × In y m × (z ≡ f w y)
       go (inl q) ih = let r = map_in (f x) z m q in (x, r.0, inl refl, r.1, r.2)
       go (inr q) ih = let r = ih q in (r.0, r.1, inr r.2, r.3, r.4)
+  pairs_in z [] m p = elim p [ ]
 
   pub distinct_pairs : ((x x' : A) (y y' : B) → f x y ≡ f x' y' → (x ≡ x') × (y ≡ y')) → (l : List A) (m : List B) → Distinct l → Distinct m
       → Distinct (pairs f l m)

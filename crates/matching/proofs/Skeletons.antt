@@ -49,6 +49,22 @@ fits_exact (lam b) (lam c) e h = ap lam (fits_exact b c e h)
 fits_exact (loc m) (loc n) e h = ap loc h
 fits_exact (con m) (con n) e h = ap con h
 fits_exact (var m) t e h = absurd (subst T e tt)
+fits_exact (con m) (var _) e h = elim h [ ]
+fits_exact (con m) (loc n) e h = elim h [ ]
+fits_exact (con m) (lam c) e h = elim h [ ]
+fits_exact (con m) (app g b) e h = elim h [ ]
+fits_exact (loc m) (var _) e h = elim h [ ]
+fits_exact (loc m) (con n) e h = elim h [ ]
+fits_exact (loc m) (lam c) e h = elim h [ ]
+fits_exact (loc m) (app g b) e h = elim h [ ]
+fits_exact (lam b) (var _) e h = elim h [ ]
+fits_exact (lam b) (con n) e h = elim h [ ]
+fits_exact (lam b) (loc n) e h = elim h [ ]
+fits_exact (lam b) (app g _) e h = elim h [ ]
+fits_exact (app f a) (var _) e h = elim h [ ]
+fits_exact (app f a) (con n) e h = elim h [ ]
+fits_exact (app f a) (loc n) e h = elim h [ ]
+fits_exact (app f a) (lam c) e h = elim h [ ]
 
 -- shifting and substitution
 pub fits_shift : (d c : ℕ) (s t : Term) → Fits s t → Fits (shift d c s) (shift d c t)
@@ -57,6 +73,22 @@ fits_shift d c (lam b) (lam u) h = fits_shift d (suc c) b u h
 fits_shift d c (loc m) (loc n) h = subst (λ i. Fits (shift d c (loc m)) (shift d c (loc i))) h (fits_refl (shift d c (loc m)))
 fits_shift d c (con m) (con n) h = h
 fits_shift d c (var m) t h = fills_passes (shift d) (shift_passes d) c m t h
+fits_shift d c (con m) (var _) h = elim h [ ]
+fits_shift d c (con m) (loc n) h = elim h [ ]
+fits_shift d c (con m) (lam u) h = elim h [ ]
+fits_shift d c (con m) (app g b) h = elim h [ ]
+fits_shift d c (loc m) (var _) h = elim h [ ]
+fits_shift d c (loc m) (con n) h = elim h [ ]
+fits_shift d c (loc m) (lam u) h = elim h [ ]
+fits_shift d c (loc m) (app g b) h = elim h [ ]
+fits_shift d c (lam b) (var _) h = elim h [ ]
+fits_shift d c (lam b) (con n) h = elim h [ ]
+fits_shift d c (lam b) (loc n) h = elim h [ ]
+fits_shift d c (lam b) (app g _) h = elim h [ ]
+fits_shift d c (app f a) (var _) h = elim h [ ]
+fits_shift d c (app f a) (con n) h = elim h [ ]
+fits_shift d c (app f a) (loc n) h = elim h [ ]
+fits_shift d c (app f a) (lam u) h = elim h [ ]
 
 module _ (e g : Term) (x : Fits e g) where
   fits_local : (k n : ℕ) → Fits (substitute k e (loc n)) (substitute k g (loc n))
@@ -72,6 +104,22 @@ module _ (e g : Term) (x : Fits e g) where
   fits_substitute k (loc m) (loc n) h = subst (λ i. Fits (substitute k e (loc m)) (substitute k g (loc i))) h (fits_local k m)
   fits_substitute k (con m) (con n) h = h
   fits_substitute k (var m) t h = fills_passes (λ j u. substitute j g u) (substitute_passes g) k m t h
+  fits_substitute k (con m) (var _) h = elim h [ ]
+  fits_substitute k (con m) (loc n) h = elim h [ ]
+  fits_substitute k (con m) (lam u) h = elim h [ ]
+  fits_substitute k (con m) (app u b) h = elim h [ ]
+  fits_substitute k (loc m) (var _) h = elim h [ ]
+  fits_substitute k (loc m) (con n) h = elim h [ ]
+  fits_substitute k (loc m) (lam u) h = elim h [ ]
+  fits_substitute k (loc m) (app u b) h = elim h [ ]
+  fits_substitute k (lam b) (var _) h = elim h [ ]
+  fits_substitute k (lam b) (con n) h = elim h [ ]
+  fits_substitute k (lam b) (loc n) h = elim h [ ]
+  fits_substitute k (lam b) (app u _) h = elim h [ ]
+  fits_substitute k (app f a) (var _) h = elim h [ ]
+  fits_substitute k (app f a) (con n) h = elim h [ ]
+  fits_substitute k (app f a) (loc n) h = elim h [ ]
+  fits_substitute k (app f a) (lam u) h = elim h [ ]
 
 -- an application whose head is no hole
 pub fits_apply : (f g a b : Term) → is_variable f ≡ false → Fits f g → Fits a b → Fits (contract (app f a)) (contract (app g b))
@@ -80,6 +128,22 @@ fits_apply (lam u) (lam v) a b n h x = fits_substitute a b x 0 u v h
 fits_apply (loc i) (loc j) a b n h x = (h, x)
 fits_apply (con i) (con j) a b n h x = (h, x)
 fits_apply (var i) g a b n h x = absurd (subst T n tt)
+fits_apply (con i) (var _) a b n h x = elim h [ ]
+fits_apply (con i) (loc j) a b n h x = elim h [ ]
+fits_apply (con i) (lam v) a b n h x = elim h [ ]
+fits_apply (con i) (app g v) a b n h x = elim h [ ]
+fits_apply (loc i) (var _) a b n h x = elim h [ ]
+fits_apply (loc i) (con j) a b n h x = elim h [ ]
+fits_apply (loc i) (lam v) a b n h x = elim h [ ]
+fits_apply (loc i) (app g v) a b n h x = elim h [ ]
+fits_apply (lam u) (var _) a b n h x = elim h [ ]
+fits_apply (lam u) (con j) a b n h x = elim h [ ]
+fits_apply (lam u) (loc j) a b n h x = elim h [ ]
+fits_apply (lam u) (app g v) a b n h x = elim h [ ]
+fits_apply (app f u) (var _) a b n h x = elim h [ ]
+fits_apply (app f u) (con j) a b n h x = elim h [ ]
+fits_apply (app f u) (loc j) a b n h x = elim h [ ]
+fits_apply (app f u) (lam v) a b n h x = elim h [ ]
 
 -- an abstraction over a closed body, or over an application to a closed argument, doesn't contract
 closed_kept : (f a : Term) → Closed 0 a → contract (lam (app f a)) ≡ lam (app f a)
@@ -114,6 +178,22 @@ applied_abstract f g (loc i) (loc j) n h x = go (eqb i 0) refl
 applied_abstract f g (con i) (con j) n h x = (h, x)
 applied_abstract f g (var zero) b n h x = absurd (subst T n tt)
 applied_abstract f g (var (suc i)) b n h x = rw (closed_kept g b x) (h, x)
+applied_abstract f g (con i) (var _) n h x = elim x [ ]
+applied_abstract f g (con i) (loc j) n h x = elim x [ ]
+applied_abstract f g (con i) (lam v) n h x = elim x [ ]
+applied_abstract f g (con i) (app b v) n h x = elim x [ ]
+applied_abstract f g (loc i) (var _) n h x = elim x [ ]
+applied_abstract f g (loc i) (con j) n h x = elim x [ ]
+applied_abstract f g (loc i) (lam v) n h x = elim x [ ]
+applied_abstract f g (loc i) (app b v) n h x = elim x [ ]
+applied_abstract f g (lam u) (var _) n h x = elim x [ ]
+applied_abstract f g (lam u) (con j) n h x = elim x [ ]
+applied_abstract f g (lam u) (loc j) n h x = elim x [ ]
+applied_abstract f g (lam u) (app b v) n h x = elim x [ ]
+applied_abstract f g (app a u) (var _) n h x = elim x [ ]
+applied_abstract f g (app a u) (con j) n h x = elim x [ ]
+applied_abstract f g (app a u) (loc j) n h x = elim x [ ]
+applied_abstract f g (app a u) (lam v) n h x = elim x [ ]
 
 pub fits_abstract : (s t : Term) → is_unsure s ≡ false → Fits s t → Fits (contract (lam s)) (contract (lam t))
 fits_abstract (app f a) (app g b) n h = applied_abstract f g a b n h.0 h.1
@@ -122,6 +202,22 @@ fits_abstract (loc i) (loc j) n h = h
 fits_abstract (con i) (con j) n h = h
 fits_abstract (var zero) t n h = absurd (subst T n tt)
 fits_abstract (var (suc i)) t n h = rw (closed_abstraction t h) h
+fits_abstract (con i) (var _) n h = elim h [ ]
+fits_abstract (con i) (loc j) n h = elim h [ ]
+fits_abstract (con i) (lam c) n h = elim h [ ]
+fits_abstract (con i) (app g b) n h = elim h [ ]
+fits_abstract (loc i) (var _) n h = elim h [ ]
+fits_abstract (loc i) (con j) n h = elim h [ ]
+fits_abstract (loc i) (lam c) n h = elim h [ ]
+fits_abstract (loc i) (app g b) n h = elim h [ ]
+fits_abstract (lam b) (var _) n h = elim h [ ]
+fits_abstract (lam b) (con j) n h = elim h [ ]
+fits_abstract (lam b) (loc j) n h = elim h [ ]
+fits_abstract (lam b) (app g _) n h = elim h [ ]
+fits_abstract (app f a) (var _) n h = elim h [ ]
+fits_abstract (app f a) (con j) n h = elim h [ ]
+fits_abstract (app f a) (loc j) n h = elim h [ ]
+fits_abstract (app f a) (lam c) n h = elim h [ ]
 
 -- single contractions leave no loose local that wasn't there
 pub closed_apply : (d : ℕ) (f a : Term) → Closed d f → Closed d a → Closed d (contract (app f a))

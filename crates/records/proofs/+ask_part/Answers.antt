@@ -2,7 +2,6 @@
 -- measure is the length of the slice that is handed on. Assumes nothing.
 use mathlib.Core.Path.{sym, ap, ◌∙◌}
 use Prim.Native.Nat.{◌+◌}
-use lib.ListN.{length}
 use native.Mathlib.Omega.{arith}
 use Rattle.records.specs.Tests.{asked}
 use Rattle.records.proofs.Tests.{walked_leaf, walked_no, part_local, part_other}
@@ -10,7 +9,6 @@ use Rattle.records.proofs.Tests.{asks_two, asks_under, asks_local, asks_local_no
 use Rattle.records.proofs.Slices.{slice_length, head_slice, argument_slice, body_slice, slice_end}
 use Rattle.records.proofs.Slices.{walked_parts, walked_head_no, walked_body, walked_near}
 use borrow.Author.Rules.{rules}
-use Prim.Native.Nat.{ℕ, ◌<◌}
 use Rattle.records.proofs.+ask_part.Goals as goal
 
 pub ask_part-head-requires : goal.ask_part-head-requires

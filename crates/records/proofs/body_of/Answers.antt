@@ -2,7 +2,6 @@
 use mathlib.Core.Path.{ap}
 use lib.ListN.{drop}
 use Rattle.records.proofs.Parts.{rest_part, body_lies}
-use borrow.Author.Rules.{rules}
 use Rattle.records.proofs.body_of.Goals as goal
 
 pub returns : goal.returns

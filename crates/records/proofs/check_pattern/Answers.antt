@@ -1,6 +1,5 @@
 -- `records::check_pattern` meets its contract. What `check_table` finds is the answer to the pattern's three rows. Assumes nothing.
 use Rattle.records.proofs.Checks.{pattern_answer}
-use borrow.Author.Rules.{rules}
 use Rattle.records.proofs.check_pattern.Goals as goal
 
 pub returns : goal.returns

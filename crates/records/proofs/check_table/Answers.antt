@@ -1,7 +1,6 @@
 -- `records::check_table` meets its contract. Each answer is given by the tests that led to it. Assumes nothing.
 use mathlib.Core.Path.{sym, ◌∙◌}
 use native.Mathlib.Omega.{arith}
-use borrow.Author.Tests.{not-true, not-false}
 use Rattle.records.specs.Checks.{OneTerm}
 use Rattle.records.proofs.Tests.{says}
 use Rattle.records.proofs.Checks.{length_checked, found_most, found_record, found_term, found_none}
@@ -17,15 +16,14 @@ returns-then-not-good_records c =
     c.if-is_bad_length.false _ (sym c.good_records.ensures ∙ c.if-not-good_records.true)
 
 pub is_one_term-requires : goal.is_one_term-requires
-is_one_term-requires c =
-    (
-      record { allowed = c.args.variables; good = sym c.good_records.ensures ∙ c.if-not-good_records.false },
-      omega (
-        arith,
-        found_most c.args.most c.args.table.now c.is_bad_length.result
-            c.is_bad_length.ensures c.if-is_bad_length.false,
-      ),
-    )
+is_one_term-requires c = (
+  record { allowed = c.args.variables; good = sym c.good_records.ensures ∙ c.if-not-good_records.false },
+  omega (
+    arith,
+    found_most c.args.most c.args.table.now c.is_bad_length.result
+        c.is_bad_length.ensures c.if-is_bad_length.false,
+  ),
+)
 
 pub returns-then-is_one_term : goal.returns-then-is_one_term
 returns-then-is_one_term c =

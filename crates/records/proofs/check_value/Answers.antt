@@ -3,7 +3,6 @@
 use mathlib.Core.Path.{ap}
 use Rattle.records.specs.Checks.{recipe_refusal}
 use Rattle.records.proofs.Checks.{value_right, value_refused}
-use borrow.Author.Rules.{rules}
 use Rattle.records.proofs.check_value.Goals as goal
 
 pub returns-in-Right : goal.returns-in-Right

@@ -1,13 +1,8 @@
 -- `records::good_records` meets its contract. The invariant: the table's records are good exactly if those from `at` on are; the measure
 -- is what is left of the table. Assumes nothing.
-use mathlib.Core.Path.{◌≡◌, refl, sym, ◌∙◌}
-use borrow.Author.Tests.{not-true, not-false}
-use Prim.Native.Nat.{◌-◌, ◌≤◌}
+use mathlib.Core.Path.{refl, sym, ◌∙◌}
 use native.Mathlib.Omega.{arith}
-use lib.ListN.{length, drop}
-use Rattle.terms.specs.Table.{good_records}
 use Rattle.records.proofs.Record.{good_short, good_first, good_end}
-use borrow.Author.Rules.{rules}
 use Rattle.records.proofs.good_records.Goals as goal
 
 pub loop-at-init : goal.loop-at-init
@@ -22,12 +17,11 @@ returns-then-not-is_allowed c =
     (sym c.if-not-is_allowed.true ∙ c.is_allowed.ensures) ∙ sym c.loop-at.invariant.1
 
 pub loop-at-preserved : goal.loop-at-preserved
-loop-at-preserved c =
-    (
-      omega arith,
-      c.loop-at.invariant.1 ∙ sym (good_first c.args.variables c.args.s.now c.loop-at.at _ (omega arith)
-          (sym c.if-not-is_allowed.false ∙ c.is_allowed.ensures)),
-    )
+loop-at-preserved c = (
+  omega arith,
+  c.loop-at.invariant.1 ∙ sym (good_first c.args.variables c.args.s.now c.loop-at.at _ (omega arith)
+      (sym c.if-not-is_allowed.false ∙ c.is_allowed.ensures)),
+)
 
 pub returns : goal.returns
 returns c = good_end _ _ _ c.loop-at-test.false ∙ sym c.loop-at.invariant.1

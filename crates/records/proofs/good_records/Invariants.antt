@@ -1,13 +1,9 @@
 -- `records::good_records` meets its contract. The invariant: the table's records are good exactly if those from `at` on are; the measure
 -- is what is left of the table. Assumes nothing.
-use mathlib.Core.Path.{◌≡◌, refl, sym, ◌∙◌}
-use borrow.Author.Tests.{not-true, not-false}
+use mathlib.Core.Path.{◌≡◌}
 use Prim.Native.Nat.{◌-◌, ◌≤◌}
-use native.Mathlib.Omega.{arith}
 use lib.ListN.{length, drop}
 use Rattle.terms.specs.Table.{good_records}
-use Rattle.records.proofs.Record.{good_short, good_first, good_end}
-use borrow.Author.Rules.{rules}
 use Rattle.records.proofs.good_records.Given as goal
 
 abbrev pub invariant-loop-at : goal.invariant-loop-at

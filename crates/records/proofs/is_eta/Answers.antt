@@ -1,7 +1,6 @@
 -- `records::is_eta` meets its contract. By the first record, then by the last, then by what the walk over the head says. Assumes nothing.
 use native.Mathlib.Omega.{arith}
 use mathlib.Core.Path.{sym, ◌∙◌}
-use borrow.Author.Tests.{not-true, not-false}
 use Rattle.records.proofs.Parts.{tree_whole}
 use Rattle.records.proofs.Tests.{eta_no_application, eta_other_last}
 use Rattle.records.proofs.Slices.{slice_length, head_slice, slice_end, eta_used_slice, eta_ends_slice}

@@ -2,7 +2,6 @@
 use mathlib.Core.Path.{sym, ap}
 use Rattle.records.specs.declared.Ask.{Ask}
 use Rattle.records.specs.Tests.{asked}
-use borrow.Author.Rules.{rules}
 use Rattle.records.proofs.Ask.holds.Goals as goal
 
 pub returns-in-Bound : goal.returns-in-Bound
