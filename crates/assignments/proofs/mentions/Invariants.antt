@@ -1,0 +1,17 @@
+-- `assignments::mentions` meets its contract. The loop's invariant: no record passed is the variable. Assumes nothing.
+use Prim.Native.Nat.{ℕ, ◌≤◌, ◌<◌, ◌-◌, ◌*◌, ◌/◌}
+use mathlib.Core.Path.{◌≡◌, refl}
+use native.Mathlib.Omega.{arith}
+use borrow.Author.Count.{below_more}
+use lib.ListN.{length}
+use Rattle.records.proofs.Tests.{says}
+use Rattle.assignments.specs.Entries.{VariableAt}
+use Rattle.assignments.proofs.Entries.{mentions_none, mentions_here}
+use borrow.Author.Rules.{rules}
+use Rattle.assignments.proofs.mentions.Given as goal
+
+abbrev pub invariant-loop-k : goal.invariant-loop-k
+invariant-loop-k l = (l.n ≡ length l.s / 4) × (l.k ≤ l.n) × ((j : ℕ) → j < l.k → ¬ VariableAt l.s (4 * j) l.variable)
+
+abbrev pub decreases-loop-k : goal.decreases-loop-k
+decreases-loop-k l = l.n - l.k

@@ -1,0 +1,11 @@
+-- `heights::heights_into` meets its contract. The invariant: the heights from record i on are written, and those of the row there are kept;
+-- the measure is the number of records that are left. Assumes nothing.
+use borrow.Author.Rules.{rules}
+use Rattle.heights.proofs.Rows.{Passed, passed_start, passed_behind, passed_room, passed_step, passed_all}
+use Rattle.heights.proofs.heights_into.Given as goal
+
+abbrev pub invariant-loop-i : goal.invariant-loop-i
+invariant-loop-i l = Passed l.s l.initial.out l.i l.next l.first l.row l.out
+
+abbrev pub decreases-loop-i : goal.decreases-loop-i
+decreases-loop-i l = l.i
