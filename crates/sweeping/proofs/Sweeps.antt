@@ -52,6 +52,8 @@ is_occurs i (app f a) (inl o) = rw (is_occurs i f o)
 is_occurs i (app f a) (inr o) = or_right (occurs i f) (occurs i a) (is_occurs i a o)
 is_occurs i (lam b) o = is_occurs i b o
 is_occurs i (var n) o = eq-eqb i n o
+is_occurs i (con _) o = elim o [ ]
+is_occurs i (loc _) o = elim o [ ]
 
 pub closed_swept : (s : List ℕ) (a : List Entry) (φ : ℕ → Term) (d : ℕ) (t : Term) → Gives s a φ t → Closed d t
     → Closed d (sweep (fill φ t))

@@ -1,0 +1,77 @@
+-- `shifting::lower_into` meets its contract. Each record is written as its term's, moved out, and a part's bytes follow its record's;
+-- where a local forbids it, only bytes from the first written on have changed. The measure is the length of the slice. Assumes nothing.
+use mathlib.Core.Path.{◌∙◌}
+use lib.ListN.{length}
+use native.Mathlib.Omega.{arith}
+use Rattle.records.proofs.Tests.{says}
+use Rattle.shifting.proofs.Slices.{shorter, shorter_behind}
+use Rattle.shifting.proofs.Lowering.{lowers_whole, lowers_head, lowers_argument, lowers_body, lowers_record, lowered_ends}
+use Rattle.shifting.proofs.Lowering.{lowered_passed, lowered_near, lowered_application, lowered_stop, lowered_near_body}
+use Rattle.shifting.proofs.Lowering.{lowered_abstraction, lowered_local, lowered_local_no, lowered_other}
+use borrow.Author.Rules.{rules}
+use Prim.Native.Nat.{ℕ, ◌+◌, ◌≤◌, ◌<◌}
+use Rattle.shifting.proofs.+lower_into.Goals as goal
+
+pub lower_into-head-requires : goal.lower_into-head-requires
+lower_into-head-requires t c = (search (rules, shorter), search (rules, lowers_head))
+
+pub returns-in_default : goal.returns-in_default
+returns-in_default t c = search (rules, lowered_stop)
+
+pub overflow_add-next : goal.overflow_add-next
+overflow_add-next t c =
+    omega (arith, (lowered_passed _ _ _ _ _ _ _ _ _ c.requires c.if-kind.true c.in-Upto.is c.lower_into-head.ensures).0)
+
+pub slice_bounds-lower_into-count-then-kind : goal.slice_bounds-lower_into-count-then-kind
+slice_bounds-lower_into-count-then-kind t c =
+    (lowered_passed _ _ _ _ _ _ _ _ _ c.requires c.if-kind.true c.in-Upto.is c.lower_into-head.ensures).0
+
+pub slice_bounds-lower_into-start-then-kind : goal.slice_bounds-lower_into-start-then-kind
+slice_bounds-lower_into-start-then-kind t c =
+    (lowered_passed _ _ _ _ _ _ _ _ _ c.requires c.if-kind.true c.in-Upto.is c.lower_into-head.ensures).0
+
+pub overflow_add-o-then-kind : goal.overflow_add-o-then-kind
+overflow_add-o-then-kind t c =
+    omega (arith, (lowered_passed _ _ _ _ _ _ _ _ _ c.requires c.if-kind.true c.in-Upto.is c.lower_into-head.ensures).1)
+
+pub lower_into-requires : goal.lower_into-requires
+lower_into-requires t c =
+    let e = lowered_ends _ _ _ _ _ _ _ _ c.in-Upto.is c.lower_into-head.ensures in (
+      search (rules, shorter_behind),
+      lowers_argument _ _ _ _ _ _ (c.lower_into-head.auto.out ∙ c.put_record.auto.out) c.requires _
+          c.if-kind.true e,
+    )
+
+pub further-requires : goal.further-requires
+further-requires t c = search (rules, lowered_near)
+
+pub returns-then-kind : goal.returns-then-kind
+returns-then-kind t c = search (rules, lowered_application, lowers_whole)
+
+pub lower_into-requires-then-kind-2 : goal.lower_into-requires-then-kind-2
+lower_into-requires-then-kind-2 t c = (search (rules, shorter), search (rules, lowers_body))
+
+pub further-requires-then-kind-2 : goal.further-requires-then-kind-2
+further-requires-then-kind-2 t c = search (rules, lowered_near_body)
+
+pub returns-then-kind-2 : goal.returns-then-kind-2
+returns-then-kind-2 t c = search (rules, lowered_abstraction)
+
+pub returns-then-is_inside : goal.returns-then-is_inside
+returns-then-is_inside t c =
+    lowered_local_no _ _ _ _ _ _ c.number_at-n.ensures.0 c.if-kind-3.true
+    (says _ _ _ c.is_inside.ensures c.if-is_inside.true)
+
+pub unshifted-requires : goal.unshifted-requires
+unshifted-requires t c = (says _ _ _ c.is_inside.ensures c.if-is_inside.false, omega arith)
+
+pub returns-then-kind-3 : goal.returns-then-kind-3
+returns-then-kind-3 t c =
+    lowered_local _ _ _ _ _ _ c.number_at-n.ensures.0 _ _ (lowers_whole _ _ _ _ _ c.requires) c.if-kind-3.true
+    (says _ _ _ c.is_inside.ensures c.if-is_inside.false) c.unshifted.ensures.0 c.put_record-then-kind-3.ensures
+
+pub copy_into-requires : goal.copy_into-requires
+copy_into-requires t c = search (rules, lowers_record)
+
+pub returns : goal.returns
+returns t c = search (rules, lowered_other, lowers_whole)
