@@ -14,7 +14,7 @@ DECLARED = re.compile(
     re.M)
 # Lemmas that would have the name of a function, and one abbreviation that would have that of another.
 LEMMAS = {n: n.replace("-", "_") + "_lem" for n in (
-    "all-parts at-constants constant-head is-abstraction is-local kind-of line-values number-at open-against part-at read-parts second-part").split()}
+    "all-parts at-constants constant-head is-abstraction is-local kind-of line-values number-at open-against part-at read-parts second-part swept-records").split()}
 LEMMAS["argument-goal"] = "goal_of_argument"
 # The same, where the script before this one has turned the lemma's name already: the name, and the crates whose proofs it stands in.
 TURNED = {"count_at": ("storage", "history"), "of_number": ("refusals", "exports"), "none_found": ("records",), "body_below": ("builds",)}

@@ -103,6 +103,7 @@ lines_begin s bytes more (l ∷ ls) h = (laid_longer s bytes more l h.0, lines_b
 pub lines_entire : (s bytes : List ℕ) (ls : List Line) → Lines s bytes ls → Entire ls
 lines_entire s bytes (l ∷ ls) h m (inl p) = ap length p ∙ h.0.entries
 lines_entire s bytes (l ∷ ls) h m (inr p) = lines_entire s h.0.rest ls h.1 m p
+lines_entire s bytes [] h m x'' = elim x'' [ ]
 
 pub lines_count : (s lines : List ℕ) (n : ℕ) (ls : List Line) → 4 * variables * n ≤ length lines
     → Lines s (take (4 * variables * n) lines) ls → n ≡ length ls

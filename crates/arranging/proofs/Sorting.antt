@@ -102,6 +102,7 @@ distinct_right (l ∷ ls) ms d = distinct_right ls ms d.1
 distinct_apart : (ls ms : List Line) → Distinct (ls ++ ms) → Disjoint ls ms
 distinct_apart (l ∷ ls) ms d x (inl p) q = d.0 (in_right l ls ms (subst (λ y. In y ms) p q))
 distinct_apart (l ∷ ls) ms d x (inr p) q = distinct_apart ls ms d.1 x p q
+distinct_apart [] ms d x x4 q = elim x4 [ ]
 
 -- a listing in two halves
 record Halved (X L : List ℕ) (h : ℕ) (ls : List Line) : Type 0 where

@@ -74,14 +74,14 @@ module _ (l s : List ℕ) (a : List Entry) (n : ℕ) (x : Normalizable l n) wher
 
 -- what one sweep left
 module _ (l : List ℕ) (n : ℕ) (r : Length) (q : List ℕ) (w : (t : Term) → Begins l n t → SweptAgain t r q) where
-  swept_records : (m : ℕ) → r ≡ Records m → (t : Term) → Begins l n t → (largest t ≤ swept_records) × Begins q m (sweep t)
+  swept_records_lem : (m : ℕ) → r ≡ Records m → (t : Term) → Begins l n t → (largest t ≤ swept_records) × Begins q m (sweep t)
   unfolding SweptAgain
-  swept_records m p t y = subst (λ (z : Length). SweptAgain t z q) p (w t y)
+  swept_records_lem m p t y = subst (λ (z : Length). SweptAgain t z q) p (w t y)
 
   pub normalizable_again : Normalizable l n → length q ≡ length l → (m : ℕ) → r ≡ Records m → Normalizable q m
   normalizable_again x e m p = record {
     tree = sweep x.tree;
-    begins = (swept_records m p x.tree x.begins).1;
+    begins = (swept_records_lem m p x.tree x.begins).1;
     room = omega (arith, x.room);
     closed = closed_sweep_below 0 x.tree x.below x.closed;
     below = below_sweep 0 x.tree x.below;
@@ -132,6 +132,6 @@ module _ (l : List ℕ) (n : ℕ) (b : Bool) (w : Tells (take (n * 4 - 0) (drop 
   pub normalized_later : (m : ℕ) → r ≡ Records m → (most rest : ℕ) → most ≡ rest + 1 → (a : NormalForm) (after : List ℕ)
       → ((u : Term) → Begins q m u → Normalized rest 0 u a after) → (t : Term) → Begins l n t → Normalized most 0 t a after
   normalized_later m p most rest z a after x t y =
-      let g = swept_records l n r q v m p t y in
+      let g = swept_records_lem l n r q v m p t y in
       subst (λ (k : ℕ). Normalized k 0 t a after) (sym (z ∙ add-one rest))
       (normalized_more 0 t (omega arith) (λ _. not_normal l n b w t y e) g.0 rest a after (x (sweep t) g.1))

@@ -42,11 +42,13 @@ parts_stand r k (suc n) ps (t, p, inr (c, z)) x i = parts_stand r (suc k) n ps z
 with_rules_in : (p : ℕ × Term) (is : List ℕ) (x : Pair) → In x (with_rules p is) → (x.0 ≡ p) × In x.1 is
 with_rules_in p (i ∷ is) x (inl e) = (ap (λ (y : Pair). y.0) e, inl (ap (λ (y : Pair). y.1) e))
 with_rules_in p (i ∷ is) x (inr h) = let r = with_rules_in p is x h in (r.0, inr r.1)
+with_rules_in p [] x x3 = elim x3 [ ]
 
 pub pairs_in : (ps : List (ℕ × Term)) (is : List ℕ) (x : Pair) → In x (pairs ps is) → In x.0 ps × In x.1 is
 pairs_in (p ∷ ps) is x h =
     ⊎_elim (λ i. let r = with_rules_in p is x i in (inl r.0, r.1)) (λ i. let r = pairs_in ps is x i in (inr r.0, r.1))
     (in_append x (with_rules p is) (pairs ps is) h)
+pairs_in [] is x h = elim h [ ]
 
 pub parts_all : (r : List ℕ) (k n : ℕ) (ps : List (ℕ × Term)) → Parts r k n ps → (j : ℕ) (t : Term) → k ≤ j → j < k + n → Part r (4 * j) t
     → Closed 0 t → In (j, t) ps

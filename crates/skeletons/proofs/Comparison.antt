@@ -37,6 +37,22 @@ fits_kind (lam b) (lam c) n h = refl
 fits_kind (loc i) (loc j) n h = refl
 fits_kind (con i) (con j) n h = refl
 fits_kind (var i) y n h = absurd (subst T n tt)
+fits_kind (con i) (var _) n h = elim h [ ]
+fits_kind (con i) (loc j) n h = elim h [ ]
+fits_kind (con i) (lam c) n h = elim h [ ]
+fits_kind (con i) (app g b) n h = elim h [ ]
+fits_kind (loc i) (var _) n h = elim h [ ]
+fits_kind (loc i) (con j) n h = elim h [ ]
+fits_kind (loc i) (lam c) n h = elim h [ ]
+fits_kind (loc i) (app g b) n h = elim h [ ]
+fits_kind (lam b) (var _) n h = elim h [ ]
+fits_kind (lam b) (con j) n h = elim h [ ]
+fits_kind (lam b) (loc j) n h = elim h [ ]
+fits_kind (lam b) (app g _) n h = elim h [ ]
+fits_kind (app f a) (var _) n h = elim h [ ]
+fits_kind (app f a) (con j) n h = elim h [ ]
+fits_kind (app f a) (loc j) n h = elim h [ ]
+fits_kind (app f a) (lam c) n h = elim h [ ]
 
 fits_number : (x y : Term) → is_variable x ≡ false → Fits x y → number_of x ≡ number_of y
 fits_number (app f a) (app g b) n h = refl
@@ -44,6 +60,22 @@ fits_number (lam b) (lam c) n h = refl
 fits_number (loc i) (loc j) n h = h
 fits_number (con i) (con j) n h = h
 fits_number (var i) y n h = absurd (subst T n tt)
+fits_number (con i) (var _) n h = elim h [ ]
+fits_number (con i) (loc j) n h = elim h [ ]
+fits_number (con i) (lam c) n h = elim h [ ]
+fits_number (con i) (app g b) n h = elim h [ ]
+fits_number (loc i) (var _) n h = elim h [ ]
+fits_number (loc i) (con j) n h = elim h [ ]
+fits_number (loc i) (lam c) n h = elim h [ ]
+fits_number (loc i) (app g b) n h = elim h [ ]
+fits_number (lam b) (var _) n h = elim h [ ]
+fits_number (lam b) (con j) n h = elim h [ ]
+fits_number (lam b) (loc j) n h = elim h [ ]
+fits_number (lam b) (app g _) n h = elim h [ ]
+fits_number (app f a) (var _) n h = elim h [ ]
+fits_number (app f a) (con j) n h = elim h [ ]
+fits_number (app f a) (loc j) n h = elim h [ ]
+fits_number (app f a) (lam c) n h = elim h [ ]
 
 same_fits : (x y u v : Term) → x ≡ u → y ≡ v → Fits x y → Fits u v
 same_fits x y u v p q h = subst (λ (t : Term). Fits t v) p (subst (Fits x) q h)

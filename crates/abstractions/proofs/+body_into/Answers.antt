@@ -1,0 +1,54 @@
+-- `abstractions::body_into` meets its contract. A copy is written by its choice, and the bytes of the parts of any other part follow its
+-- record's; the measure is the length of the slice. Assumes nothing.
+use mathlib.Core.Path.{◌∙◌}
+use lib.ListN.{length}
+use Rattle.shifting.proofs.Slices.{shorter, shorter_behind}
+use Rattle.abstractions.proofs.Bodies.{no_copy, body_copy, body_application, body_abstraction, body_other, argument_fits}
+use Rattle.abstractions.proofs.Bodies.{body_fits, choosing_whole, choosing_compares, choosing_choice, choosing_head}
+use Rattle.abstractions.proofs.Bodies.{choosing_argument, choosing_body}
+use borrow.Author.Rules.{rules}
+use Prim.Native.Nat.{ℕ, ◌<◌}
+use Rattle.abstractions.proofs.+body_into.Goals as goal
+
+pub copy_length-copy-requires : goal.copy_length-copy-requires
+copy_length-copy-requires t c = search (rules, choosing_compares)
+
+pub choice_into-end-requires : goal.choice_into-end-requires
+choice_into-end-requires t c = (search rules, search (rules, choosing_choice))
+
+pub returns-in-Upto : goal.returns-in-Upto
+returns-in-Upto t c = search (rules, body_copy, choosing_whole)
+
+pub body_into-head-requires : goal.body_into-head-requires
+body_into-head-requires t c = (search (rules, shorter), search (rules, choosing_head))
+
+pub body_into-argument-requires : goal.body_into-argument-requires
+body_into-argument-requires t c =
+    (
+      search (rules, shorter_behind),
+      choosing_argument _ _ _ _ _ _ _ c.requires _
+          (c.body_into-head.auto.out ∙ c.put_record.auto.out) _ _ _ _ _ _ c.if-kind.true
+          c.body_into-head.ensures,
+    )
+
+pub built_further-requires : goal.built_further-requires
+built_further-requires t c =
+    argument_fits c.args.s.now _ _ c.requires.most c.body_into-head.ensures.ends c.body_into-argument.ensures.ends
+
+pub returns-then-kind : goal.returns-then-kind
+returns-then-kind t c =
+    body_application _ _ _ _ _ _ _ (no_copy _ _ _ _ c.in_default.is c.copy_length-copy.ensures) _ _ _ _ _ _ _ _ _
+    c.if-kind.true c.put_record.ensures c.body_into-head.ensures c.body_into-argument.ensures _ _ _
+    c.built_further.ensures.0 c.built_further.ensures.1 c.built_further.ensures.2
+
+pub body_into-body-requires : goal.body_into-body-requires
+body_into-body-requires t c = (search (rules, shorter), search (rules, choosing_body))
+
+pub built_further-requires-then-kind-2 : goal.built_further-requires-then-kind-2
+built_further-requires-then-kind-2 t c = search (rules, body_fits)
+
+pub returns-then-kind-2 : goal.returns-then-kind-2
+returns-then-kind-2 t c = search (rules, body_abstraction, no_copy)
+
+pub returns : goal.returns
+returns t c = search (rules, body_other, no_copy, choosing_whole)

@@ -1,0 +1,34 @@
+-- `abstractions::copies` meets its contract. A copy counts one, and the counts of the parts of any other part are added; the measure is
+-- the length of the slice. Assumes nothing.
+use lib.ListN.{length}
+use Rattle.shifting.proofs.Slices.{shorter, shorter_behind}
+use Rattle.abstractions.proofs.Bodies.{no_copy, counts_copy, counts_application, counts_abstraction, counts_leaf, counting_compares}
+use Rattle.abstractions.proofs.Bodies.{counting_head, counting_argument, counting_body}
+use borrow.Author.Rules.{rules}
+use Prim.Native.Nat.{ℕ, ◌<◌}
+use Rattle.abstractions.proofs.+copies.Goals as goal
+
+pub copy_length-walk-requires : goal.copy_length-walk-requires
+copy_length-walk-requires t c = search (rules, counting_compares)
+
+pub returns-in-Upto : goal.returns-in-Upto
+returns-in-Upto t c = search (rules, counts_copy)
+
+pub copies-head-requires : goal.copies-head-requires
+copies-head-requires t c = (search (rules, shorter), search (rules, counting_head))
+
+pub copies-argument-requires : goal.copies-argument-requires
+copies-argument-requires t c =
+    (search (rules, shorter_behind), counting_argument _ _ _ c.requires _ _ c.if-kind.true c.copies-head.ensures)
+
+pub returns-then-kind : goal.returns-then-kind
+returns-then-kind t c = search (rules, counts_application, no_copy)
+
+pub copies-body-requires : goal.copies-body-requires
+copies-body-requires t c = (search (rules, shorter), search (rules, counting_body))
+
+pub returns-then-kind-2 : goal.returns-then-kind-2
+returns-then-kind-2 t c = search (rules, counts_abstraction, no_copy)
+
+pub returns : goal.returns
+returns t c = search (rules, counts_leaf, no_copy)

@@ -1,0 +1,17 @@
+-- `arranging::compare` meets its contract. The loop's invariant: the bytes passed are equal; each return is at the first byte that differs,
+-- or at the end of a table. Assumes nothing.
+use native.Mathlib.Omega.{arith}
+use Prim.Native.Nat.{◌≤◌, ◌-◌}
+use mathlib.Core.Path.{◌≡◌, refl, sym}
+use lib.ListN.{length, take}
+use Rattle.arranging.specs.Order.{ComparesAs}
+use Rattle.arranging.proofs.Comparing.{byte_less, shorter_less, both_ended}
+use Rattle.copying.proofs.Stores.{same_more}
+use borrow.Author.Rules.{rules}
+use Rattle.arranging.proofs.compare.Given as goal
+
+abbrev pub invariant-loop-i : goal.invariant-loop-i
+invariant-loop-i l = (l.i ≤ length l.a) × (l.i ≤ length l.b) × (take l.i l.a ≡ take l.i l.b)
+
+abbrev pub decreases-loop-i : goal.decreases-loop-i
+decreases-loop-i l = length l.a - l.i

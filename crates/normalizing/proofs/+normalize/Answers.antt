@@ -1,0 +1,30 @@
+-- `normalizing::normalize` meets its contract: what the sweeps behind the first come to is what all of them come to. The measure is the
+-- number of sweeps that are left. Assumes nothing.
+use native.Mathlib.Omega.{arith}
+use Rattle.normalizing.proofs.Sweeps.{normalizable_table, normalized_now, normalized_none, normalized_long, normalizable_again}
+use Rattle.normalizing.proofs.Sweeps.{normalized_later}
+use borrow.Author.Rules.{rules}
+use Prim.Native.Nat.{ℕ, ◌<◌}
+use Rattle.normalizing.proofs.+normalize.Goals as goal
+
+pub is_normal-requires : goal.is_normal-requires
+is_normal-requires t c = search (rules, normalizable_table)
+
+pub returns-then-is_normal : goal.returns-then-is_normal
+returns-then-is_normal t c = search (rules, normalized_now)
+
+pub returns-then-most-eq0 : goal.returns-then-most-eq0
+returns-then-most-eq0 t c = search (rules, normalized_none)
+
+pub returns-in_default : goal.returns-in_default
+returns-in_default t c =
+    λ u y. normalized_long _ _ _ c.is_normal.ensures u y c.if-is_normal.false _ _ _ c.sweep_again-length.ensures
+    (omega arith) c.in_default.is
+
+pub normalize-requires : goal.normalize-requires
+normalize-requires t c = search (rules, normalizable_again)
+
+pub returns : goal.returns
+returns t c =
+    normalized_later _ _ _ c.is_normal.ensures c.if-is_normal.false _ _ c.sweep_again-length.ensures _
+    c.in-Records.is _ _ (omega arith) _ _ c.normalize.ensures

@@ -1,0 +1,92 @@
+-- `skeletons::fits` meets its contract. Each branch is one law of a term compared with a skeleton, by the kind that both first records
+-- have; the measure is the length of the skeleton's slice. Assumes nothing.
+use lib.ListN.{length}
+use native.Mathlib.Omega.{arith}
+use Rattle.shifting.proofs.Slices.{shorter, shorter_behind}
+use Rattle.skeletons.proofs.Comparison.{heights_some, skeleton_compared_near, skeleton_compared_kinds, skeleton_compares_head}
+use Rattle.skeletons.proofs.Comparison.{skeleton_compared_stop, skeleton_compares_argument}
+use Rattle.skeletons.proofs.Comparison.{heads_passed, skeleton_compared_app, skeleton_compares_body, skeleton_compared_lam}
+use Rattle.skeletons.proofs.Comparison.{compared_same, skeleton_compared_other}
+use borrow.Author.Rules.{rules}
+use Prim.Native.Nat.{ℕ, ◌+◌, ◌/◌, ◌≤◌, ◌<◌}
+use Rattle.skeletons.proofs.+fits.Goals as goal
+
+pub returns-then-kind : goal.returns-then-kind
+returns-then-kind t c = c.fits_hole.ensures
+
+pub returns-then-kind-s : goal.returns-then-kind-s
+returns-then-kind-s t c = search (rules, skeleton_compared_kinds)
+
+pub slice_bounds-fits-count-then-kind-2-2 : goal.slice_bounds-fits-count-then-kind-2-2
+slice_bounds-fits-count-then-kind-2-2 t c = search (rules, heights_some)
+
+pub slice_bounds-fits-start-then-kind-2-2 : goal.slice_bounds-fits-start-then-kind-2-2
+slice_bounds-fits-start-then-kind-2-2 t c = search (rules, heights_some)
+
+pub fits-head-requires : goal.fits-head-requires
+fits-head-requires t c = (search (rules, shorter), search (rules, skeleton_compares_head))
+
+pub returns-in_default : goal.returns-in_default
+returns-in_default t c = search (rules, skeleton_compared_stop)
+
+pub overflow_add-n : goal.overflow_add-n
+overflow_add-n t c =
+    omega (arith, (heads_passed _ _ c.if-kind-s.false c.if-kind-2.true _ _ c.in-Upto.is c.fits-head.ensures _ c.requires).0, c.requires.skeleton_most)
+
+pub overflow_add-m : goal.overflow_add-m
+overflow_add-m t c =
+    omega (arith, (heads_passed _ _ c.if-kind-s.false c.if-kind-2.true _ _ c.in-Upto.is c.fits-head.ensures _ c.requires).1, c.requires.term_most)
+
+pub slice_bounds-fits-count-then-kind-2-3 : goal.slice_bounds-fits-count-then-kind-2-3
+slice_bounds-fits-count-then-kind-2-3 t c =
+    (heads_passed _ _ c.if-kind-s.false c.if-kind-2.true _ _ c.in-Upto.is c.fits-head.ensures _ c.requires).0
+
+pub slice_bounds-fits-start-then-kind-2-3 : goal.slice_bounds-fits-start-then-kind-2-3
+slice_bounds-fits-start-then-kind-2-3 t c =
+    (heads_passed _ _ c.if-kind-s.false c.if-kind-2.true _ _ c.in-Upto.is c.fits-head.ensures _ c.requires).0
+
+pub slice_bounds-fits-count-then-kind-2-4 : goal.slice_bounds-fits-count-then-kind-2-4
+slice_bounds-fits-count-then-kind-2-4 t c =
+    (heads_passed _ _ c.if-kind-s.false c.if-kind-2.true _ _ c.in-Upto.is c.fits-head.ensures _ c.requires).1
+
+pub slice_bounds-fits-start-then-kind-2-4 : goal.slice_bounds-fits-start-then-kind-2-4
+slice_bounds-fits-start-then-kind-2-4 t c =
+    (heads_passed _ _ c.if-kind-s.false c.if-kind-2.true _ _ c.in-Upto.is c.fits-head.ensures _ c.requires).1
+
+pub slice_bounds-fits-count-then-kind-2-5 : goal.slice_bounds-fits-count-then-kind-2-5
+slice_bounds-fits-count-then-kind-2-5 t c =
+    (heads_passed _ _ c.if-kind-s.false c.if-kind-2.true _ _ c.in-Upto.is c.fits-head.ensures _ c.requires).2
+
+pub slice_bounds-fits-start-then-kind-2-5 : goal.slice_bounds-fits-start-then-kind-2-5
+slice_bounds-fits-start-then-kind-2-5 t c =
+    (heads_passed _ _ c.if-kind-s.false c.if-kind-2.true _ _ c.in-Upto.is c.fits-head.ensures _ c.requires).2
+
+pub fits-argument-requires : goal.fits-argument-requires
+fits-argument-requires t c = (search (rules, shorter_behind), search (rules, skeleton_compares_argument))
+
+pub both_further-requires : goal.both_further-requires
+both_further-requires t c = search (rules, skeleton_compared_near)
+
+pub returns-then-kind-2 : goal.returns-then-kind-2
+returns-then-kind-2 t c = search (rules, skeleton_compared_app)
+
+pub slice_bounds-fits-count-then-kind-3-3 : goal.slice_bounds-fits-count-then-kind-3-3
+slice_bounds-fits-count-then-kind-3-3 t c = search (rules, heights_some)
+
+pub slice_bounds-fits-start-then-kind-3-3 : goal.slice_bounds-fits-start-then-kind-3-3
+slice_bounds-fits-start-then-kind-3-3 t c = search (rules, heights_some)
+
+pub fits-body-requires : goal.fits-body-requires
+fits-body-requires t c = (search (rules, shorter), search (rules, skeleton_compares_body))
+
+pub both_further-requires-then-kind-3 : goal.both_further-requires-then-kind-3
+both_further-requires-then-kind-3 t c = search (rules, skeleton_compared_near)
+
+pub returns-then-kind-3 : goal.returns-then-kind-3
+returns-then-kind-3 t c = search (rules, skeleton_compared_lam)
+
+pub returns-then-number_at : goal.returns-then-number_at
+returns-then-number_at t c = search (rules, compared_same)
+
+pub returns : goal.returns
+returns t c = search (rules, skeleton_compared_other)
