@@ -29,7 +29,7 @@ use Rattle.matching.proofs.Choices.{listing_chosen}
 use Rattle.abstractions.specs.Bodies.{chosen_in}
 use Rattle.assignments.specs.declared.Entry.{Entry}
 use Rattle.agenda.specs.declared.Agenda.{Agenda}
-use Rattle.agenda.specs.State.{Chain, GoalAt, State, Sat}
+use Rattle.agenda.specs.State.{Chain, GoalAt, State, Sat, next_at}
 use Rattle.arguments.specs.Ways.{Way, HasWays}
 use Rattle.builds.specs.Choices.{Choices, CopiesAre, ChosenBody}
 
@@ -42,7 +42,7 @@ chain_listable : (K : Goal → Type 0) (P W : List ℕ) (top at : ℕ) (gs : Lis
     → Listable variables (OccursIn P) g
 chain_listable K P W top at [] x g i = absurd i
 chain_listable K P W top at (h ∷ gs) x g (inl e) = subst (Listable variables (OccursIn P)) (sym e) (goal_listable P W top at h x.0.goal)
-chain_listable K P W top at (h ∷ gs) x g (inr i) = chain_listable K P W top _ gs x.1 g i
+chain_listable K P W top at (h ∷ gs) x g (inr i) = chain_listable K P W top (next_at W at) gs x.1 g i
 
 -- a predicate together with the other goals and the line
 abbrev Beside : List Goal → Predicate → List Goal → Line → Predicate
