@@ -12,8 +12,12 @@
 ghost use Rattle.std.specs.Prelude.{◌≤◌, length};
 ghost use Rattle.io.specs.Counts.{IsPrefixLen};
 
-use libc::STDOUT_FILENO;
 use records::{Kind, LINE, RECORD, TABLE_BYTES};
+
+// The descriptors of standard input and output.
+pub const STDIN: i32 = 0;
+
+pub const STDOUT: i32 = 1;
 
 // How many values one byte has, two bytes, and the three that hold a record's number.
 const BYTE: usize = 256;
@@ -267,7 +271,7 @@ pub fn lend_field<'a>(case: &[u8], k: usize, none: usize, table: &'a mut [u8]) -
 }
 
 pub fn say(text: &[u8]) {
-    io::write_all(STDOUT_FILENO, text);
+    io::write_all(STDOUT, text);
 }
 
 pub fn is_all(table: &[u8], b: u8) -> bool {

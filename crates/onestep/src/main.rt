@@ -4,6 +4,6 @@
 
 #![tactic(auto)]
 
-fn main() {
-    program::run(b"pattern.rec", b"recipe.rec");
+fn main(rt: HostRuntime) {
+    program::run(&rt, b"pattern.rec", b"recipe.rec");
 }

@@ -18,8 +18,10 @@ ghost use Rattle.printing.specs.Text.{OpenBefore, room, SpansWithin, Printable};
 ghost use Rattle.assignments.specs.declared.Entry.{Entry as assignments·Entry};
 
 use assignments::{Entry, Span};
-use libc::STDOUT_FILENO;
 use records::{LINE, RECORD, TABLE_BYTES, VARIABLES};
+
+// The descriptor of standard output.
+const STDOUT: i32 = 1;
 
 // Room for the longest printed line: nine characters for each record of a whole value table, its digits and a blank; and three numbers and
 // the line's end.
@@ -158,7 +160,7 @@ fn put_labelled(out: &mut [u8], word: &[u8], number: usize) -> usize
 }
 
 fn say(text: &[u8]) {
-    io::write_all(STDOUT_FILENO, text);
+    io::write_all(STDOUT, text);
 }
 
 // Prints a word and a number.

@@ -16,25 +16,43 @@ ghost use Rattle.io.specs.Counts.{IsPrefixLen};
 ghost use Rattle.terms.specs.Figures.{pattern_records, recipe_records, table_bytes};
 
 use enumeration::ListAnswer;
-use libc::close;
 use records::{PATTERN_RECORDS, RECIPE_RECORDS, RECORD, TABLE_BYTES};
+use std::fs;
+use std::io::Read;
+use std::rt::Files;
+use std::str;
 
 // Room for a table that is one record too long.
 const PATTERN_ROOM: usize = RECORD * PATTERN_RECORDS + RECORD;
 
 const RECIPE_ROOM: usize = RECORD * RECIPE_RECORDS + RECORD;
 
-// Reads a file, or as much as there is room for, and answers the number of bytes read.
-fn read(path: &[u8], table: &mut [u8]) -> usize
+// Reads until the table is full, the input ends or a read fails, and answers the number of bytes read.
+fn read_full<F: Read>(file: &mut F, table: &mut [u8]) -> usize
     ensures { IsPrefixLen result table.new }
 {
-    let file = os::open_read(path);
-    if file < 0 {
-        return 0;
+    let mut done = 0;
+    while done < table.len() {
+        let n = file.read(&mut table[done..]).unwrap_or(0);
+        if n == 0 {
+            break;
+        }
+        done += n;
     }
-    let n = io::read_full(file, table);
-    close(file);
-    n
+    done
+}
+
+// Reads a file, or as much as there is room for, and answers the number of bytes read. A path that isn't text names no file that opens.
+fn read<R: Files>(files: &R, path: &[u8], table: &mut [u8]) -> usize
+    ensures { IsPrefixLen result table.new }
+{
+    let Ok(name) = str::from_utf8(path) else {
+        return 0;
+    };
+    let Ok(mut file) = fs::open(files, name) else {
+        return 0;
+    };
+    read_full(&mut file, table)
 }
 
 // Lists into full tables and prints what came of it.
@@ -64,17 +82,23 @@ fn print_matches(pattern: &[u8], recipe: &[u8]) {
 }
 
 // Reads the files into their rooms, lists and prints.
-fn print_files(pattern_path: &[u8], recipe_path: &[u8], pattern: &mut [u8], recipe: &mut [u8])
+fn print_files<R: Files>(
+    files: &R,
+    pattern_path: &[u8],
+    recipe_path: &[u8],
+    pattern: &mut [u8],
+    recipe: &mut [u8],
+)
     requires { (length pattern.old ≡ 4 * (pattern_records + 1)) × (length recipe.old ≡ 4 * (recipe_records + 1)) }
 {
-    let n = read(pattern_path, pattern);
-    let m = read(recipe_path, recipe);
+    let n = read(files, pattern_path, pattern);
+    let m = read(files, recipe_path, recipe);
     print_matches(&pattern[..n], &recipe[..m]);
 }
 
 // The whole program, on the files at two paths.
-pub fn run(pattern_path: &[u8], recipe_path: &[u8]) {
+pub fn run<R: Files>(files: &R, pattern_path: &[u8], recipe_path: &[u8]) {
     let mut pattern = [0u8; PATTERN_ROOM];
     let mut recipe = [0u8; RECIPE_ROOM];
-    print_files(pattern_path, recipe_path, &mut pattern, &mut recipe);
+    print_files(files, pattern_path, recipe_path, &mut pattern, &mut recipe);
 }

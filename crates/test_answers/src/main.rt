@@ -25,8 +25,7 @@
 #![tactic(auto)]
 
 use enumeration::ListAnswer;
-use libc::STDIN_FILENO;
-use notation::{build_field, field, find, lend_field, letter_of, say_heading};
+use notation::{STDIN, build_field, field, find, lend_field, letter_of, say_heading};
 use records::TABLE_BYTES;
 use test_book::apply;
 use test_report::{marked, say_listing, say_operation, say_unlisted, say_work, short};
@@ -89,6 +88,6 @@ fn run_all(cases: &[u8]) {
 
 fn main() {
     let mut cases = io::large_buffer();
-    let n = io::read_full(STDIN_FILENO, &mut cases);
+    let n = io::read_full(STDIN, &mut cases);
     run_all(&cases[..n]);
 }

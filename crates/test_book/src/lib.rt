@@ -13,8 +13,7 @@ ghost use Rattle.std.specs.Prelude.{◌≤◌, ◌≡◌, length};
 ghost use Rattle.terms.specs.Figures.{place_bytes};
 
 use book::BookAnswer;
-use libc::STDOUT_FILENO;
-use notation::{build, build_field, bytes_in, field, find, lend_field, put_number, say};
+use notation::{STDOUT, build, build_field, bytes_in, field, find, lend_field, put_number, say};
 use records::{PATTERN_RECORDS, PLACE, RECORD, TABLE_BYTES};
 use test_report::{marked, say_operation, say_records, say_untouched, say_work, short};
 
@@ -103,7 +102,7 @@ fn build_book(text: &[u8], places: &mut [u8]) -> usize
 // Prints the number of pairs, and then the new recipe.
 fn say_pairs(pairs: usize, n: usize, out: &[u8]) {
     say(b"pairs ");
-    io::print_decimal(STDOUT_FILENO, pairs as u64);
+    io::print_decimal(STDOUT, pairs as u64);
     say(b", ");
     say_records(n, out);
 }

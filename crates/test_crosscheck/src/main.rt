@@ -22,8 +22,7 @@
 
 #![tactic(auto)]
 
-use libc::STDIN_FILENO;
-use notation::{bytes_in, field, find, letter_of, say_heading, within};
+use notation::{STDIN, bytes_in, field, find, letter_of, say_heading, within};
 use records::RECORD;
 use test_cases::entry_room;
 use test_groups::{try_example, try_group};
@@ -83,7 +82,7 @@ fn fill_pool(values: &mut [u8], entries: &mut [u8]) -> usize {
 fn run_with(entries: &[u8], values: &[u8], wide: &[u8]) {
     let mut cases = io::large_buffer();
     let mut all = [0u64; SIZE];
-    let n = io::read_full(STDIN_FILENO, &mut cases);
+    let n = io::read_full(STDIN, &mut cases);
     run_all(&cases[..n], entries, values, wide, &mut all);
 }
 

@@ -7,15 +7,17 @@
 
 use notation::say_heading;
 use program::run;
+use std::rt::Files;
 
-fn run_case(name: &[u8], pattern: &[u8], recipe: &[u8]) {
+fn run_case<R: Files>(files: &R, name: &[u8], pattern: &[u8], recipe: &[u8]) {
     say_heading(name);
-    run(pattern, recipe);
+    run(files, pattern, recipe);
 }
 
-fn main() {
+fn main(rt: HostRuntime) {
     // Document 01's case 2, which has no match.
     run_case(
+        &rt,
         b"no_match:",
         b"no_match/pattern.rec",
         b"no_match/recipe.rec",
@@ -23,6 +25,7 @@ fn main() {
 
     // A pattern that ignores its variable: `@ \ k1 p0` against `k1`. Its one line assigns nothing.
     run_case(
+        &rt,
         b"open_line:",
         b"open_line/pattern.rec",
         b"open_line/recipe.rec",
@@ -30,6 +33,7 @@ fn main() {
 
     // A pattern of 33 records, the first 32 of which are a term that matches: a file that is too long is refused and not cut.
     run_case(
+        &rt,
         b"long_pattern:",
         b"long_pattern/pattern.rec",
         b"long_pattern/recipe.rec",
@@ -37,6 +41,7 @@ fn main() {
 
     // A recipe of 97 records, the first 96 of which are a term.
     run_case(
+        &rt,
         b"long_recipe:",
         b"long_recipe/pattern.rec",
         b"long_recipe/recipe.rec",
@@ -44,6 +49,7 @@ fn main() {
 
     // There is no `pattern.rec`: a file that won't open counts as empty.
     run_case(
+        &rt,
         b"missing_file:",
         b"missing_file/pattern.rec",
         b"missing_file/recipe.rec",
@@ -51,6 +57,7 @@ fn main() {
 
     // `@ p0 k65536` against `@ @ k16777215 k0 k65536`: constants of 24 bits, two of which differ in the top eight alone.
     run_case(
+        &rt,
         b"large_constants:",
         b"large_constants/pattern.rec",
         b"large_constants/recipe.rec",
@@ -58,6 +65,7 @@ fn main() {
 
     // `@ p0 k1` against `k2` applied to `k1` eight times: 256 lines, more than list's first search has room for, so that it searches again.
     run_case(
+        &rt,
         b"long_listing:",
         b"long_listing/pattern.rec",
         b"long_listing/recipe.rec",

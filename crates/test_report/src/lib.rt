@@ -7,8 +7,7 @@
 ghost use Rattle.std.specs.Prelude.{◌+◌, ◌*◌, ◌≡◌, length};
 ghost use Rattle.terms.specs.Figures.{variables, table_bytes};
 
-use libc::STDOUT_FILENO;
-use notation::{field, find, is_all, say, within};
+use notation::{STDOUT, field, find, is_all, say, within};
 use records::{LINE, RECORD, TABLE_BYTES};
 use refusals::Refusal;
 
@@ -53,7 +52,7 @@ fn say_table(table: &[u8]) {
         if i % RECORD == 0 {
             say(b" ");
         }
-        io::print_hex(STDOUT_FILENO, wide(table[i]), 2);
+        io::print_hex(STDOUT, wide(table[i]), 2);
         i += 1;
     }
 }
@@ -78,7 +77,7 @@ fn say_rest() {
 pub fn say_records(n: usize, out: &[u8]) {
     let bytes = n % TABLE_BYTES * RECORD;
     say(b"records ");
-    io::print_decimal(STDOUT_FILENO, n as u64);
+    io::print_decimal(STDOUT, n as u64);
     say_front(out, bytes);
     say_rest();
     say_behind(out, bytes);
@@ -98,13 +97,13 @@ fn say_lines(bytes: usize, lines: &[u8], values: &[u8]) {
 // Prints a count of lines, and then these.
 pub fn say_listing(n: usize, lines: &[u8], values: &[u8]) {
     say(b"lines ");
-    io::print_decimal(STDOUT_FILENO, n as u64);
+    io::print_decimal(STDOUT, n as u64);
     say_lines(n % TABLE_BYTES * LINE, lines, values);
 }
 
 pub fn say_refused(c: Refusal) {
     say(b"refused ");
-    io::print_decimal(STDOUT_FILENO, refusals::number_of(c));
+    io::print_decimal(STDOUT, refusals::number_of(c));
 }
 
 pub fn say_unlisted(c: Refusal, lines: &[u8], values: &[u8]) {

@@ -19,8 +19,7 @@
 
 ghost use Rattle.std.specs.Prelude.{◌≤◌, ◌≡◌, length};
 
-use libc::STDOUT_FILENO;
-use notation::{build, bytes_in, field, find, letter_of, put, say, within};
+use notation::{STDOUT, build, bytes_in, field, find, letter_of, put, say, within};
 use records::{RECIPE_RECORDS, RECORD, SHELF_RECORDS};
 use shelf::{CountAnswer, PutAnswer, ReadAnswer, TakeOutAnswer};
 use storage::DIRECTORY_BYTES;
@@ -92,7 +91,7 @@ fn say_read(answer: ReadAnswer, out: &[u8]) {
 }
 
 fn say_number(n: usize) {
-    io::print_decimal(STDOUT_FILENO, n as u64);
+    io::print_decimal(STDOUT, n as u64);
 }
 
 fn say_count(answer: CountAnswer) {

@@ -4,8 +4,7 @@
 
 #![tactic(auto)]
 
-use libc::STDOUT_FILENO;
-use notation::say;
+use notation::{STDOUT, say};
 
 // What was compared.
 pub const CASES: usize = 0;
@@ -123,7 +122,7 @@ pub fn disagreements(totals: &[u64; SIZE]) -> u64 {
 }
 
 fn say_number(n: u64) {
-    io::print_decimal(STDOUT_FILENO, n);
+    io::print_decimal(STDOUT, n);
 }
 
 fn say_total(totals: &[u64; SIZE], what: usize, text: &[u8]) {
