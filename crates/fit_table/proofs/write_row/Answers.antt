@@ -1,0 +1,18 @@
+-- `fit_table::write_row` meets its contract. The loop's invariant: the entries of the places passed are written. Assumes nothing.
+use mathlib.Core.Path.{◌≡◌}
+use Prim.Native.Nat.{◌-◌}
+use lib.ListN.{length}
+use Rattle.terms.specs.Figures.{most_places, table_bytes}
+use Rattle.fit_table.specs.FitTable.{fit_bytes, RuleFits}
+use Rattle.fit_table.proofs.Writing.{RowBelow, row_start, row_more, row_done}
+use borrow.Author.Rules.{rules}
+use Rattle.fit_table.proofs.write_row.Goals as goal
+
+pub loop-i-init : goal.loop-i-init
+loop-i-init c = search (rules, row_start)
+
+pub loop-i-preserved : goal.loop-i-preserved
+loop-i-preserved c = search (rules, row_more)
+
+pub returns : goal.returns
+returns c = search (rules, row_done)
