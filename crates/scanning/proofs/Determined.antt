@@ -81,6 +81,7 @@ rules_lower b (j ∷ is) h i (inl e) = subst (λ (k : ℕ). Lower (left_table b 
     left u t =
         let g = not_false_true (good_records variables (left_table b j)) h.1.1.0 in
         (good_below variables u [] (ap (good_records variables) (append-nil (encode u) ∙ sym t.0) ∙ sym g)).0
+rules_lower b [] h i x'' = elim x'' [ ]
 
 pub found_one : (b r : List ℕ) → Passed (rules_rows b (places b)) → (o z : BookOutcome) → Found b r o → Found b r z → o ≡ z
 found_one b r h o z x y =
