@@ -17,10 +17,9 @@ ghost use Rattle.terms.specs.Figures.{pattern_records, recipe_records, table_byt
 
 use enumeration::ListAnswer;
 use records::{PATTERN_RECORDS, RECIPE_RECORDS, RECORD, TABLE_BYTES};
-use std::fs;
 use std::io::Read;
 use std::rt::Files;
-use std::str;
+use std::{fs, str};
 
 // Room for a table that is one record too long.
 const PATTERN_ROOM: usize = RECORD * PATTERN_RECORDS + RECORD;

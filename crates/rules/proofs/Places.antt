@@ -11,7 +11,7 @@ use lib.Dec.{eqb}
 use lib.ListN.{length}
 use Rattle.terms.specs.Figures.{place_bytes}
 use Rattle.terms.proofs.Tests.{by_eqb}
-use Rattle.rules.specs.Rules.{left_count, right_count, count_up, is_empty, taken, places_from, places}
+use Rattle.rules.specs.Rules.{left_count, right_count, count_up, is_empty, taken, places_from}
 use Rattle.rules.specs.Steps.{NextRule}
 
 true_false : (x : Bool) → x ≡ true → x ≡ false → ⊥

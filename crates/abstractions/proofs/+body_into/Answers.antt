@@ -1,13 +1,11 @@
 -- `abstractions::body_into` meets its contract. A copy is written by its choice, and the bytes of the parts of any other part follow its
 -- record's; the measure is the length of the slice. Assumes nothing.
 use mathlib.Core.Path.{◌∙◌}
-use lib.ListN.{length}
 use Rattle.shifting.proofs.Slices.{shorter, shorter_behind}
 use Rattle.abstractions.proofs.Bodies.{no_copy, body_copy, body_application, body_abstraction, body_other, argument_fits}
 use Rattle.abstractions.proofs.Bodies.{body_fits, choosing_whole, choosing_compares, choosing_choice, choosing_head}
 use Rattle.abstractions.proofs.Bodies.{choosing_argument, choosing_body}
 use borrow.Author.Rules.{rules}
-use Prim.Native.Nat.{ℕ, ◌<◌}
 use Rattle.abstractions.proofs.+body_into.Goals as goal
 
 pub copy_length-copy-requires : goal.copy_length-copy-requires
@@ -23,13 +21,12 @@ pub body_into-head-requires : goal.body_into-head-requires
 body_into-head-requires t c = (search (rules, shorter), search (rules, choosing_head))
 
 pub body_into-argument-requires : goal.body_into-argument-requires
-body_into-argument-requires t c =
-    (
-      search (rules, shorter_behind),
-      choosing_argument _ _ _ _ _ _ _ c.requires _
-          (c.body_into-head.auto.out ∙ c.put_record.auto.out) _ _ _ _ _ _ c.if-kind.true
-          c.body_into-head.ensures,
-    )
+body_into-argument-requires t c = (
+  search (rules, shorter_behind),
+  choosing_argument _ _ _ _ _ _ _ c.requires _
+      (c.body_into-head.auto.out ∙ c.put_record.auto.out) _ _ _ _ _ _ c.if-kind.true
+      c.body_into-head.ensures,
+)
 
 pub built_further-requires : goal.built_further-requires
 built_further-requires t c =

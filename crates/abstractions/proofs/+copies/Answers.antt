@@ -1,11 +1,9 @@
 -- `abstractions::copies` meets its contract. A copy counts one, and the counts of the parts of any other part are added; the measure is
 -- the length of the slice. Assumes nothing.
-use lib.ListN.{length}
 use Rattle.shifting.proofs.Slices.{shorter, shorter_behind}
 use Rattle.abstractions.proofs.Bodies.{no_copy, counts_copy, counts_application, counts_abstraction, counts_leaf, counting_compares}
 use Rattle.abstractions.proofs.Bodies.{counting_head, counting_argument, counting_body}
 use borrow.Author.Rules.{rules}
-use Prim.Native.Nat.{ℕ, ◌<◌}
 use Rattle.abstractions.proofs.+copies.Goals as goal
 
 pub copy_length-walk-requires : goal.copy_length-walk-requires

@@ -41,12 +41,11 @@ pub bounds-depths-j : goal.bounds-depths-j
 bounds-depths-j c = search (rules, few_records)
 
 pub place_argument-placed-requires : goal.place_argument-placed-requires
-place_argument-placed-requires c =
-    (
-      search (rules, places),
-      λ t p k. c.wide-depth.ensures.0 ∙ depth _ _ _ _ c.requires.0 _ c.goal_at-goal.ensures.is _ _ c.requires.1
-          c.requires.2 t p k,
-    )
+place_argument-placed-requires c = (
+  search (rules, places),
+  λ t p k. c.wide-depth.ensures.0 ∙ depth _ _ _ _ c.requires.0 _ c.goal_at-goal.ensures.is _ _ c.requires.1
+      c.requires.2 t p k,
+)
 
 pub returns-in_default : goal.returns-in_default
 returns-in_default c = search (rules, no_argument)

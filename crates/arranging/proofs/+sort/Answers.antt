@@ -6,8 +6,6 @@ use native.Mathlib.Omega.{arith}
 use lib.ListN.{length}
 use Rattle.terms.specs.Figures.{variables}
 use Rattle.arranging.proofs.Sorting.{first_length, second_length, short_sorted, sorts_first, sorts_second, halves_of, sorted_back}
-use borrow.Author.Rules.{rules}
-use Prim.Native.Nat.{ℕ, ◌<◌}
 use Rattle.arranging.proofs.+sort.Goals as goal
 
 pub returns-then-n-le-LINE : goal.returns-then-n-le-LINE

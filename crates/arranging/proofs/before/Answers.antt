@@ -1,8 +1,7 @@
 -- `arranging::before` meets its contract. The loop's invariant: the entries passed are the same, so that the others decide. Assumes
 -- nothing.
 use Prim.Native.Nat.{◌-◌}
-use Rattle.terms.specs.Figures.{variables}
-use Rattle.arranging.proofs.Comparing.{Undecided, undecided_start, undecided_end, decided_earlier, decided_later, undecided_next}
+use Rattle.arranging.proofs.Comparing.{undecided_start, undecided_end, decided_earlier, decided_later, undecided_next}
 use borrow.Author.Rules.{rules}
 use Rattle.arranging.proofs.before.Goals as goal
 

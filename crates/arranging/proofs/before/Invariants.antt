@@ -2,8 +2,7 @@
 -- nothing.
 use Prim.Native.Nat.{◌-◌}
 use Rattle.terms.specs.Figures.{variables}
-use Rattle.arranging.proofs.Comparing.{Undecided, undecided_start, undecided_end, decided_earlier, decided_later, undecided_next}
-use borrow.Author.Rules.{rules}
+use Rattle.arranging.proofs.Comparing.{Undecided}
 use Rattle.arranging.proofs.before.Given as goal
 
 abbrev pub invariant-loop-variable : goal.invariant-loop-variable

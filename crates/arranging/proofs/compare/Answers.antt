@@ -1,13 +1,11 @@
 -- `arranging::compare` meets its contract. The loop's invariant: the bytes passed are equal; each return is at the first byte that differs,
 -- or at the end of a table. Assumes nothing.
 use native.Mathlib.Omega.{arith}
-use Prim.Native.Nat.{◌≤◌, ◌-◌}
-use mathlib.Core.Path.{◌≡◌, refl, sym}
-use lib.ListN.{length, take}
+use Prim.Native.Nat.{◌-◌}
+use mathlib.Core.Path.{refl, sym}
 use Rattle.arranging.specs.Order.{ComparesAs}
 use Rattle.arranging.proofs.Comparing.{byte_less, shorter_less, both_ended}
 use Rattle.copying.proofs.Stores.{same_more}
-use borrow.Author.Rules.{rules}
 use Rattle.arranging.proofs.compare.Goals as goal
 
 pub loop-i-init : goal.loop-i-init

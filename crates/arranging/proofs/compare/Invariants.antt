@@ -1,13 +1,8 @@
 -- `arranging::compare` meets its contract. The loop's invariant: the bytes passed are equal; each return is at the first byte that differs,
 -- or at the end of a table. Assumes nothing.
-use native.Mathlib.Omega.{arith}
 use Prim.Native.Nat.{◌≤◌, ◌-◌}
-use mathlib.Core.Path.{◌≡◌, refl, sym}
+use mathlib.Core.Path.{◌≡◌}
 use lib.ListN.{length, take}
-use Rattle.arranging.specs.Order.{ComparesAs}
-use Rattle.arranging.proofs.Comparing.{byte_less, shorter_less, both_ended}
-use Rattle.copying.proofs.Stores.{same_more}
-use borrow.Author.Rules.{rules}
 use Rattle.arranging.proofs.compare.Given as goal
 
 abbrev pub invariant-loop-i : goal.invariant-loop-i

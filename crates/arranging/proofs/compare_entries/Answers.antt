@@ -2,7 +2,6 @@
 -- nothing.
 use mathlib.Core.Path.{sym, ◌∙◌}
 use Rattle.arranging.proofs.Comparing.{value_within, open_against_lem, open_later, by_values}
-use borrow.Author.Rules.{rules}
 use Rattle.arranging.proofs.compare_entries.Goals as goal
 
 pub returns-in_default : goal.returns-in_default

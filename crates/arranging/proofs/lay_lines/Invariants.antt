@@ -1,9 +1,7 @@
 -- `arranging::lay_lines` meets its contract. The loop's invariant: the lines that are left stand as they did, and writing them behind those
 -- passed gives the tables of all lines; the measure is the number of lines left. Assumes nothing.
 use Prim.Native.Nat.{◌≤◌, ◌-◌}
-use native.Mathlib.Omega.{arith}
-use Rattle.arranging.proofs.Laying.{Laying, laying_start, lay_line, laying_more, laying_done}
-use borrow.Author.Rules.{rules}
+use Rattle.arranging.proofs.Laying.{Laying}
 use Rattle.arranging.proofs.lay_lines.Given as goal
 
 abbrev pub invariant-loop-i : goal.invariant-loop-i

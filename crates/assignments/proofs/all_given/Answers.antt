@@ -1,9 +1,5 @@
 -- `assignments::all_given` meets its contract. The loop's invariant: no variable passed lacks a value. Assumes nothing.
-use Prim.Native.Nat.{ℕ, ◌≤◌, ◌<◌, ◌-◌}
-use mathlib.Core.Bool.{false}
 use native.Mathlib.Omega.{arith}
-use Rattle.terms.specs.Figures.{variables}
-use Rattle.assignments.specs.Entries.{Lacking}
 use Rattle.assignments.proofs.Entries.{lacking_is, given_more}
 use borrow.Author.Rules.{rules}
 use Rattle.assignments.proofs.all_given.Goals as goal

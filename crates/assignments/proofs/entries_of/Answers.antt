@@ -1,10 +1,7 @@
 -- `assignments::entries_of` meets its contract. The loop's invariant: the entries below i are the line's. Assumes nothing.
-use Prim.Native.Nat.{◌≤◌, ◌-◌}
-use mathlib.Core.Path.{◌≡◌, refl}
+use mathlib.Core.Path.{refl}
 use native.Mathlib.Omega.{arith}
-use lib.ListN.{length, length-set}
-use Rattle.terms.specs.Figures.{variables}
-use Rattle.assignments.specs.Entries.{Read}
+use lib.ListN.{length-set}
 use Rattle.assignments.proofs.Entries.{read_more}
 use borrow.Author.Rules.{rules}
 use Rattle.assignments.proofs.entries_of.Goals as goal

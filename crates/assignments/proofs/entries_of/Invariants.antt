@@ -1,12 +1,9 @@
 -- `assignments::entries_of` meets its contract. The loop's invariant: the entries below i are the line's. Assumes nothing.
 use Prim.Native.Nat.{◌≤◌, ◌-◌}
-use mathlib.Core.Path.{◌≡◌, refl}
-use native.Mathlib.Omega.{arith}
-use lib.ListN.{length, length-set}
+use mathlib.Core.Path.{◌≡◌}
+use lib.ListN.{length}
 use Rattle.terms.specs.Figures.{variables}
 use Rattle.assignments.specs.Entries.{Read}
-use Rattle.assignments.proofs.Entries.{read_more}
-use borrow.Author.Rules.{rules}
 use Rattle.assignments.proofs.entries_of.Given as goal
 
 abbrev pub invariant-loop-i : goal.invariant-loop-i

@@ -1,7 +1,6 @@
 -- `assignments::is_given` meets its contract: each test that fails is a field of `Given` that is missing. Assumes nothing.
 use native.Mathlib.Omega.{arith}
 use Rattle.assignments.proofs.Entries.{not_open, not_long, not_past, says_given}
-use borrow.Author.Rules.{rules}
 use Rattle.assignments.proofs.is_given.Goals as goal
 
 pub returns-in_default : goal.returns-in_default

@@ -2,7 +2,6 @@
 use Rattle.records.proofs.Tests.{says}
 use Rattle.assignments.specs.Entries.{Mentions}
 use Rattle.assignments.proofs.Entries.{lacking_given}
-use borrow.Author.Rules.{rules}
 use Rattle.assignments.proofs.lacks.Goals as goal
 
 pub returns-then-mentions : goal.returns-then-mentions

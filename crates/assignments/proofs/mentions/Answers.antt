@@ -1,9 +1,7 @@
 -- `assignments::mentions` meets its contract. The loop's invariant: no record passed is the variable. Assumes nothing.
-use Prim.Native.Nat.{ℕ, ◌≤◌, ◌<◌, ◌-◌, ◌*◌, ◌/◌}
-use mathlib.Core.Path.{◌≡◌, refl}
+use mathlib.Core.Path.{refl}
 use native.Mathlib.Omega.{arith}
 use borrow.Author.Count.{below_more}
-use lib.ListN.{length}
 use Rattle.records.proofs.Tests.{says}
 use Rattle.assignments.specs.Entries.{VariableAt}
 use Rattle.assignments.proofs.Entries.{mentions_none, mentions_here}

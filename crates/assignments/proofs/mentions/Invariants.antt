@@ -1,13 +1,8 @@
 -- `assignments::mentions` meets its contract. The loop's invariant: no record passed is the variable. Assumes nothing.
 use Prim.Native.Nat.{ℕ, ◌≤◌, ◌<◌, ◌-◌, ◌*◌, ◌/◌}
-use mathlib.Core.Path.{◌≡◌, refl}
-use native.Mathlib.Omega.{arith}
-use borrow.Author.Count.{below_more}
+use mathlib.Core.Path.{◌≡◌}
 use lib.ListN.{length}
-use Rattle.records.proofs.Tests.{says}
 use Rattle.assignments.specs.Entries.{VariableAt}
-use Rattle.assignments.proofs.Entries.{mentions_none, mentions_here}
-use borrow.Author.Rules.{rules}
 use Rattle.assignments.proofs.mentions.Given as goal
 
 abbrev pub invariant-loop-k : goal.invariant-loop-k

@@ -1,9 +1,7 @@
 -- `attempts::fill_open` meets its contract. The loop's invariant: the entries below i are filled, and the others are as they were. Assumes
 -- nothing.
-use Prim.Native.Nat.{◌≤◌, ◌-◌}
+use Prim.Native.Nat.{◌-◌}
 use native.Mathlib.Omega.{arith}
-use Rattle.terms.specs.Figures.{variables}
-use Rattle.attempts.specs.Steps.{FilledOpen}
 use Rattle.attempts.proofs.Entries.{filled_none, filled_more, filled_all}
 use borrow.Author.Rules.{rules}
 use Rattle.attempts.proofs.fill_open.Goals as goal

@@ -2,7 +2,6 @@
 use mathlib.Core.Path.{refl}
 use native.Mathlib.Omega.{arith}
 use Rattle.attempts.proofs.Listings.{both_filled, used_line}
-use borrow.Author.Rules.{rules}
 use Rattle.attempts.proofs.use_line.Goals as goal
 
 pub rewrite_sides-requires : goal.rewrite_sides-requires

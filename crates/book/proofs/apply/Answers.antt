@@ -15,7 +15,7 @@ rewrite_first-answer-requires c =
 
 pub returns : goal.returns
 returns c = record {
-      answer = booked_answered _ _ _ _ _ c.judge_book-verdict.ensures c.in-Right.is _ _ c.rewrite_first-answer.ensures;
-      area = c.clear-2.ensures ∙ cleared_same c.args.work.now c.rewrite_first-answer.new.work
-          c.rewrite_first-answer.auto.work (right_known _ _ _ c.judge_book-verdict.ensures c.in-Right.is).area;
-    }
+  answer = booked_answered _ _ _ _ _ c.judge_book-verdict.ensures c.in-Right.is _ _ c.rewrite_first-answer.ensures;
+  area = c.clear-2.ensures ∙ cleared_same c.args.work.now c.rewrite_first-answer.new.work
+      c.rewrite_first-answer.auto.work (right_known _ _ _ c.judge_book-verdict.ensures c.in-Right.is).area;
+}

@@ -1,9 +1,7 @@
 -- `builds::any_chosen` meets its contract. The loop's invariant: no choice passed is made. The measure is what is left of the
 -- choices. Assumes nothing.
-use mathlib.Core.Path.{◌≡◌}
-use Prim.Native.Nat.{ℕ, ◌≤◌, ◌<◌, ◌-◌}
+use Prim.Native.Nat.{◌-◌}
 use native.Mathlib.Omega.{arith}
-use lib.ListN.{get_or}
 use borrow.Author.Count.{below_more}
 use borrow.Author.Rules.{rules}
 use Rattle.builds.proofs.Building.{choice_made, none_made}

@@ -2,11 +2,7 @@
 -- choices. Assumes nothing.
 use mathlib.Core.Path.{◌≡◌}
 use Prim.Native.Nat.{ℕ, ◌≤◌, ◌<◌, ◌-◌}
-use native.Mathlib.Omega.{arith}
 use lib.ListN.{get_or}
-use borrow.Author.Count.{below_more}
-use borrow.Author.Rules.{rules}
-use Rattle.builds.proofs.Building.{choice_made, none_made}
 use Rattle.builds.proofs.any_chosen.Given as goal
 
 abbrev pub invariant-loop-i : goal.invariant-loop-i

@@ -1,7 +1,7 @@
 -- `builds::body` meets its contract. What is written into the array is the table of the chosen body, which is dropped if no head
 -- sweeps to its abstraction, and else becomes the head's target. Assumes nothing.
 use native.Mathlib.Omega.{arith}
-use borrow.Author.Tests.{not-true, not-false}
+use borrow.Author.Tests.{not-true}
 use Rattle.builds.proofs.Building.{choosing, end_within, bodied, choices_within, used_chosen, unused, body_tree, pushes, eta}
 use Rattle.builds.proofs.Building.{stored_pushed, build_target_within, build_argument_within}
 use borrow.Author.Rules.{rules}

@@ -1,9 +1,7 @@
 -- `copying::copy_into` meets its contract. The loop's invariant: the bytes passed are stored from o on. Assumes nothing.
-use Prim.Native.Nat.{◌≤◌, ◌-◌}
-use mathlib.Core.Path.{◌≡◌, refl}
+use mathlib.Core.Path.{refl}
 use native.Mathlib.Omega.{arith}
-use lib.ListN.{length, take, length-set}
-use lib.Seq.{sets}
+use lib.ListN.{length-set}
 use Rattle.copying.proofs.Stores.{copied_more, copied_all}
 use borrow.Author.Rules.{rules}
 use Rattle.copying.proofs.copy_into.Goals as goal

@@ -1,9 +1,7 @@
 -- `copying::move_down` meets its contract. Assumes nothing.
-use Prim.Native.Nat.{◌≤◌, ◌-◌}
-use mathlib.Core.Path.{◌≡◌, refl}
+use mathlib.Core.Path.{refl}
 use native.Mathlib.Omega.{arith}
-use lib.ListN.{length, take, drop, length-set}
-use lib.Seq.{sets}
+use lib.ListN.{length-set}
 use Rattle.copying.proofs.Moves.{down_more, down_done}
 use borrow.Author.Rules.{rules}
 use Rattle.copying.proofs.move_down.Goals as goal

@@ -1,8 +1,5 @@
 -- `copying::move_up` meets its contract. Assumes nothing.
-use Prim.Native.Nat.{◌≤◌, ◌+◌}
-use mathlib.Core.Path.{◌≡◌}
-use lib.ListN.{length, take, drop, length-set}
-use lib.Seq.{sets}
+use lib.ListN.{length-set}
 use Rattle.copying.proofs.Moves.{up_begun, up_more, up_done}
 use borrow.Author.Rules.{rules}
 use Rattle.copying.proofs.move_up.Goals as goal

@@ -1,10 +1,8 @@
 -- `copying::move_up` meets its contract. Assumes nothing.
 use Prim.Native.Nat.{◌≤◌, ◌+◌}
 use mathlib.Core.Path.{◌≡◌}
-use lib.ListN.{length, take, drop, length-set}
+use lib.ListN.{length, take, drop}
 use lib.Seq.{sets}
-use Rattle.copying.proofs.Moves.{up_begun, up_more, up_done}
-use borrow.Author.Rules.{rules}
 use Rattle.copying.proofs.move_up.Given as goal
 
 abbrev pub invariant-loop-i : goal.invariant-loop-i

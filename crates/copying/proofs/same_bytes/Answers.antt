@@ -1,8 +1,6 @@
 -- `copying::same_bytes` meets its contract. The loop's invariant: the bytes passed are equal. Assumes nothing.
-use Prim.Native.Nat.{◌≤◌, ◌-◌}
-use mathlib.Core.Path.{◌≡◌, refl}
+use mathlib.Core.Path.{refl}
 use native.Mathlib.Omega.{arith}
-use lib.ListN.{length, take}
 use Rattle.copying.proofs.Stores.{longer_not, same_more, same_not, same_all}
 use borrow.Author.Rules.{rules}
 use Rattle.copying.proofs.same_bytes.Goals as goal

@@ -1,10 +1,7 @@
 -- `copying::same_bytes` meets its contract. The loop's invariant: the bytes passed are equal. Assumes nothing.
 use Prim.Native.Nat.{◌≤◌, ◌-◌}
-use mathlib.Core.Path.{◌≡◌, refl}
-use native.Mathlib.Omega.{arith}
+use mathlib.Core.Path.{◌≡◌}
 use lib.ListN.{length, take}
-use Rattle.copying.proofs.Stores.{longer_not, same_more, same_not, same_all}
-use borrow.Author.Rules.{rules}
 use Rattle.copying.proofs.same_bytes.Given as goal
 
 abbrev pub invariant-loop-i : goal.invariant-loop-i

@@ -1,7 +1,6 @@
 -- `deciding::decide` meets its contract. The part's skeleton is its swept form if it has no hole, and is compared with the goal's
 -- targets; else it may refuse the goal. Each way out is one law. Assumes nothing.
 use native.Mathlib.Omega.{arith}
-use borrow.Author.Tests.{not-false}
 use Rattle.deciding.proofs.Decisions.{deferred_part_within, walkable, undecided, deferred_comparing, known_failed, known_next}
 use Rattle.deciding.proofs.Refutations.{part_source, skeleton_tree, judges, decided_refused, exact_form}
 use borrow.Author.Rules.{rules}

@@ -1,13 +1,8 @@
 -- `deciding::is_assigned` meets its contract. The loop's invariant: no record passed is an open variable. Assumes nothing.
 use Prim.Native.Nat.{ℕ, ◌≤◌, ◌<◌, ◌-◌, ◌/◌}
-use mathlib.Core.Path.{◌≡◌, refl}
-use native.Mathlib.Omega.{arith}
-use borrow.Author.Count.{below_more}
+use mathlib.Core.Path.{◌≡◌}
 use lib.ListN.{length}
-use Rattle.records.proofs.Tests.{says}
 use Rattle.deciding.specs.Deciding.{OpenAt}
-use Rattle.deciding.proofs.Decisions.{open_here, none_open}
-use borrow.Author.Rules.{rules}
 use Rattle.deciding.proofs.is_assigned.Given as goal
 
 abbrev pub invariant-loop-k : goal.invariant-loop-k

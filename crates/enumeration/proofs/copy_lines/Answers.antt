@@ -3,7 +3,6 @@
 use mathlib.Core.Path.{refl}
 use native.Mathlib.Omega.{arith}
 use Rattle.enumeration.proofs.Searches.{copy_arranges, copied_lines, copied_none}
-use borrow.Author.Rules.{rules}
 use Rattle.enumeration.proofs.copy_lines.Goals as goal
 
 pub returns-then-values-records : goal.returns-then-values-records

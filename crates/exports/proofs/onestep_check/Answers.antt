@@ -7,23 +7,23 @@ use Rattle.exports.proofs.onestep_check.Goals as goal
 
 pub returns-in-Yes : goal.returns-in-Yes
 returns-in-Yes c = record {
-      answer = (c.check-answer.result, c.check-answer.ensures.answer, sym (ap check_code c.in-Yes.is));
-      area = search rules;
-    }
+  answer = (c.check-answer.result, c.check-answer.ensures.answer, sym (ap check_code c.in-Yes.is));
+  area = search rules;
+}
 
 pub returns-in-No : goal.returns-in-No
 returns-in-No c = record {
-      answer = (c.check-answer.result, c.check-answer.ensures.answer, sym (ap check_code c.in-No.is));
-      area = search rules;
-    }
+  answer = (c.check-answer.result, c.check-answer.ensures.answer, sym (ap check_code c.in-No.is));
+  area = search rules;
+}
 
 pub returns-in-Refused : goal.returns-in-Refused
 returns-in-Refused c = record {
-      answer = (
-        c.check-answer.result,
-        c.check-answer.ensures.answer,
-        handed_on _ _ c.refusal_code.ensures
-            (fits_refusal c.in-Refused.c) ∙ sym (ap check_code c.in-Refused.is),
-      );
-      area = search rules;
-    }
+  answer = (
+    c.check-answer.result,
+    c.check-answer.ensures.answer,
+    handed_on _ _ c.refusal_code.ensures
+        (fits_refusal c.in-Refused.c) ∙ sym (ap check_code c.in-Refused.is),
+  );
+  area = search rules;
+}

@@ -9,19 +9,17 @@ pub overflow_cast-result : goal.overflow_cast-result
 overflow_cast-result c = search (rules, fits_records, read_few)
 
 pub returns-in-Records : goal.returns-in-Records
-returns-in-Records c =
-    (
-      c.read-answer.result,
-      c.read-answer.ensures,
-      handed_on _ _ refl (fits_records _ (read_few _ _ _ _ _ _ c.read-answer.ensures _ c.in-Records.is))
-          ∙ sym (ap read_code c.in-Records.is),
-    )
+returns-in-Records c = (
+  c.read-answer.result,
+  c.read-answer.ensures,
+  handed_on _ _ refl (fits_records _ (read_few _ _ _ _ _ _ c.read-answer.ensures _ c.in-Records.is))
+      ∙ sym (ap read_code c.in-Records.is),
+)
 
 pub returns-in-Refused : goal.returns-in-Refused
-returns-in-Refused c =
-    (
-      c.read-answer.result,
-      c.read-answer.ensures,
-      handed_on _ _ c.refusal_code.ensures (fits_refusal c.in-Refused.c)
-          ∙ sym (ap read_code c.in-Refused.is),
-    )
+returns-in-Refused c = (
+  c.read-answer.result,
+  c.read-answer.ensures,
+  handed_on _ _ c.refusal_code.ensures (fits_refusal c.in-Refused.c)
+      ∙ sym (ap read_code c.in-Refused.is),
+)

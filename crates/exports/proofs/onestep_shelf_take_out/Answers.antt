@@ -2,7 +2,6 @@
 use mathlib.Core.Path.{sym, ap, ◌∙◌}
 use Rattle.exports.specs.Answers.{take_out_code}
 use Rattle.exports.proofs.Answers.{fits_refusal, handed_on}
-use borrow.Author.Rules.{rules}
 use Rattle.exports.proofs.onestep_shelf_take_out.Goals as goal
 
 pub returns-in-Yes : goal.returns-in-Yes
@@ -10,10 +9,9 @@ returns-in-Yes c =
     (c.take_out-answer.result, c.take_out-answer.ensures, sym (ap take_out_code c.in-Yes.is))
 
 pub returns-in-Refused : goal.returns-in-Refused
-returns-in-Refused c =
-    (
-      c.take_out-answer.result,
-      c.take_out-answer.ensures,
-      handed_on _ _ c.refusal_code.ensures (fits_refusal c.in-Refused.c)
-          ∙ sym (ap take_out_code c.in-Refused.is),
-    )
+returns-in-Refused c = (
+  c.take_out-answer.result,
+  c.take_out-answer.ensures,
+  handed_on _ _ c.refusal_code.ensures (fits_refusal c.in-Refused.c)
+      ∙ sym (ap take_out_code c.in-Refused.is),
+)

@@ -1,10 +1,7 @@
 -- `fit_table::clear_column` meets its contract. The loop's invariant: the entries of the buoys passed are written. Assumes nothing.
-use mathlib.Core.Path.{◌≡◌}
 use Prim.Native.Nat.{◌-◌}
-use lib.ListN.{length}
-use Rattle.terms.specs.Figures.{buoys}
 use Rattle.fit_table.proofs.Entries.{zero_marks}
-use Rattle.fit_table.proofs.Writing.{ColumnBelow, column_start, column_more, column_done}
+use Rattle.fit_table.proofs.Writing.{column_start, column_more, column_done}
 use borrow.Author.Rules.{rules}
 use Rattle.fit_table.proofs.clear_column.Goals as goal
 

@@ -3,9 +3,7 @@ use mathlib.Core.Path.{◌≡◌}
 use Prim.Native.Nat.{◌-◌}
 use lib.ListN.{length}
 use Rattle.terms.specs.Figures.{buoys}
-use Rattle.fit_table.proofs.Entries.{zero_marks}
-use Rattle.fit_table.proofs.Writing.{ColumnBelow, column_start, column_more, column_done}
-use borrow.Author.Rules.{rules}
+use Rattle.fit_table.proofs.Writing.{ColumnBelow}
 use Rattle.fit_table.proofs.clear_column.Given as goal
 
 abbrev pub invariant-loop-b : goal.invariant-loop-b

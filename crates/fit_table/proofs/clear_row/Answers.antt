@@ -1,10 +1,7 @@
 -- `fit_table::clear_row` meets its contract. The loop's invariant: the entries of the places passed are written. Assumes nothing.
-use mathlib.Core.Path.{◌≡◌}
 use Prim.Native.Nat.{◌-◌}
-use lib.ListN.{length}
-use Rattle.terms.specs.Figures.{most_places}
 use Rattle.fit_table.proofs.Entries.{zero_marks}
-use Rattle.fit_table.proofs.Writing.{RowBelow, row_start, row_more, row_done}
+use Rattle.fit_table.proofs.Writing.{row_start, row_more, row_done}
 use borrow.Author.Rules.{rules}
 use Rattle.fit_table.proofs.clear_row.Goals as goal
 

@@ -3,9 +3,7 @@ use mathlib.Core.Path.{◌≡◌}
 use Prim.Native.Nat.{◌-◌}
 use lib.ListN.{length}
 use Rattle.terms.specs.Figures.{most_places}
-use Rattle.fit_table.proofs.Entries.{zero_marks}
-use Rattle.fit_table.proofs.Writing.{RowBelow, row_start, row_more, row_done}
-use borrow.Author.Rules.{rules}
+use Rattle.fit_table.proofs.Writing.{RowBelow}
 use Rattle.fit_table.proofs.clear_row.Given as goal
 
 abbrev pub invariant-loop-i : goal.invariant-loop-i

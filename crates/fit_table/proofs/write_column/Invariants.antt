@@ -2,11 +2,10 @@
 use mathlib.Core.Path.{◌≡◌}
 use Prim.Native.Nat.{◌-◌}
 use lib.ListN.{length}
-use Rattle.terms.specs.Figures.{buoys, table_bytes}
+use Rattle.terms.specs.Figures.{buoys}
 use Rattle.storage.specs.Storage.{recipe_of}
-use Rattle.fit_table.specs.FitTable.{fit_bytes, Fits}
-use Rattle.fit_table.proofs.Writing.{ColumnBelow, column_start, column_more, column_done}
-use borrow.Author.Rules.{rules}
+use Rattle.fit_table.specs.FitTable.{Fits}
+use Rattle.fit_table.proofs.Writing.{ColumnBelow}
 use Rattle.fit_table.proofs.write_column.Given as goal
 
 abbrev pub invariant-loop-b : goal.invariant-loop-b

@@ -1,10 +1,6 @@
 -- `fit_table::write_row` meets its contract. The loop's invariant: the entries of the places passed are written. Assumes nothing.
-use mathlib.Core.Path.{◌≡◌}
 use Prim.Native.Nat.{◌-◌}
-use lib.ListN.{length}
-use Rattle.terms.specs.Figures.{most_places, table_bytes}
-use Rattle.fit_table.specs.FitTable.{fit_bytes, RuleFits}
-use Rattle.fit_table.proofs.Writing.{RowBelow, row_start, row_more, row_done}
+use Rattle.fit_table.proofs.Writing.{row_start, row_more, row_done}
 use borrow.Author.Rules.{rules}
 use Rattle.fit_table.proofs.write_row.Goals as goal
 

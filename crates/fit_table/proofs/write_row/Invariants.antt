@@ -2,10 +2,9 @@
 use mathlib.Core.Path.{◌≡◌}
 use Prim.Native.Nat.{◌-◌}
 use lib.ListN.{length}
-use Rattle.terms.specs.Figures.{most_places, table_bytes}
-use Rattle.fit_table.specs.FitTable.{fit_bytes, RuleFits}
-use Rattle.fit_table.proofs.Writing.{RowBelow, row_start, row_more, row_done}
-use borrow.Author.Rules.{rules}
+use Rattle.terms.specs.Figures.{most_places}
+use Rattle.fit_table.specs.FitTable.{RuleFits}
+use Rattle.fit_table.proofs.Writing.{RowBelow}
 use Rattle.fit_table.proofs.write_row.Given as goal
 
 abbrev pub invariant-loop-i : goal.invariant-loop-i

@@ -1,13 +1,11 @@
 -- `instances::is_substituted` meets its contract. Each branch is one law of a part compared with a substituted one, by the kind that both
 -- first records have; the measure is the length of the body's slice. Assumes nothing.
-use lib.ListN.{length}
 use native.Mathlib.Omega.{arith}
 use Rattle.shifting.proofs.Slices.{shorter, shorter_behind}
 use Rattle.instances.proofs.Instances.{substituted_near, substituted_kinds, substitutes_head, substitutes_argument}
 use Rattle.instances.proofs.Instances.{substituted_passed, substituted_app, substituted_stop, substitutes_body, substituted_lam}
 use Rattle.instances.proofs.Instances.{substituted_other, substituted_other_no}
 use borrow.Author.Rules.{rules}
-use Prim.Native.Nat.{ℕ, ◌+◌, ◌≤◌, ◌<◌}
 use Rattle.instances.proofs.+is_substituted.Goals as goal
 
 pub returns-then-kind : goal.returns-then-kind
@@ -24,13 +22,19 @@ returns-in_default t c = search (rules, substituted_stop)
 
 pub overflow_add-n : goal.overflow_add-n
 overflow_add-n t c =
-    omega (arith, (substituted_passed _ _ _ _ c.if-kind-t.false c.if-kind-2.true _ _ c.in-Upto.is c.is_substituted-head.ensures
-    c.requires).0)
+    omega (
+      arith,
+      (substituted_passed _ _ _ _ c.if-kind-t.false c.if-kind-2.true _ _ c.in-Upto.is c.is_substituted-head.ensures
+          c.requires).0,
+    )
 
 pub overflow_add-m : goal.overflow_add-m
 overflow_add-m t c =
-    omega (arith, (substituted_passed _ _ _ _ c.if-kind-t.false c.if-kind-2.true _ _ c.in-Upto.is c.is_substituted-head.ensures
-    c.requires).1)
+    omega (
+      arith,
+      (substituted_passed _ _ _ _ c.if-kind-t.false c.if-kind-2.true _ _ c.in-Upto.is c.is_substituted-head.ensures
+          c.requires).1,
+    )
 
 pub slice_bounds-is_substituted-count-then-kind-2-2 : goal.slice_bounds-is_substituted-count-then-kind-2-2
 slice_bounds-is_substituted-count-then-kind-2-2 t c =

@@ -4,7 +4,6 @@ use native.Mathlib.Omega.{arith}
 use mathlib.Core.Path.{ap}
 use Prim.Native.Nat.{◌+◌}
 use Rattle.listing.proofs.Storing.{total_few, found_lines_full, found_values_full, found_written, line_of}
-use borrow.Author.Rules.{rules}
 use Rattle.listing.proofs.found.Goals as goal
 
 pub records_of-requires : goal.records_of-requires

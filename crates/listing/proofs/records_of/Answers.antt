@@ -1,13 +1,7 @@
 -- `listing::records_of` meets its contract. The loop's invariant: what was counted and what the entries left say is what all entries say;
 -- the measure is the number of entries left. Assumes nothing.
-use mathlib.Core.Path.{◌≡◌}
-use Prim.Native.Nat.{◌+◌, ◌-◌, ◌≤◌}
 use native.Mathlib.Omega.{arith}
-use lib.ListN.{length, drop}
-use Rattle.terms.specs.Figures.{variables}
-use Rattle.listing.specs.Writers.{entries_records}
 use Rattle.listing.proofs.Writers.{total_next, total_none}
-use borrow.Author.Rules.{rules}
 use Rattle.listing.proofs.records_of.Goals as goal
 
 pub overflow_add-n : goal.overflow_add-n

@@ -2,12 +2,9 @@
 -- the measure is the number of entries left. Assumes nothing.
 use mathlib.Core.Path.{◌≡◌}
 use Prim.Native.Nat.{◌+◌, ◌-◌, ◌≤◌}
-use native.Mathlib.Omega.{arith}
 use lib.ListN.{length, drop}
 use Rattle.terms.specs.Figures.{variables}
 use Rattle.listing.specs.Writers.{entries_records}
-use Rattle.listing.proofs.Writers.{total_next, total_none}
-use borrow.Author.Rules.{rules}
 use Rattle.listing.proofs.records_of.Given as goal
 
 abbrev pub invariant-loop-i : goal.invariant-loop-i

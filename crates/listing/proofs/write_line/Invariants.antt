@@ -1,10 +1,8 @@
 -- `listing::write_line` meets its contract. The loop's invariant: once the entries that are left are written behind those passed the line
 -- is; the measure is the number of entries left. Assumes nothing.
 use Prim.Native.Nat.{◌-◌}
-use native.Mathlib.Omega.{arith}
 use Rattle.terms.specs.Figures.{variables}
-use Rattle.listing.proofs.Writers.{Writing, writing_start, writing_entry, writing_more, writing_done}
-use borrow.Author.Rules.{rules}
+use Rattle.listing.proofs.Writers.{Writing}
 use Rattle.listing.proofs.write_line.Given as goal
 
 abbrev pub invariant-loop-i : goal.invariant-loop-i

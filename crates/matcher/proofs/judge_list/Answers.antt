@@ -1,7 +1,6 @@
 -- `matcher::judge_list` meets its contract: the rows of the tables, then those of the pattern and of the recipe. Assumes nothing.
 use Rattle.refusals.proofs.Judging.{judged_first}
 use Rattle.matcher.proofs.Listed.{judged_list}
-use borrow.Author.Rules.{rules}
 use Rattle.matcher.proofs.judge_list.Goals as goal
 
 pub returns : goal.returns

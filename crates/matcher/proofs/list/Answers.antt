@@ -4,7 +4,6 @@ use mathlib.Core.Path.{◌∙◌}
 use Rattle.refusals.proofs.Judging.{right_known}
 use Rattle.refusals.proofs.Clearing.{cleared_same}
 use Rattle.matcher.proofs.Listed.{listed_all, listed_lent, listed_enumerated}
-use borrow.Author.Rules.{rules}
 use Rattle.matcher.proofs.list.Goals as goal
 
 pub returns-in-Refused : goal.returns-in-Refused

@@ -4,7 +4,6 @@ use native.Mathlib.Omega.{arith}
 use Rattle.normalizing.proofs.Sweeps.{normalizable_table, normalized_now, normalized_none, normalized_long, normalizable_again}
 use Rattle.normalizing.proofs.Sweeps.{normalized_later}
 use borrow.Author.Rules.{rules}
-use Prim.Native.Nat.{ℕ, ◌<◌}
 use Rattle.normalizing.proofs.+normalize.Goals as goal
 
 pub is_normal-requires : goal.is_normal-requires

@@ -2,10 +2,6 @@
 -- length. Assumes nothing.
 use native.Mathlib.Omega.{arith}
 use Rattle.notation.proofs.Counting.{counts}
-use Prim.Native.Nat.{◌≤◌, ◌-◌}
-use mathlib.Core.Path.{◌≡◌}
-use lib.ListN.{length}
-use borrow.Author.Rules.{rules}
 use Rattle.notation.proofs.build.Goals as goal
 
 pub returns : goal.returns

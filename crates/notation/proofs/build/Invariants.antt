@@ -1,11 +1,8 @@
 -- `notation::build` meets its contract. The loop's invariant: the text is read up to `i` and the end is within the table, which keeps its
 -- length. Assumes nothing.
-use native.Mathlib.Omega.{arith}
-use Rattle.notation.proofs.Counting.{counts}
 use Prim.Native.Nat.{◌≤◌, ◌-◌}
 use mathlib.Core.Path.{◌≡◌}
 use lib.ListN.{length}
-use borrow.Author.Rules.{rules}
 use Rattle.notation.proofs.build.Given as goal
 
 abbrev pub invariant-loop-i : goal.invariant-loop-i

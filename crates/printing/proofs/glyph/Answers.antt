@@ -1,7 +1,6 @@
 -- `printing::glyph` meets its contract. The two answers are the two cases of a digit's code.
 -- Assumes nothing.
 use borrow.Author.Tests.{lt-ltb, le-ltb}
-use borrow.Author.Rules.{rules}
 use Rattle.printing.proofs.glyph.Goals as goal
 
 pub returns-then-digit-lt10 : goal.returns-then-digit-lt10

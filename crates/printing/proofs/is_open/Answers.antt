@@ -2,7 +2,6 @@
 -- Assumes nothing.
 use mathlib.Core.Path.{sym, ◌∙◌}
 use Rattle.assignments.proofs.Entries.{open_span}
-use borrow.Author.Rules.{rules}
 use Rattle.printing.proofs.is_open.Goals as goal
 
 pub returns-in-Assigned : goal.returns-in-Assigned

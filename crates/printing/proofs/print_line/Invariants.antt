@@ -1,10 +1,8 @@
 -- `printing::print_line` is safe and ends. The loop's measure is the number of variables left; the invariant keeps the length of the table
 -- for texts. Assumes nothing.
-use mathlib.Core.Path.{◌≡◌, refl}
+use mathlib.Core.Path.{◌≡◌}
 use Prim.Native.Nat.{◌≤◌, ◌-◌}
-use native.Mathlib.Omega.{arith}
 use lib.ListN.{length}
-use borrow.Author.Rules.{rules}
 use Rattle.terms.specs.Figures.{variables}
 use Rattle.printing.proofs.print_line.Given as goal
 

@@ -1,10 +1,7 @@
 -- `printing::print_lines` is safe and ends. The loop's measure is the number of lines left; a line that can be printed stands in each
 -- place. Assumes nothing.
-use mathlib.Core.Path.{◌≡◌}
-use Prim.Native.Nat.{◌≤◌, ◌-◌}
+use Prim.Native.Nat.{◌-◌}
 use native.Mathlib.Omega.{arith}
-use lib.ListN.{length}
-use Rattle.printing.specs.Text.{room}
 use Rattle.printing.proofs.Rooms.{line_within}
 use borrow.Author.Rules.{rules}
 use Rattle.printing.proofs.print_lines.Goals as goal

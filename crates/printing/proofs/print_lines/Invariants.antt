@@ -2,11 +2,8 @@
 -- place. Assumes nothing.
 use mathlib.Core.Path.{◌≡◌}
 use Prim.Native.Nat.{◌≤◌, ◌-◌}
-use native.Mathlib.Omega.{arith}
 use lib.ListN.{length}
 use Rattle.printing.specs.Text.{room}
-use Rattle.printing.proofs.Rooms.{line_within}
-use borrow.Author.Rules.{rules}
 use Rattle.printing.proofs.print_lines.Given as goal
 
 abbrev pub invariant-loop-i : goal.invariant-loop-i

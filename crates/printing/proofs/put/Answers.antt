@@ -4,7 +4,6 @@ use mathlib.Core.Path.{refl}
 use mathlib.Core.List.{[], ◌∷◌}
 use native.Mathlib.Omega.{arith}
 use Rattle.printing.proofs.Texts.{puts}
-use borrow.Author.Rules.{rules}
 use Rattle.printing.proofs.put.Goals as goal
 
 pub returns : goal.returns

@@ -2,7 +2,6 @@
 -- Assumes nothing.
 use native.Mathlib.Omega.{arith}
 use Rattle.printing.proofs.Texts.{puts_then, word_put}
-use borrow.Author.Rules.{rules}
 use Rattle.printing.proofs.put_labelled.Goals as goal
 
 pub returns : goal.returns

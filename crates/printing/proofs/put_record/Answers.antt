@@ -2,7 +2,6 @@
 -- Assumes nothing.
 use native.Mathlib.Omega.{arith}
 use Rattle.printing.proofs.Texts.{is_then}
-use borrow.Author.Rules.{rules}
 use Rattle.printing.proofs.put_record.Goals as goal
 
 pub returns : goal.returns

@@ -1,12 +1,9 @@
 -- `printing::put_records` meets its contract. The loop's invariant: the text of the records passed is put.
 -- Assumes nothing.
 use mathlib.Core.Path.{◌≡◌}
-use Prim.Native.Nat.{◌+◌, ◌*◌, ◌-◌, ◌/◌, ◌≤◌}
-use native.Mathlib.Omega.{arith}
+use Prim.Native.Nat.{◌+◌, ◌*◌, ◌-◌, ◌≤◌}
 use lib.ListN.{length}
 use Rattle.printing.specs.Text.{Is, records_text, Puts}
-use Rattle.printing.proofs.Texts.{records_none, records_more, records_all}
-use borrow.Author.Rules.{rules}
 use Rattle.printing.proofs.put_records.Given as goal
 
 abbrev pub invariant-loop-k : goal.invariant-loop-k

@@ -2,7 +2,6 @@
 -- Assumes nothing.
 use native.Mathlib.Omega.{arith}
 use Rattle.program.proofs.Listings.{listed_printable}
-use borrow.Author.Rules.{rules}
 use Rattle.program.proofs.print_answer.Goals as goal
 
 pub print_listing-requires : goal.print_listing-requires

@@ -1,14 +1,11 @@
 -- `reduce`, `reduce_application` and `reduce_abstraction` of `reducts` meet their contracts. The reduct of a term follows from those of
 -- its parts, whose tables are shorter; the measure is the table's length. Assumes nothing.
-use Prim.Native.Nat.{◌+◌, ◌*◌}
-use lib.ListN.{length}
 use native.Mathlib.Omega.{arith}
 use Rattle.reducts.proofs.Reducts.{reduct_too_long, reducible_head, reducible_argument, reducible_body}
 use Rattle.reducts.proofs.Reducts.{reduct_few}
 use Rattle.reducts.proofs.Reducts.{reduct_within, result_fills, parts_applicable, reduces_application, reduces_abstraction}
 use Rattle.reducts.proofs.Reducts.{reducible_leaf_length, reduces_leaf}
 use borrow.Author.Rules.{rules}
-use Prim.Native.Nat.{ℕ, ◌<◌}
 use Rattle.reducts.proofs.+reduce_reduce_abstraction_reduce_application.Goals as goal
 
 pub reduce-returns-then-kind : goal.reduce-returns-then-kind

@@ -1,10 +1,7 @@
 -- `refusals::clear` meets its contract. The loop's invariant: the bytes below i are zero and the others as they were. Assumes nothing.
-use Prim.Native.Nat.{◌≤◌, ◌-◌}
-use mathlib.Core.Path.{◌≡◌}
 use native.Mathlib.Omega.{arith}
-use lib.ListN.{length, length-set}
-use Rattle.terms.specs.Figures.{table_bytes}
-use Rattle.refusals.proofs.Clearing.{zeroed, zeroed_more, cleared_other, cleared_all}
+use lib.ListN.{length-set}
+use Rattle.refusals.proofs.Clearing.{zeroed_more, cleared_other, cleared_all}
 use borrow.Author.Rules.{rules}
 use Rattle.refusals.proofs.clear.Goals as goal
 

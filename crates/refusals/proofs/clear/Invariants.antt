@@ -1,11 +1,9 @@
 -- `refusals::clear` meets its contract. The loop's invariant: the bytes below i are zero and the others as they were. Assumes nothing.
 use Prim.Native.Nat.{◌≤◌, ◌-◌}
 use mathlib.Core.Path.{◌≡◌}
-use native.Mathlib.Omega.{arith}
-use lib.ListN.{length, length-set}
+use lib.ListN.{length}
 use Rattle.terms.specs.Figures.{table_bytes}
-use Rattle.refusals.proofs.Clearing.{zeroed, zeroed_more, cleared_other, cleared_all}
-use borrow.Author.Rules.{rules}
+use Rattle.refusals.proofs.Clearing.{zeroed}
 use Rattle.refusals.proofs.clear.Given as goal
 
 abbrev pub invariant-loop-i : goal.invariant-loop-i

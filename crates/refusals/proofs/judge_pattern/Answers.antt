@@ -4,7 +4,6 @@ use Rattle.terms.specs.Refusal.{pattern_rows}
 use Rattle.records.specs.Checks.{Pattern, pattern_refusal}
 use Rattle.refusals.specs.declared.Refusal.{Refusal}
 use Rattle.refusals.proofs.Judging.{check_right, check_refused}
-use borrow.Author.Rules.{rules}
 use Rattle.refusals.proofs.judge_pattern.Goals as goal
 
 pub returns-in-BadLength : goal.returns-in-BadLength

@@ -4,7 +4,6 @@ use Rattle.terms.specs.Refusal.{recipe_rows}
 use Rattle.records.specs.Checks.{Recipe, recipe_refusal}
 use Rattle.refusals.specs.declared.Refusal.{Refusal}
 use Rattle.refusals.proofs.Judging.{check_right, check_refused}
-use borrow.Author.Rules.{rules}
 use Rattle.refusals.proofs.judge_recipe.Goals as goal
 
 pub returns-in-BadLength : goal.returns-in-BadLength

@@ -1,7 +1,6 @@
 -- `refusals::judge_sides` meets its contract: a variable of either side that lacks a value is one of both. Assumes nothing.
 use Rattle.terms.specs.Refusal.{OccursIn}
 use Rattle.refusals.proofs.Judging.{side_stop, side_next}
-use borrow.Author.Rules.{rules}
 use Rattle.refusals.proofs.judge_sides.Goals as goal
 
 pub returns-in-Refused : goal.returns-in-Refused

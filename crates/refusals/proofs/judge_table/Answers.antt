@@ -2,7 +2,6 @@
 use Rattle.terms.specs.Refusal.{BadTable}
 use Rattle.records.proofs.Tests.{says}
 use Rattle.refusals.proofs.Judging.{bad_table, good_table}
-use borrow.Author.Rules.{rules}
 use Rattle.refusals.proofs.judge_table.Goals as goal
 
 pub returns-then-is_bad_table : goal.returns-then-is_bad_table

@@ -1,7 +1,6 @@
 -- `refusals::number_of` meets its contract, by the refusal. Assumes nothing.
 use mathlib.Core.Path.{sym, ap}
 use Rattle.refusals.specs.Judged.{number}
-use borrow.Author.Rules.{rules}
 use Rattle.refusals.proofs.number_of.Goals as goal
 
 pub returns-in-PatternLength : goal.returns-in-PatternLength

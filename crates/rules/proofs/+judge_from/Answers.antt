@@ -1,10 +1,7 @@
 -- `rules::judge_from` meets its contract: the next rule is judged, and the others if it passes. The measure is the number of places that
 -- are left. Assumes nothing.
-use lib.ListN.{length}
-use Rattle.terms.specs.Figures.{place_bytes}
 use Rattle.rules.proofs.Rules.{rules_none, rules_stop, rules_next}
 use borrow.Author.Rules.{rules}
-use Prim.Native.Nat.{ℕ, ◌-◌, ◌/◌, ◌<◌}
 use Rattle.rules.proofs.+judge_from.Goals as goal
 
 pub returns-then-i-book : goal.returns-then-i-book

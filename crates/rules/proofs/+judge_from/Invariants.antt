@@ -2,9 +2,7 @@
 -- are left. Assumes nothing.
 use lib.ListN.{length}
 use Rattle.terms.specs.Figures.{place_bytes}
-use Rattle.rules.proofs.Rules.{rules_none, rules_stop, rules_next}
-use borrow.Author.Rules.{rules}
-use Prim.Native.Nat.{ℕ, ◌-◌, ◌/◌, ◌<◌}
+use Prim.Native.Nat.{◌-◌, ◌/◌}
 use Rattle.rules.proofs.+judge_from.Given as goal
 
 abbrev pub decreases-judge_from : goal.decreases-judge_from

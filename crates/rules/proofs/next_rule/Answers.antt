@@ -1,8 +1,5 @@
 -- `rules::next_rule` meets its contract. The loop's invariant: the places passed are empty. Assumes nothing.
-use Prim.Native.Nat.{◌-◌, ◌/◌}
-use lib.ListN.{length}
-use Rattle.terms.specs.Figures.{place_bytes}
-use Rattle.rules.proofs.Places.{Reached, reached_start, reached_more, reached_rule, reached_end}
+use Rattle.rules.proofs.Places.{reached_start, reached_more, reached_rule, reached_end}
 use borrow.Author.Tests.{not-true, not-false}
 use borrow.Author.Rules.{rules}
 use Rattle.rules.proofs.next_rule.Goals as goal

@@ -2,9 +2,7 @@
 use Prim.Native.Nat.{◌-◌, ◌/◌}
 use lib.ListN.{length}
 use Rattle.terms.specs.Figures.{place_bytes}
-use Rattle.rules.proofs.Places.{Reached, reached_start, reached_more, reached_rule, reached_end}
-use borrow.Author.Tests.{not-true, not-false}
-use borrow.Author.Rules.{rules}
+use Rattle.rules.proofs.Places.{Reached}
 use Rattle.rules.proofs.next_rule.Given as goal
 
 abbrev pub invariant-loop-i : goal.invariant-loop-i

@@ -1,11 +1,10 @@
 -- `scanning::search_parts` meets its contract: one part is tried, and those behind it if it is passed over. The measure is the number of
 -- records that are left. Assumes nothing.
 use native.Mathlib.Omega.{arith}
-use lib.ListN.{length}
 use Rattle.scanning.proofs.Rules.{same_tables}
 use Rattle.scanning.proofs.Parts.{part_most, sought_end, sought_refused, sought_form, sought_next}
 use borrow.Author.Rules.{rules}
-use Prim.Native.Nat.{ℕ, ◌-◌, ◌/◌, ◌<◌}
+use Prim.Native.Nat.{◌-◌}
 use Rattle.scanning.proofs.+search_parts.Goals as goal
 
 pub returns-then-k-recipe : goal.returns-then-k-recipe

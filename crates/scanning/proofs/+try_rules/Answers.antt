@@ -1,11 +1,9 @@
 -- `scanning::try_rules` meets its contract: the next rule is tried, and those behind it if it is passed over. The measure is the number of
 -- places that are left. Assumes nothing.
-use lib.ListN.{length}
-use Rattle.terms.specs.Figures.{place_bytes}
 use Rattle.rules.proofs.Places.{next_taken}
 use Rattle.scanning.proofs.Rules.{same_tables, scan_none, scan_next, scan_form, scan_refused}
 use borrow.Author.Rules.{rules}
-use Prim.Native.Nat.{ℕ, ◌-◌, ◌/◌, ◌<◌}
+use Prim.Native.Nat.{◌-◌}
 use Rattle.scanning.proofs.+try_rules.Goals as goal
 
 pub returns-then-i-book : goal.returns-then-i-book

@@ -2,10 +2,7 @@
 -- places that are left. Assumes nothing.
 use lib.ListN.{length}
 use Rattle.terms.specs.Figures.{place_bytes}
-use Rattle.rules.proofs.Places.{next_taken}
-use Rattle.scanning.proofs.Rules.{same_tables, scan_none, scan_next, scan_form, scan_refused}
-use borrow.Author.Rules.{rules}
-use Prim.Native.Nat.{ℕ, ◌-◌, ◌/◌, ◌<◌}
+use Prim.Native.Nat.{◌-◌, ◌/◌}
 use Rattle.scanning.proofs.+try_rules.Given as goal
 
 abbrev pub decreases-try_rules : goal.decreases-try_rules

@@ -12,13 +12,12 @@ is_closed-requires c =
     here_tree _ c.requires.1 _ c.requires.2 _ c.end_at-end.ensures
 
 pub try_rules-requires : goal.try_rules-requires
-try_rules-requires c =
-    (
-      c.requires.0,
-      search rules,
-      here_recipe _ c.requires.1 _ c.requires.2 _ c.end_at-end.ensures _ c.is_closed.ensures c.if-is_closed.true,
-      pairs_most _ c.requires.1 _ c.requires.2 _ c.requires.3,
-    )
+try_rules-requires c = (
+  c.requires.0,
+  search rules,
+  here_recipe _ c.requires.1 _ c.requires.2 _ c.end_at-end.ensures _ c.is_closed.ensures c.if-is_closed.true,
+  pairs_most _ c.requires.1 _ c.requires.2 _ c.requires.3,
+)
 
 pub returns-then-is_closed : goal.returns-then-is_closed
 returns-then-is_closed c = search (rules, part_closed)

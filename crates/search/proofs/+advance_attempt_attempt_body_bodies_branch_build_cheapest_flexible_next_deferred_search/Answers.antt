@@ -1,21 +1,19 @@
 -- The functions of the search meet their contracts. Each returns what a law of moves, of ways or of choices makes of the searches that it
 -- calls; the measure is the room above the agenda and the place of its first easy goal, with a rank for the functions that call without a
 -- step between. Assumes nothing.
-use Prim.Native.Nat.{◌+◌, ◌-◌, ◌*◌}
+use Prim.Native.Nat.{◌-◌}
 use mathlib.Core.Path.{refl, ◌∙◌}
 use native.Mathlib.Omega.{arith}
 use lib.ListN.{length-set, replicate}
 use Rattle.terms.specs.Figures.{value_records}
-use Rattle.agenda.specs.Moves.{progress}
 use Rattle.search.proofs.Taken.{stepped_failed, stepped_left, stepped_assign, branched_failed, branched_next, taken_failed}
 use Rattle.search.proofs.Taken.{taken_next, taken_open, planned_failed, planned_next, planned_bodies}
 use Rattle.search.proofs.Searching.{begins_move, searched_move, searched_failed, finds, searched_found, begins_open, searched_open}
 use Rattle.search.proofs.Searching.{first_match, first_build}
-use Rattle.search.proofs.Searching.{SearchingOn, going_start, begins_going, going_next, searching_end, going_stop, searched_last}
+use Rattle.search.proofs.Searching.{going_start, begins_going, going_next, searching_end, going_stop, searched_last}
 use Rattle.search.proofs.Searching.{searched_stop, choosing_next, searched_both, begins_forwarded, searched_forwarded, begins_kept}
 use Rattle.search.proofs.Searching.{matches_kept, counted_kept, builds_kept, planned_begins, planned_searched}
 use borrow.Author.Rules.{rules}
-use Prim.Native.Nat.{ℕ, ◌<◌}
 use Rattle.search.proofs.+advance_attempt_attempt_body_bodies_branch_build_cheapest_flexible_next_deferred_search.Goals as goal
 
 pub advance-returns-in-Failed : goal.advance-returns-in-Failed
@@ -75,16 +73,15 @@ pub bodies-returns-then-n-k : goal.bodies-returns-then-n-k
 bodies-returns-then-n-k t c = search (rules, searched_last)
 
 pub bodies-bodies-found-requires : goal.bodies-bodies-found-requires
-bodies-bodies-found-requires t c =
-    (
-      omega arith,
-      (
-        c.requires.0,
-        c.requires.1,
-        let z = c.requires.2 in record
-            { upto = omega arith; most = z.most; sized = length-set c.args.chosen c.args.k 1 ∙ z.sized; are = z.are },
-      ),
-    )
+bodies-bodies-found-requires t c = (
+  omega arith,
+  (
+    c.requires.0,
+    c.requires.1,
+    let z = c.requires.2 in record
+        { upto = omega arith; most = z.most; sized = length-set c.args.chosen c.args.k 1 ∙ z.sized; are = z.are },
+  ),
+)
 
 pub bodies-returns-then-limit-found : goal.bodies-returns-then-limit-found
 bodies-returns-then-limit-found t c = search (rules, searched_stop)

@@ -2,20 +2,9 @@
 -- calls; the measure is the room above the agenda and the place of its first easy goal, with a rank for the functions that call without a
 -- step between. Assumes nothing.
 use Prim.Native.Nat.{◌+◌, ◌-◌, ◌*◌}
-use mathlib.Core.Path.{refl, ◌∙◌}
-use native.Mathlib.Omega.{arith}
-use lib.ListN.{length-set}
 use Rattle.terms.specs.Figures.{value_records}
 use Rattle.agenda.specs.Moves.{progress}
-use Rattle.search.proofs.Taken.{stepped_failed, stepped_left, stepped_assign, branched_failed, branched_next, taken_failed}
-use Rattle.search.proofs.Taken.{taken_next, taken_open, planned_failed, planned_next, planned_bodies}
-use Rattle.search.proofs.Searching.{begins_move, searched_move, searched_failed, finds, searched_found, begins_open, searched_open}
-use Rattle.search.proofs.Searching.{first_match, first_build}
-use Rattle.search.proofs.Searching.{SearchingOn, going_start, begins_going, going_next, searching_end, going_stop, searched_last}
-use Rattle.search.proofs.Searching.{searched_stop, choosing_next, searched_both, begins_forwarded, searched_forwarded, begins_kept}
-use Rattle.search.proofs.Searching.{matches_kept, counted_kept, builds_kept, planned_begins, planned_searched}
-use borrow.Author.Rules.{rules}
-use Prim.Native.Nat.{ℕ, ◌<◌}
+use Rattle.search.proofs.Searching.{SearchingOn}
 use Rattle.search.proofs.+advance_attempt_attempt_body_bodies_branch_build_cheapest_flexible_next_deferred_search.Given as goal
 
 abbrev pub decreases-advance : goal.decreases-advance

@@ -12,18 +12,17 @@ pub keep_heights-requires : goal.keep_heights-requires
 keep_heights-requires c = search (rules, recipe_target_written)
 
 pub put_goal-requires : goal.put_goal-requires
-put_goal-requires c =
-    (
-      first_room _ _ _ _ _ _ c.requires _ c.copy_into.ensures _ c.keep_heights.ensures,
-      record {
-        part = omega arith;
-        origin = omega arith;
-        from = omega arith;
-        near = omega arith;
-        next = omega arith;
-        argument = omega arith;
-      },
-    )
+put_goal-requires c = (
+  first_room _ _ _ _ _ _ c.requires _ c.copy_into.ensures _ c.keep_heights.ensures,
+  record {
+    part = omega arith;
+    origin = omega arith;
+    from = omega arith;
+    near = omega arith;
+    next = omega arith;
+    argument = omega arith;
+  },
+)
 
 pub search-requires : goal.search-requires
 search-requires c =

@@ -1,11 +1,6 @@
 -- `shifting::is_rigid` meets its contract. An application is rigid as its head is, and any other term by its first record; the measure
 -- is the length of the slice. Assumes nothing.
 use lib.ListN.{length}
-use Rattle.records.proofs.Slices.{head_slice}
-use Rattle.shifting.proofs.Slices.{shorter}
-use Rattle.shifting.proofs.Tests.{rigid_application_part, rigid_local, rigid_other}
-use borrow.Author.Rules.{rules}
-use Prim.Native.Nat.{ℕ, ◌<◌}
 use Rattle.shifting.proofs.+is_rigid.Given as goal
 
 abbrev pub decreases-is_rigid : goal.decreases-is_rigid

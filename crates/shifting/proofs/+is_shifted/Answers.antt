@@ -1,6 +1,5 @@
 -- `shifting::is_shifted` meets its contract. Each branch is one law of two parts compared, by the kind that both first records have; the
 -- measure is the length of the first slice. Assumes nothing.
-use lib.ListN.{length}
 use native.Mathlib.Omega.{arith}
 use Rattle.records.proofs.Tests.{says}
 use Rattle.shifting.proofs.Slices.{shorter, shorter_behind}
@@ -8,7 +7,6 @@ use Rattle.shifting.proofs.Tests.{compared_near, compared_kinds, compared_app, c
 use Rattle.shifting.proofs.Tests.{compared_local, compared_local_no, compared_other, compared_other_no, compares_head}
 use Rattle.shifting.proofs.Tests.{compares_argument, compares_body, compared_passed}
 use borrow.Author.Rules.{rules}
-use Prim.Native.Nat.{ℕ, ◌+◌, ◌≤◌, ◌<◌}
 use Rattle.shifting.proofs.+is_shifted.Goals as goal
 
 pub returns-then-k-e : goal.returns-then-k-e
@@ -22,8 +20,11 @@ returns-in_default t c = search (rules, compared_stop)
 
 pub overflow_add-next : goal.overflow_add-next
 overflow_add-next t c =
-    omega (arith, (compared_passed _ _ _ _ c.if-k-e.false c.if-k.true _ _ c.in-Upto.is c.is_shifted-head.ensures
-    c.requires).0)
+    omega (
+      arith,
+      (compared_passed _ _ _ _ c.if-k-e.false c.if-k.true _ _ c.in-Upto.is c.is_shifted-head.ensures
+          c.requires).0,
+    )
 
 pub slice_bounds-is_shifted-count-then-k-2 : goal.slice_bounds-is_shifted-count-then-k-2
 slice_bounds-is_shifted-count-then-k-2 t c =

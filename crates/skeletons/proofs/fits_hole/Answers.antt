@@ -14,6 +14,6 @@ returns-then-heights-ne0 c = search (rules, compared_loose)
 pub returns : goal.returns
 returns c =
     elim c.if-number_at-ne-ANY.branch [
-      then-number_at-ne-ANY+else-heights-ne0 w ↦ search (rules, compared_closed)
-    | else-number_at-ne-ANY w ↦ search (rules, compared_any)
+      | then-number_at-ne-ANY+else-heights-ne0 w ↦ search (rules, compared_closed)
+      | else-number_at-ne-ANY w ↦ search (rules, compared_any)
     ]

@@ -1,8 +1,4 @@
 -- `slots::records_before` meets its contract. Assumes nothing.
-use mathlib.Core.Path.{◌≡◌}
-use Prim.Native.Nat.{◌*◌, ◌-◌, ◌≤◌}
-use lib.ListN.{take}
-use Rattle.slots.specs.Slots.{total}
 use Rattle.slots.proofs.Counts.{total_more, total_done}
 use borrow.Author.Rules.{rules}
 use Rattle.slots.proofs.records_before.Goals as goal

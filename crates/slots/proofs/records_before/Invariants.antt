@@ -3,8 +3,6 @@ use mathlib.Core.Path.{◌≡◌}
 use Prim.Native.Nat.{◌*◌, ◌-◌, ◌≤◌}
 use lib.ListN.{take}
 use Rattle.slots.specs.Slots.{total}
-use Rattle.slots.proofs.Counts.{total_more, total_done}
-use borrow.Author.Rules.{rules}
 use Rattle.slots.proofs.records_before.Given as goal
 
 abbrev pub invariant-loop-i : goal.invariant-loop-i

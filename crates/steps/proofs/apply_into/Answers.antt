@@ -20,12 +20,11 @@ overflow_add-local-2 c =
     omega (arith, apply_most _ _ _ c.requires _ _ _ _ c.shift_into-copy.ensures)
 
 pub put_record-requires-2 : goal.put_record-requires-2
-put_record-requires-2 c =
-    (
-      local_room _ _ _ c.requires _ _ _ _ c.shift_into-copy.ensures _ _ c.put_record.ensures
-          c.copy_into.ensures,
-      omega arith,
-    )
+put_record-requires-2 c = (
+  local_room _ _ _ c.requires _ _ _ _ c.shift_into-copy.ensures _ _ c.put_record.ensures
+      c.copy_into.ensures,
+  omega arith,
+)
 
 pub overflow_add-result : goal.overflow_add-result
 overflow_add-result c =

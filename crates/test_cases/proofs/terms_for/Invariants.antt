@@ -1,7 +1,6 @@
 -- `test_cases::terms_for` is safe and ends. The loop's measure is the number of terms left.
 -- Assumes nothing.
 use Prim.Native.Nat.{◌-◌}
-use borrow.Author.Rules.{rules}
 use Rattle.test_cases.proofs.terms_for.Given as goal
 
 abbrev pub invariant-loop-n : goal.invariant-loop-n

@@ -1,7 +1,6 @@
 -- `test_groups::try_group` is safe and ends. The loop's measure is the number of cases left.
 -- Assumes nothing.
 use Prim.Native.Nat.{◌-◌}
-use borrow.Author.Rules.{rules}
 use Rattle.test_groups.proofs.try_group.Given as goal
 
 abbrev pub invariant-loop-i : goal.invariant-loop-i

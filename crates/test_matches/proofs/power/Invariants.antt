@@ -1,7 +1,6 @@
 -- `test_matches::power` is safe and ends. The loop's measure is the number of places left.
 -- Assumes nothing.
 use Prim.Native.Nat.{◌-◌}
-use borrow.Author.Rules.{rules}
 use Rattle.test_matches.proofs.power.Given as goal
 
 abbrev pub invariant-loop-i : goal.invariant-loop-i

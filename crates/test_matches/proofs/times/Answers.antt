@@ -3,7 +3,6 @@
 use Prim.Native.Nat.{◌≤◌, ◌%◌}
 use native.Mathlib.Omega.{arith}
 use native.Mathlib.Nat.{mul-le-mul}
-use borrow.Author.Rules.{rules}
 use Rattle.test_matches.proofs.times.Goals as goal
 
 pub overflow_mul-result : goal.overflow_mul-result

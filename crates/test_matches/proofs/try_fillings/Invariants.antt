@@ -3,7 +3,6 @@
 use Prim.Native.Nat.{◌-◌}
 use mathlib.Core.Path.{◌≡◌}
 use lib.ListN.{length}
-use borrow.Author.Rules.{rules}
 use Rattle.test_matches.proofs.try_fillings.Given as goal
 
 abbrev pub invariant-loop-turn : goal.invariant-loop-turn

@@ -3,7 +3,6 @@
 use Prim.Native.Nat.{◌-◌}
 use mathlib.Core.Path.{◌≡◌}
 use lib.ListN.{length}
-use borrow.Author.Rules.{rules}
 use Rattle.test_pool.proofs.add_size.Given as goal
 
 abbrev pub invariant-loop-number : goal.invariant-loop-number

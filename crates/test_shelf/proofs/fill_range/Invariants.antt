@@ -3,7 +3,6 @@
 use Prim.Native.Nat.{◌≤◌, ◌-◌}
 use mathlib.Core.Path.{◌≡◌}
 use lib.ListN.{length}
-use borrow.Author.Rules.{rules}
 use Rattle.test_shelf.proofs.fill_range.Given as goal
 
 abbrev pub invariant-loop-buoy : goal.invariant-loop-buoy

@@ -1,7 +1,6 @@
 -- `test_totals::disagreements` is safe and ends. The loop's measure is the number of totals left.
 -- Assumes nothing.
 use Prim.Native.Nat.{◌-◌}
-use borrow.Author.Rules.{rules}
 use Rattle.test_totals.proofs.disagreements.Given as goal
 
 abbrev pub invariant-loop-i : goal.invariant-loop-i

@@ -3,9 +3,6 @@
 use native.Mathlib.Omega.{arith}
 use lib.ListN.{length-set}
 use Prim.Native.Nat.{◌-◌}
-use mathlib.Core.Path.{◌≡◌}
-use lib.ListN.{length}
-use borrow.Author.Rules.{rules}
 use Rattle.test_trials.proofs.put_terms.Goals as goal
 
 pub loop-i-smaller : goal.loop-i-smaller

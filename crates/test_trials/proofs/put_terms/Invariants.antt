@@ -1,11 +1,8 @@
 -- `test_trials::put_terms` is safe and ends. The loop's measure is what is left of the table, which keeps its length.
 -- Assumes nothing.
-use native.Mathlib.Omega.{arith}
-use lib.ListN.{length-set}
 use Prim.Native.Nat.{◌-◌}
 use mathlib.Core.Path.{◌≡◌}
 use lib.ListN.{length}
-use borrow.Author.Rules.{rules}
 use Rattle.test_trials.proofs.put_terms.Given as goal
 
 abbrev pub invariant-loop-i : goal.invariant-loop-i

@@ -1,11 +1,6 @@
 -- `agenda::heads::heads_agree` meets its contract. Each record is read once, and of two applications the heads are compared; the
 -- measure is the length of the part's slice. Assumes nothing.
 use lib.ListN.{length}
-use Rattle.records.proofs.Slices.{head_slice}
-use Rattle.shifting.proofs.Slices.{shorter}
-use Rattle.agenda.proofs.Agreement.{agree, agree_other, target_head, agree_application, agree_constant}
-use borrow.Author.Rules.{rules}
-use Prim.Native.Nat.{ℕ, ◌<◌}
 use Rattle.agenda.proofs.heads.+heads_agree.Given as goal
 
 abbrev pub decreases-heads_agree : goal.decreases-heads_agree

@@ -2,8 +2,6 @@
 -- mark is one of a local that the target uses. Assumes nothing.
 use Prim.Native.Nat.{◌-◌, ◌≤◌}
 use Rattle.terms.specs.Figures.{pattern_records}
-use Rattle.agenda.proofs.Lacking.{lacks_none, lacks}
-use borrow.Author.Rules.{rules}
 use Rattle.agenda.proofs.locals.lacks_local.Given as goal
 
 abbrev pub invariant-loop-k : goal.invariant-loop-k

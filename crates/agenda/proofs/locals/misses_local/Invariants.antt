@@ -2,8 +2,6 @@
 -- something. Assumes nothing.
 use Prim.Native.Nat.{◌≤◌, ◌-◌}
 use Rattle.terms.specs.Figures.{pattern_records}
-use Rattle.agenda.proofs.Missing.{misses_found, misses_none}
-use borrow.Author.Rules.{rules}
 use Rattle.agenda.proofs.locals.misses_local.Given as goal
 
 abbrev pub invariant-loop-k : goal.invariant-loop-k

@@ -4,7 +4,6 @@ use native.Mathlib.Omega.{arith}
 use Rattle.joins.proofs.Joins.{enclosed_none, encloses_abstracted, never_long, contracted_few, contracted_within, encloses_next}
 use Rattle.joins.proofs.Joins.{enclosed_next}
 use borrow.Author.Rules.{rules}
-use Prim.Native.Nat.{ℕ, ◌<◌}
 use Rattle.joins.proofs.joining.+enclose_into.Goals as goal
 
 pub returns-then-n-eq0 : goal.returns-then-n-eq0

@@ -10,13 +10,12 @@ put_record-requires c =
     (omega arith, local_fits _ _ _ _ _ _ c.find_pair-found.ensures c.in-Local.is (omega arith))
 
 pub same_leaf_into-requires : goal.same_leaf_into-requires
-same_leaf_into-requires c =
-    (
-      search rules,
-      record { no_application = λ e. omega arith; no_abstraction = λ e. omega arith },
-      alike_constants c.number_at-m.ensures.0 c.number_at-n.ensures.0 c.requires.1 c.requires.2
-          c.find_pair-found.ensures c.in-Nothing.is,
-    )
+same_leaf_into-requires c = (
+  search rules,
+  record { no_application = λ e. omega arith; no_abstraction = λ e. omega arith },
+  alike_constants c.number_at-m.ensures.0 c.number_at-n.ensures.0 c.requires.1 c.requires.2
+      c.find_pair-found.ensures c.in-Nothing.is,
+)
 
 pub returns-in-Local : goal.returns-in-Local
 returns-in-Local c = search (rules, joined_pair)

@@ -2,27 +2,24 @@
 -- what is left of the pattern. Assumes nothing.
 use mathlib.Core.Path.{sym, ◌∙◌}
 use Prim.Native.Nat.{◌-◌}
-use lib.ListN.{length}
 use native.Mathlib.Omega.{arith}
 use Rattle.records.proofs.Parts.{whole_head}
 use Rattle.joins.proofs.Spines.{repeats_other, repeats_variable, repeats_adding, repeats_application}
 use borrow.Author.Rules.{rules}
-use Prim.Native.Nat.{ℕ, ◌<◌}
 use Rattle.joins.proofs.pairs.+spines_at.Goals as goal
 
 pub returns-then-kind-pattern : goal.returns-then-kind-pattern
 returns-then-kind-pattern t c = repeats_other _ _ _
 
 pub spines_at-heads-requires : goal.spines_at-heads-requires
-spines_at-heads-requires t c =
-    (
-      omega arith,
-      (
-        whole_head _ _ c.requires.0 c.if-kind.true,
-        whole_head _ _ c.requires.1 (sym c.if-kind-pattern.false ∙ c.if-kind.true),
-        c.requires.2,
-      ),
-    )
+spines_at-heads-requires t c = (
+  omega arith,
+  (
+    whole_head _ _ c.requires.0 c.if-kind.true,
+    whole_head _ _ c.requires.1 (sym c.if-kind-pattern.false ∙ c.if-kind.true),
+    c.requires.2,
+  ),
+)
 
 pub returns-in_default : goal.returns-in_default
 returns-in_default t c = repeats_other _ _ _

@@ -1,13 +1,7 @@
 -- `joins::pairs::spines_at` meets its contract. An application has the pairs of its head and one more, a variable has none; the measure is
 -- what is left of the pattern. Assumes nothing.
-use mathlib.Core.Path.{sym, ◌∙◌}
 use Prim.Native.Nat.{◌-◌}
 use lib.ListN.{length}
-use native.Mathlib.Omega.{arith}
-use Rattle.records.proofs.Parts.{whole_head}
-use Rattle.joins.proofs.Spines.{repeats_other, repeats_variable, repeats_adding, repeats_application}
-use borrow.Author.Rules.{rules}
-use Prim.Native.Nat.{ℕ, ◌<◌}
 use Rattle.joins.proofs.pairs.+spines_at.Given as goal
 
 abbrev pub decreases-spines_at : goal.decreases-spines_at

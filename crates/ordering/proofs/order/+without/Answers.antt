@@ -4,7 +4,6 @@ use mathlib.Core.Path.{refl}
 use native.Mathlib.Omega.{arith}
 use Rattle.ordering.proofs.Ordering.{dropped_here, drops_next, anew_room, anew_fits, dropped_further}
 use borrow.Author.Rules.{rules}
-use Prim.Native.Nat.{ℕ, ◌<◌}
 use Rattle.ordering.proofs.order.+without.Goals as goal
 
 pub goal_at-stored-requires : goal.goal_at-stored-requires
@@ -20,16 +19,15 @@ pub without-rest-requires : goal.without-rest-requires
 without-rest-requires t c = search (rules, drops_next)
 
 pub put_goal-requires : goal.put_goal-requires
-put_goal-requires t c =
-    (
-      omega (
-        arith,
-        anew_room c.requires c.goal_at-stored.ensures.is c.if-list-goal.false c.without-rest.ensures,
-        c.without-rest.ensures.whole,
-        c.requires.whole,
-      ),
-      search (rules, anew_fits),
-    )
+put_goal-requires t c = (
+  omega (
+    arith,
+    anew_room c.requires c.goal_at-stored.ensures.is c.if-list-goal.false c.without-rest.ensures,
+    c.without-rest.ensures.whole,
+    c.requires.whole,
+  ),
+  search (rules, anew_fits),
+)
 
 pub overflow_add-result : goal.overflow_add-result
 overflow_add-result t c =

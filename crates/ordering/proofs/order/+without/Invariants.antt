@@ -1,10 +1,5 @@
 -- `ordering::order::without` meets its contract. A goal before the dropped one is written anew in front of what is left of the list behind
 -- it; the measure is the first goal's place, as the next one's is lower. Assumes nothing.
-use mathlib.Core.Path.{refl}
-use native.Mathlib.Omega.{arith}
-use Rattle.ordering.proofs.Ordering.{dropped_here, drops_next, anew_room, anew_fits, dropped_further}
-use borrow.Author.Rules.{rules}
-use Prim.Native.Nat.{ℕ, ◌<◌}
 use Rattle.ordering.proofs.order.+without.Given as goal
 
 abbrev pub decreases-without : goal.decreases-without

@@ -21,18 +21,17 @@ pub without-rest-requires : goal.without-rest-requires
 without-rest-requires c = search (rules, ready_drops)
 
 pub put_goal-requires : goal.put_goal-requires
-put_goal-requires c =
-    (
-      omega (
-        arith,
-        forward_room c.requires.0 c.requires.1 c.requires.2 c.cheapest_from-best.ensures
-            c.goal_at-stored.ensures.is c.without-rest.ensures,
-        c.without-rest.ensures.whole,
-        c.requires.0.bounds.whole,
-      ),
-      forward_fits c.requires.0 c.requires.1 c.requires.2 c.cheapest_from-best.ensures c.goal_at-stored.ensures.is
-          c.without-rest.ensures c.goal_at-stored.ensures.fits c.linked.ensures,
-    )
+put_goal-requires c = (
+  omega (
+    arith,
+    forward_room c.requires.0 c.requires.1 c.requires.2 c.cheapest_from-best.ensures
+        c.goal_at-stored.ensures.is c.without-rest.ensures,
+    c.without-rest.ensures.whole,
+    c.requires.0.bounds.whole,
+  ),
+  forward_fits c.requires.0 c.requires.1 c.requires.2 c.cheapest_from-best.ensures c.goal_at-stored.ensures.is
+      c.without-rest.ensures c.goal_at-stored.ensures.fits c.linked.ensures,
+)
 
 pub overflow_add-result : goal.overflow_add-result
 overflow_add-result c =

@@ -1,10 +1,7 @@
 -- `ordering::order::candidates` is safe and ends. Each part of the target is counted once at most, so that the number stays small; the
 -- measure is how many parts are left. Assumes nothing.
 use Prim.Native.Nat.{◌+◌, ◌-◌, ◌/◌, ◌≤◌}
-use mathlib.Core.Path.{◌≡◌, refl}
-use native.Mathlib.Omega.{arith}
-use Rattle.ordering.proofs.Ordering.{branches_head, branches_argument, branches_place, branches_part}
-use borrow.Author.Rules.{rules}
+use mathlib.Core.Path.{◌≡◌}
 use Rattle.ordering.proofs.order.candidates.Given as goal
 
 abbrev pub invariant-loop-k : goal.invariant-loop-k

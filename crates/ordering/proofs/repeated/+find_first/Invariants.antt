@@ -1,9 +1,5 @@
 -- `ordering::repeated::find_first` meets its contract. It answers the first goal with one behind it, or what the list behind it has; the
 -- measure is the goal's place, as the next one's is lower. Assumes nothing.
-use native.Mathlib.Omega.{arith}
-use Rattle.ordering.proofs.Forcing.{listed_falls, listed_next, listed_part, finds_nothing, finds_here, finds_further}
-use borrow.Author.Rules.{rules}
-use Prim.Native.Nat.{ℕ, ◌<◌}
 use Rattle.ordering.proofs.repeated.+find_first.Given as goal
 
 abbrev pub decreases-find_first : goal.decreases-find_first

@@ -3,7 +3,6 @@
 use native.Mathlib.Omega.{arith}
 use Rattle.ordering.proofs.Forcing.{listed_falls, listed_next, listed_part, later_nothing, later_here, later_further}
 use borrow.Author.Rules.{rules}
-use Prim.Native.Nat.{ℕ, ◌<◌}
 use Rattle.ordering.proofs.repeated.+find_second.Goals as goal
 
 pub returns-then-list-eq0 : goal.returns-then-list-eq0

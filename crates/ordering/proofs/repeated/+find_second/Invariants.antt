@@ -1,9 +1,5 @@
 -- `ordering::repeated::find_second` meets its contract. It answers the first goal of the list, or what the list behind it has; the measure
 -- is the goal's place, as the next one's is lower. Assumes nothing.
-use native.Mathlib.Omega.{arith}
-use Rattle.ordering.proofs.Forcing.{listed_falls, listed_next, listed_part, later_nothing, later_here, later_further}
-use borrow.Author.Rules.{rules}
-use Prim.Native.Nat.{ℕ, ◌<◌}
 use Rattle.ordering.proofs.repeated.+find_second.Given as goal
 
 abbrev pub decreases-find_second : goal.decreases-find_second

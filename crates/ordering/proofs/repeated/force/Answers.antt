@@ -81,28 +81,27 @@ without-both-requires c =
     c.enclose_into-top.ensures c.keep_heights.ensures c.without-one.ensures
 
 pub put_goal-requires : goal.put_goal-requires
-put_goal-requires c =
-    (
-      omega (
-        arith,
-        forced_room c.requires.0 (found_twice _ _ _ _ _ c.in-Found.is c.find_first-search.ensures)
-            c.goal_at-first.ensures.is c.goal_at-second.ensures.is c.join_into-walk.ensures
-            c.in-Upto.is (omega arith)
-            c.enclose_into-top.ensures c.keep_heights.ensures
-            c.without-one.ensures c.without-both.ensures,
-        forced_whole c.requires.0
-            (found_twice _ _ _ _ _ c.in-Found.is c.find_first-search.ensures) c.goal_at-first.ensures.is
-            c.goal_at-second.ensures.is c.join_into-walk.ensures c.in-Upto.is (omega arith)
-            c.enclose_into-top.ensures c.keep_heights.ensures
-            c.without-one.ensures c.without-both.ensures,
-      ),
-      forced_fits c.requires.0 (found_twice _ _ _ _ _ c.in-Found.is c.find_first-search.ensures)
-          c.goal_at-first.ensures.is c.goal_at-second.ensures.is c.join_into-walk.ensures
-          c.in-Upto.is (omega arith)
-          c.enclose_into-top.ensures c.keep_heights.ensures
-          c.without-one.ensures c.without-both.ensures c.requires.1
-          c.match_goal-goal.ensures,
-    )
+put_goal-requires c = (
+  omega (
+    arith,
+    forced_room c.requires.0 (found_twice _ _ _ _ _ c.in-Found.is c.find_first-search.ensures)
+        c.goal_at-first.ensures.is c.goal_at-second.ensures.is c.join_into-walk.ensures
+        c.in-Upto.is (omega arith)
+        c.enclose_into-top.ensures c.keep_heights.ensures
+        c.without-one.ensures c.without-both.ensures,
+    forced_whole c.requires.0
+        (found_twice _ _ _ _ _ c.in-Found.is c.find_first-search.ensures) c.goal_at-first.ensures.is
+        c.goal_at-second.ensures.is c.join_into-walk.ensures c.in-Upto.is (omega arith)
+        c.enclose_into-top.ensures c.keep_heights.ensures
+        c.without-one.ensures c.without-both.ensures,
+  ),
+  forced_fits c.requires.0 (found_twice _ _ _ _ _ c.in-Found.is c.find_first-search.ensures)
+      c.goal_at-first.ensures.is c.goal_at-second.ensures.is c.join_into-walk.ensures
+      c.in-Upto.is (omega arith)
+      c.enclose_into-top.ensures c.keep_heights.ensures
+      c.without-one.ensures c.without-both.ensures c.requires.1
+      c.match_goal-goal.ensures,
+)
 
 pub overflow_add-result : goal.overflow_add-result
 overflow_add-result c =

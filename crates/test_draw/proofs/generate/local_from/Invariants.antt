@@ -1,7 +1,6 @@
 -- `test_draw::generate::local_from` is safe and ends. The loop's measure is the number of locals left.
 -- Assumes nothing.
 use Prim.Native.Nat.{◌≤◌, ◌-◌}
-use borrow.Author.Rules.{rules}
 use Rattle.test_draw.proofs.generate.local_from.Given as goal
 
 abbrev pub invariant-loop-i : goal.invariant-loop-i

@@ -1,7 +1,6 @@
 -- `test_scan::agreement::agrees` is safe and ends. The loop's measure is the number of variables left.
 -- Assumes nothing.
 use Prim.Native.Nat.{◌-◌}
-use borrow.Author.Rules.{rules}
 use Rattle.terms.specs.Figures.{variables}
 use Rattle.test_scan.proofs.agreement.agrees.Given as goal
 
