@@ -130,7 +130,7 @@ def main():
         text = open(f).read()
         head = {w.strip().split(" as ")[0] for m in IMPORT.finditer(text) if m.group(2) for w in m.group(2).split(",")}
         names = {n for n in declared & head if n not in imported(text, own)}
-        fields = {n for n in declared if n not in imported(text, own) and not re.search(r"^(?:abbrev |pub )*%s " % re.escape(n), text, re.M)}
+        fields = declared - imported(text, own) - set(re.findall(r"^(?:abbrev |pub )*(\S+) ", text, re.M))
         new = turn(text, names, "--")
         new = re.sub(r"\.([^\s(){}\[\];,.\"`«»]+)", lambda m: "." + snake(m.group(1)) if m.group(1) in fields else m.group(0), new)
         if new != text:
