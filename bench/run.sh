@@ -3,15 +3,15 @@
 #
 #   bench/run.sh [path of the static library] [options of src/main.rs: --limit MILLISECONDS, --hard, --show COUNT]
 #
-# The library is target/staticlib/libexports.a unless given.
+# The library is crates/exports/out/libexports.a unless given.
 set -eu
 here=$(cd "$(dirname "$0")" && pwd)
-library=$here/../target/staticlib/libexports.a
+library=$here/../crates/exports/out/libexports.a
 case ${1:---} in
 --*) ;;
 *) library=$1 && shift ;;
 esac
-[ -f "$library" ] || { echo "no static library at $library: 'rt staticlib exports' builds target/staticlib/libexports.a" >&2; exit 2; }
+[ -f "$library" ] || { echo "no static library at $library: 'cd crates/exports && rt lib' builds it" >&2; exit 2; }
 library=$(cd "$(dirname "$library")" && pwd)/$(basename "$library")
 
 build=$(mktemp -d)

@@ -1,24 +1,26 @@
 #!/bin/sh
 # run.sh FOLDER..: lists the matches of each folder's pattern.txt and recipe.txt by the proved program, and prints the listing, then its values as text.
-# The first run proves the program and all that it rests on, which takes some minutes, and says so, crate by crate; later runs use what is proved.
+# The first run proves the program and all that it rests on, which takes long, and prints what rt says on the way; later runs use what is proved.
 set -eu
 here=$(cd "$(dirname "$0")" && pwd)
 [ $# -ge 1 ] || { echo "usage: run.sh FOLDER.. (with pattern.txt and recipe.txt in it)" >&2; exit 2; }
-program=$here/../target/bin/onestep
+program=$here/../crates/onestep/out/onestep
 room=$(mktemp -d)
 trap 'rm -rf "$room"' EXIT
 trap 'exit 1' HUP INT TERM
 
-echo "checking the program: what isn't proved yet is proved now, crate by crate; all of it takes some minutes" >&2
+echo "checking the program: what isn't proved yet is proved now, crate by crate; all of it takes long" >&2
+: >"$room/log"
+# rt run proves and builds the program, and runs it too: with no files there, so what it prints then is dropped.
 {
     status=0
-    (cd "$here/.." && rt check onestep) 2>&1 || status=$?
+    (cd "$here/../crates/onestep" && rt run </dev/null) 2>&1 >/dev/null || status=$?
     echo "$status" >"$room/status"
 } | while IFS= read -r line; do
     printf '%s\n' "$line" >>"$room/log"
     case $line in
-    'rt: '*' proved (unchanged'*) ;;
-    'rt: '*' proved ('*) printf '%s\n' "$line" >&2 ;;
+    'rt: note'*) ;;
+    'rt: '*) printf '%s\n' "$line" >&2 ;;
     esac
 done
 [ "$(cat "$room/status")" -eq 0 ] || { cat "$room/log" >&2; exit 1; }

@@ -14,19 +14,19 @@ in backquotes
   File.name, File.Record.field       a name defined in specs/File.antt of some crate
   Record.field                       a field or case in the file of specs/ that defines the record
   a/b.c, also with `*`               a file or folder, seen from the top of the repository, from the document's folder or from some crate's
-  rt check NAME, rt dev NAME, ..     a crate
-  one word                           a crate, file, function, type, case, field, clause, definition, theorem or edit, or an identifier in tests/,
-                                     bench/, examples/ or include/, or a word of the list below
+  rt ci NAME.., rt must-fail NAME..  crates; and the word behind rt is a command of the kit (not asked in docs/changes, which tells the past)
+  one word                           a crate, file, function, type, case, field, clause, definition, theorem, edit, goal or fact of a proof
+                                     (`c.requires`), or an identifier in tests/, bench/, examples/ or include/, or a word of the list below
   anything else                      each word in it that has an underscore or a capital and a small letter, as a word by itself
 in backquotes behind the word must-fail, with nothing but commas and "and" between
   crate/edit, edit                   crates/crate/must-fail/edit.edit, of some crate if none is given
 in italics
   *crate File.law*, *crate File*     a theorem of crates/crate/proofs/File.antt, or that file
-  *File.law*, *law*                  the same in the crate, and in the file, that the line has named last
+  *File.law*, *law*                  the same in the crate, and in the file, that the line has named last; each word in italics is one
 elsewhere
   [text](path#heading)               a file, and a heading of it
   DECISIONS.md), 12                  an entry of docs/DECISIONS.md
-  blocks of code                     paths, and the crates of `rt` commands
+  blocks of code                     paths, and `rt` commands as in backquotes
 and each crate of crates.txt, but for those that begin with test_, has to stand in a block of code in README.md, the picture of the crates.
 Terms (`@ p0 k1`), bytes (`03 00`) and other text without such words are passed over. What is in backquotes or italics stands in one line.
 """
@@ -39,14 +39,16 @@ TOP = os.path.dirname(os.path.dirname(os.path.abspath(__file__)))
 
 # Words that no file of the repository defines: the kit's, the machine's and other languages'; letters that stand for terms and numbers.
 ALLOWED = set("""
-rt rustc cc od awk python3 target antt io libc os
-ensures requires needs search value
-matches refused ok logic proved axioms sum native built trusted nat char string read write close
-say NAME FILE FOLDER LAW X N M T P E B n k x
-test_ .rt .antt docs/X.md rattle-kit-5b-plain
+rt rustc cc awk python3 target antt io std std::fs staticlib
+ensures requires search value
+matches refused ok logic proved axioms sum native built trusted
+NAME FILE FOLDER LAW X N M T P E E' B n k x
+test_ .rt .antt docs/X.md
 """.split())
-# Built by the commands of the documents, and not in the repository.
-BUILT = ("target/",)
+# Built by the commands of the documents, and not in the repository: what `rt` makes of a crate, which has to be one, and programs over the library.
+BUILT = re.compile(r"(?:\.\./)*crates/(\*|[a-z_0-9]+)/out(?:/|$)|target/")
+# Commands of the kit.
+VERBS = set("ci must-fail selftest doc version help new check verdict lib run test try fmt tidy plant all expand lemma seed names".split())
 TERM = re.compile(r"^(@|\\|#(\d+|n|N)|[kp](\d+|n|N|i)|[A-Z]'?|head|argument|body|and|M|▢|≡|[A-Z]\[[^\]]*\])$")
 WORD = re.compile(r"[A-Za-z_][A-Za-z0-9_]*")
 PATH = re.compile(r"(?<![\w/.-])(?:crates|docs|tests|bench|examples|include|\.ci)/[\w./*-]*[\w*]")
@@ -69,6 +71,10 @@ class Crate:
         self.src = {stem(f): code_names(read(f)) for f in glob.glob(folder + "/src/*.rt")}
         self.specs = {stem(f): logic_names(read(f)) for f in glob.glob(folder + "/specs/*.antt")}
         self.proofs = {stem(f): logic_names(read(f)) for f in glob.glob(folder + "/proofs/*.antt")}
+        self.goals = set()
+        for f in glob.glob(folder + "/proofs/*/**/*.antt", recursive=True):
+            text = read(f)
+            self.goals |= logic_names(text) | {os.path.basename(f)} | set(re.findall(r"(?<![\w.])[cl](?:\.[\w'-]+)+", text))
         self.edits = {stem(f) for f in glob.glob(folder + "/must-fail/*.edit")}
 
     def all_src(self):
@@ -87,19 +93,19 @@ def code_names(text):
 def logic_names(text):
     """Names that a file of antt defines: everything with a type, records, data, fields and cases."""
     text = re.sub(r"--.*", "", text)
-    names = set(re.findall(r"\b(?:record|data|module|mod)\s+([^\s({:]+)", text))
+    names = set(re.findall(r"\b(?:record|data|ruleset|module|mod)\s+([^\s({:]+)", text))
     names |= set(re.findall(r"^\s*(?:(?:abbrev|unfoldable|pub|private)\s+)*([^\s({:=]+)\s*:(?:\s|$)", text, re.M))
     return names
 
 
 class Index:
     def __init__(self):
-        listed = re.findall(r"^([a-z_0-9]+):", read(os.path.join(TOP, "crates.txt")), re.M)
+        listed = re.findall(r"^([a-z_0-9]+)(?: [a-z0-9_=+]+)*:", read(os.path.join(TOP, "crates.txt")), re.M)
         self.crates = {name: Crate(name) for name in listed}
         self.words = set(self.crates)
         self.laws = set()
         for crate in self.crates.values():
-            self.words |= crate.all_src() | crate.edits
+            self.words |= crate.all_src() | crate.edits | crate.goals
             for part in (crate.specs, crate.proofs):
                 for file, names in part.items():
                     self.words |= {file} | names
@@ -156,8 +162,11 @@ class Document:
         self.commands(line)
 
     def commands(self, text):
-        for name in re.findall(r"\brt (?:check|dev|try|staticlib|must-fail|goals|mir) ([a-z_]+)", text):
-            self.need(name in self.index.crates, name)
+        for verb, names in re.findall(r"(?<![\w-])rt ([a-z][a-z-]*)((?: [a-z_0-9]+(?![\w./-]))*)", text):
+            if not self.name.startswith(os.path.join("docs", "changes")):
+                self.need(verb in VERBS, "rt " + verb)
+            for name in names.split() if verb not in ("lemma", "new", "all", "seed", "names") else ():
+                self.need(name in self.index.crates, name)
 
     def prose(self, line):
         if line.count("`") % 2:
@@ -192,7 +201,10 @@ class Document:
             self.need(anchor in slugs, link)
 
     def exists(self, path):
-        if path.startswith(BUILT) or path in ALLOWED:
+        built = BUILT.match(path)
+        if built:
+            return built.group(1) in (None, "*") or built.group(1) in self.index.crates
+        if path in ALLOWED:
             return True
         path = path.rstrip("/")
         places = (TOP, self.folder, os.path.join(TOP, "crates"), os.path.join(TOP, "crates", "*"))
@@ -213,13 +225,15 @@ class Document:
         if re.fullmatch(r"[0-9a-fx .:,%-]+", text):
             return
         name = re.sub(r"\(.*\)$", "", text)
+        if name in ALLOWED:
+            return
         if re.fullmatch(r"\w+(::\w+)+", name):
             return self.path_of_code(name)
         if re.fullmatch(r"[A-Z]\w*(\.[^\s./]+)+", name):
             return self.path_of_logic(name)
         if " " not in text and "/" in text:
             return self.need(self.place(text), text)
-        if re.fullmatch(r"[\w.-]+", text):
+        if re.fullmatch(r"[\w.'-]+", text):
             return self.need(index.known(text) or self.exists(text) or re.fullmatch(r"[kp](\d+|n|i)|-+\w[\w-]*|-?\d[\d.,]*", text), text)
         for path in PATH.findall(text):
             self.need(self.exists(path), path)
@@ -245,7 +259,7 @@ class Document:
             return
         records = [names for c in self.index.crates.values() for names in c.specs.values() if parts[0] in names]
         records += [names for c in self.index.crates.values() for names in c.src.values() if parts[0] in names]
-        self.need(any(set(parts[1:]) <= names for names in records) or self.exists(name), name)
+        self.need(any(set(parts[1:]) <= names for names in records) or self.index.known(name) or self.exists(name), name)
 
     def place(self, text):
         """crate/specs/File.name and the like, or a path."""
@@ -269,7 +283,7 @@ class Document:
             crates = [self.index.crates.get(self.crate)] if self.crate else self.index.crates.values()
             files = [c.proofs[file] for c in crates if c and file in c.proofs]
             return self.need(files and (not law or any(law in names for names in files)), text)
-        if re.fullmatch(r"[A-Za-z0-9′₀-₉]+(-[A-Za-z0-9′₀-₉]+)*", text):
+        if re.fullmatch(r"[^\s.,:;]+", text):
             files = []
             if self.crate in self.index.crates and self.file:
                 files = [self.index.crates[self.crate].proofs.get(self.file, set())]

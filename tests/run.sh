@@ -4,7 +4,7 @@
 #
 #   tests/run.sh [path of the static library] [number of calls] [other options of src/main.rs, such as seed=5]
 #
-# The library is target/staticlib/libexports.a unless given. A difference ends the run with status 1 and prints the call.
+# The library is crates/exports/out/libexports.a unless given. A difference ends the run with status 1 and prints the call.
 #
 # The shelf is set against a plain map: as many calls as of the other operations, in walks from a new shelf, each handed what the one before left, and then
 # all buoys read; one call for five of these is made on tables of any bytes, where nothing but safety is compared.
@@ -15,16 +15,16 @@
 #   tests/run.sh LIBRARY 200000 old_form=tests/old_form.txt
 set -eu
 here=$(cd "$(dirname "$0")" && pwd)
-library=${1:-$here/../target/staticlib/libexports.a}
+library=${1:-$here/../crates/exports/out/libexports.a}
 calls=${2:-200000}
 [ $# -ge 2 ] && shift 2 || shift $#
-[ -f "$library" ] || { echo "no static library at $library: 'rt staticlib exports' builds target/staticlib/libexports.a" >&2; exit 2; }
+[ -f "$library" ] || { echo "no static library at $library: 'cd crates/exports && rt lib' builds it" >&2; exit 2; }
 library=$(cd "$(dirname "$library")" && pwd)/$(basename "$library")
 
-if [ -f "$here/../target/bin/onestep" ]; then
+if [ -f "$here/../crates/onestep/out/onestep" ]; then
     "$here/../examples/test.sh"
 else
-    echo "examples: not listed, for there is no target/bin/onestep; 'rt check onestep' builds it"
+    echo "examples: not listed, for there is no crates/onestep/out/onestep; 'cd crates/onestep && rt run' builds it"
 fi
 "$here/../examples/link/run.sh" "$library"
 

@@ -4,11 +4,11 @@
 #
 #   tests/stack.sh [path of the static library]
 #
-# The library is target/staticlib/libexports.a unless given. A call that crashes or gives a wrong answer ends the run with status 1.
+# The library is crates/exports/out/libexports.a unless given. A call that crashes or gives a wrong answer ends the run with status 1.
 set -eu
 here=$(cd "$(dirname "$0")" && pwd)
-library=${1:-$here/../target/staticlib/libexports.a}
-[ -f "$library" ] || { echo "no static library at $library: 'rt staticlib exports' builds target/staticlib/libexports.a" >&2; exit 2; }
+library=${1:-$here/../crates/exports/out/libexports.a}
+[ -f "$library" ] || { echo "no static library at $library: 'cd crates/exports && rt lib' builds it" >&2; exit 2; }
 
 build=$(mktemp -d)
 trap 'rm -rf "$build"' EXIT

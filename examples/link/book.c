@@ -2,7 +2,7 @@
  *
  * The rules and the recipe are those of docs/PLANNERS.md, "A book of rules". The program puts them into tables, lends each call the recipe that the call
  * before it wrote, and prints what each call gives. It ends when a call gives back the recipe that it was lent, or after 64 calls.
- * From the top of the repository: cc -Wall -Wextra -Iinclude examples/link/book.c target/staticlib/libexports.a -o book */
+ * From the top of the repository: cc -Wall -Wextra -Iinclude examples/link/book.c crates/exports/out/libexports.a -o book */
 #include <stdio.h>
 #include <stdlib.h>
 #include <string.h>

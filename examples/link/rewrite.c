@@ -2,7 +2,7 @@
  *
  * FOLDER has the rule's left and right side, pattern.rec and right.rec, and recipe.rec. The program lists the matches of the left side, rewrites the
  * recipe with line 0 of the listing, and prints the lines and the new recipe in document 01's notation.
- * From the top of the repository: cc -Wall -Wextra -Iinclude examples/link/rewrite.c target/staticlib/libexports.a -o rewrite */
+ * From the top of the repository: cc -Wall -Wextra -Iinclude examples/link/rewrite.c crates/exports/out/libexports.a -o rewrite */
 #include <stdio.h>
 #include "onestep.h"
 

@@ -1,6 +1,6 @@
 //! rewrite FOLDER: applies a rule to a recipe by the first match, and prints what rewrite.c prints.
 //!
-//! From the top of the repository: rustc --edition 2021 -O examples/link/rewrite.rs -L target/staticlib -l static=exports -o rewrite
+//! From the top of the repository: rustc --edition 2021 -O examples/link/rewrite.rs -L crates/exports/out -l static=exports -o rewrite
 use std::process::ExitCode;
 
 // include/onestep.h, in Rust: each table is a pointer and a length in bytes.

@@ -1,12 +1,12 @@
 #!/bin/sh
 # run.sh [path of the static library]: builds rewrite.c and rewrite.rs, runs both on the examples and on some terms that are refused, and compares what they
 # print with the file `printed`; builds and runs book.c and shelf.c, and compares what they print with the files `printed_book` and `printed_shelf`. All
-# three files were checked by hand. The library is target/staticlib/libexports.a unless given.
+# three files were checked by hand. The library is crates/exports/out/libexports.a unless given.
 set -eu
 here=$(cd "$(dirname "$0")" && pwd)
 top=$here/../..
-library=${1:-$top/target/staticlib/libexports.a}
-[ -f "$library" ] || { echo "no static library at $library: 'rt staticlib exports' builds target/staticlib/libexports.a" >&2; exit 2; }
+library=${1:-$top/crates/exports/out/libexports.a}
+[ -f "$library" ] || { echo "no static library at $library: 'cd crates/exports && rt lib' builds it" >&2; exit 2; }
 
 room=$(mktemp -d)
 trap 'rm -rf "$room"' EXIT

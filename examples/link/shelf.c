@@ -2,7 +2,7 @@
  *
  * The program begins with a new shelf, puts recipes on it, reads, replaces one and takes one out, and prints the answers. It stores the shelf, loads it
  * from the file as a program would that was started later, and goes on from there.
- * From the top of the repository: cc -Wall -Wextra -Iinclude examples/link/shelf.c target/staticlib/libexports.a -o shelf */
+ * From the top of the repository: cc -Wall -Wextra -Iinclude examples/link/shelf.c crates/exports/out/libexports.a -o shelf */
 #define _POSIX_C_SOURCE 200809L /* for fsync and what it takes */
 #include <fcntl.h>
 #include <stdio.h>
