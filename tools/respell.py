@@ -118,9 +118,9 @@ def main():
             print("together:", new, sorted(olds))
     for f in lemma_files():
         text = open(f).read()
-        names = {n for n in declared | local[f] if n not in imported(text, own)}
-        new = turn(text, names, "--")
         outside = imported(text, own)
+        names = (declared | local[f]) - outside
+        new = turn(text, names, "--")
         for n in names & set(TOKEN.findall(text)):
             if snake(n) in outside:
                 print("has that name from outside:", f, n)
@@ -129,7 +129,7 @@ def main():
     for f in sorted(glob.glob("crates/*/proofs/**/Proof.antt", recursive=True)):
         text = open(f).read()
         head = {w.strip().split(" as ")[0] for m in IMPORT.finditer(text) if m.group(2) for w in m.group(2).split(",")}
-        names = {n for n in declared & head if n not in imported(text, own)}
+        names = (declared & head) - imported(text, own)
         fields = declared - imported(text, own) - set(re.findall(r"^(?:abbrev |pub )*(\S+) ", text, re.M))
         new = turn(text, names, "--")
         new = re.sub(r"\.([^\s(){}\[\];,.\"`«»]+)", lambda m: "." + snake(m.group(1)) if m.group(1) in fields else m.group(0), new)
@@ -141,7 +141,7 @@ def main():
         for n in declared & set(TOKEN.findall(text)):
             if re.search(r"\b(?:let|let mut|fn) %s\b|\b%s: " % (snake(n), snake(n)), text):
                 print("a name of the code too:", f, n)
-        new = turn(text, {n for n in declared if n not in imported(text, own)}, "//")
+        new = turn(text, declared - imported(text, own), "//")
         if new != text:
             open(f, "w").write(new)
     for f in sorted(glob.glob("crates/*/must-fail/*.edit")):

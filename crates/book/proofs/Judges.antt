@@ -1,8 +1,8 @@
 -- The verdict on what is lent: the tables' lengths, the number of places, the rules and the recipe, in that order. Assumes nothing.
-use mathlib.Core.Path.{◌≡◌, refl, sym, ◌∙◌}
-use mathlib.Core.List.{List, [], ◌∷◌, ◌++◌}
+use mathlib.Core.Path.{◌≡◌, refl}
+use mathlib.Core.List.{List, ◌++◌}
 use mathlib.Core.Logic.{inl, inr, ⊎_elim}
-use Prim.Native.Nat.{ℕ, ◌+◌, ◌/◌, ◌%◌, ◌≤◌, ◌<◌}
+use Prim.Native.Nat.{ℕ, ◌/◌, ◌%◌, ◌≤◌, ◌<◌}
 use native.Mathlib.Omega.{arith}
 use lib.ListN.{length}
 use Rattle.terms.specs.Figures.{table_bytes, place_bytes, most_places}
@@ -12,9 +12,8 @@ use Rattle.refusals.specs.declared.Refusal.{Refusal}
 use Rattle.refusals.specs.declared.Verdict.{Verdict}
 use Rattle.refusals.specs.Judged.{Judged, first_of, table_row, area_row}
 use Rattle.refusals.proofs.Judging.{judged_stop, judged_next, judged_first}
-use Rattle.rules.specs.Rules.{places_from, places, rules_rows}
-use Rattle.rules.specs.Steps.{Rules, NextRule}
-use Rattle.rules.proofs.Places.{next_none, next_some}
+use Rattle.rules.specs.Rules.{places, rules_rows}
+use Rattle.rules.specs.Steps.{Rules}
 use Rattle.book.specs.Operations.{book_table_rows, places_rows, lent_for_book}
 use Rattle.book.specs.Steps.{BookTables}
 
@@ -31,23 +30,20 @@ module _ (b o w : List ℕ) where
   length_good h (Verdict.Refused c) x = inr (λ n. n (omega arith), x)
 
 module _ (b : List ℕ) where
+  pub places_none : length b / place_bytes ≡ 0
+      → Judged (places_rows b) (length b / place_bytes ≤ most_places) (Verdict.Refused Refusal.BookSize)
+  unfolding Judged
+  places_none h = inl (inl h, refl)
+
   pub places_many : most_places < length b / place_bytes
       → Judged (places_rows b) (length b / place_bytes ≤ most_places) (Verdict.Refused Refusal.BookSize)
   unfolding Judged
   places_many h = inl (inr h, refl)
 
-  module _ (j : ℕ) (x : NextRule b 0 j) where
-    pub places_none : j ≡ length b / place_bytes → Judged (places_rows b) (length b / place_bytes ≤ most_places) (Verdict.Refused Refusal.BookSize)
-    unfolding Judged
-    places_none e = inl (inl (next_none b 0 j x e), refl)
-
-    pub places_right : ¬ (j ≡ length b / place_bytes) → length b / place_bytes ≤ most_places
-        → Judged (places_rows b) (length b / place_bytes ≤ most_places) Verdict.Right
-    unfolding Judged
-    places_right n g = ((⊎_elim (λ e. some (sym (next_some b 0 j x n) ∙ e)) (λ k. omega arith), tt), g)
-      where
-        some : j ∷ places_from b (j + 1) ≡ [] → ⊥
-        some e = let z : ◌≡◌ {A = ℕ} 0 1 = cc in omega arith
+  pub places_right : ¬ (length b / place_bytes ≡ 0) → length b / place_bytes ≤ most_places
+      → Judged (places_rows b) (length b / place_bytes ≤ most_places) Verdict.Right
+  unfolding Judged
+  places_right h g = ((⊎_elim h (λ k. omega arith), tt), g)
 
 -- all of it, in order
 module _ (b r o w : List ℕ) (x y s : Verdict) (jx : Judged (book_table_rows b o w) (length w ≡ table_bytes) x)

@@ -20,10 +20,9 @@ use Rattle.book.specs.declared.BookAnswer.{BookAnswer}
 abbrev pub book_table_rows : List ℕ → List ℕ → List ℕ → List Row
 book_table_rows b o w = (8, ¬ (length b % place_bytes ≡ 0)) ∷ (8, BadTable 4 o) ∷ (8, BadArea w) ∷ []
 
--- "16 for a book that is empty or above 64 places, before all else but 8"; request "Which rules fit which buoy, always up to date": "in that
--- search alone a book with no rule left counts as empty"
+-- "16 for a book that is empty or above 64 places, before all else but 8"
 abbrev pub places_rows : List ℕ → List Row
-places_rows b = (16, (places b ≡ []) ⊎ (most_places < length b / place_bytes)) ∷ []
+places_rows b = (16, (length b / place_bytes ≡ 0) ⊎ (most_places < length b / place_bytes)) ∷ []
 
 -- "Rules are checked in book order, left then right, and the recipe after them."
 abbrev pub lent_for_book : List ℕ → List ℕ → List ℕ → List ℕ → List Row

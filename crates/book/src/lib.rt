@@ -45,15 +45,15 @@ fn judge_lengths(book: &[u8], out: &[u8], work: &[u8]) -> Verdict
     refusals::judge_room(out, work)
 }
 
-// The number of places, and whether one has a rule: 16.
+// The number of places: 16.
 fn judge_places(book: &[u8]) -> Verdict
     ensures { Judged (places_rows book.now) (length book.now / place_bytes ≤ most_places) result }
 {
     let n = book.len() / PLACE;
-    if MOST_PLACES < n {
+    if n == 0 {
         return Verdict::Refused(Refusal::BookSize);
     }
-    if rules::next_rule(book, 0) == n {
+    if MOST_PLACES < n {
         return Verdict::Refused(Refusal::BookSize);
     }
     Verdict::Right

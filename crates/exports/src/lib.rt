@@ -9,8 +9,7 @@
 // The answers are stated by `list_code`, `check_code`, `sweep_code`, `rewrite_code`, `book_code`, `put_code`, `take_out_code`, `read_code` and
 // `count_code`; no two answers of an operation have one number, or, of the book, one number and one number of pairs (`proofs/Codes`), so
 // that these say which it is; and no two numbers meet a promise on the same tables (`proofs/Determined`). The crate stands by itself
-// because the kit builds a static library only from a crate that the same command checks: `rt staticlib exports` after `rt ci` proves these
-// ten functions again, and not the crates below. A kit that builds a static library from an rlib would change that.
+// because a crate is a library or a static library, and not both: `rt lib` in its folder builds the archive.
 
 #![tactic(auto)]
 

@@ -7,13 +7,13 @@ use Rattle.terms.specs.Figures.{table_bytes, most_places, buoys}
 use Rattle.terms.specs.Refusal.{Passed, recipe_rows}
 use Rattle.records.specs.Checks.{Pattern, Recipe}
 use Rattle.rules.specs.Rules.{book_bytes}
-use Rattle.rules.specs.Steps.{Rules}
+use Rattle.rules.specs.Steps.{TakenRules}
 use Rattle.storage.specs.Steps.{Shelf}
 use Rattle.fit_table.specs.FitTable.{fit_bytes}
 
 pub record RuleReady (k r w : List ℕ) : Type 0 where
   pub book : length k ≡ book_bytes
-  pub rules : Rules k
+  pub rules : TakenRules k
   pub passed : Passed (recipe_rows r)
   pub recipe : Recipe r
   pub area : length w ≡ table_bytes

@@ -4,7 +4,7 @@
 // it: `onestep`, document 01's program, on `pattern.rec` and `recipe.rec` in the folder it is run in, and `test_program` on cases whose
 // outputs are compared with stored ones. It promises that it is safe and ends, and that it lends `list` a line table, a value table and a
 // work area of the full length: `print_answer` asks for no less. `matcher` promises the listing, and `printing` the text of each printed
-// line. It rests on these two, and on the kit's `os` and `io` to read files.
+// line. It rests on these two, and on the library's files.
 //
 // It has room to read one record more than a table may have, which `print_files` asks for, so that `list` itself refuses a file that is too
 // long, with 1 or 4. The function that runs takes the two paths, so that the cases of `test_program` are folders of one crate.

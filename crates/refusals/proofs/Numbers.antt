@@ -1,4 +1,4 @@
--- A refusal is known by its number: no two have one, and all are from 1 to 20; so rows refuse with one cause only. It stands at its number
+-- A refusal is known by its number: no two have one, and all are from 1 to 19; so rows refuse with one cause only. It stands at its number
 -- in a list of all. Assumes nothing.
 --   of_number n  the refusal of number n
 use mathlib.Core.Path.{◌≡◌, refl, sym, ap, ◌∙◌}
@@ -11,18 +11,18 @@ use Rattle.terms.proofs.Refusal.{refused_once}
 use Rattle.refusals.specs.declared.Refusal.{Refusal}
 use Rattle.refusals.specs.Judged.{number}
 
--- those of the numbers 1 to 20
+-- those of the numbers 1 to 19
 abbrev refusals : List Refusal
 refusals =
     Refusal.PatternLength ∷ Refusal.PatternRecord ∷ Refusal.PatternTerm ∷ Refusal.RecipeLength ∷ Refusal.RecipeRecord ∷ Refusal.RecipeTerm
     ∷ Refusal.RecipeRedex ∷ Refusal.Tables ∷ Refusal.LineRoom ∷ Refusal.ValueRoom ∷ Refusal.Assignment ∷ Refusal.SweptForm ∷ Refusal.Output
     ∷ Refusal.NoMatch ∷ Refusal.NoNormalForm ∷ Refusal.BookSize ∷ Refusal.LongRecipe ∷ Refusal.Buoy
-    ∷ Refusal.ShelfRoom ∷ Refusal.Place ∷ []
+    ∷ Refusal.ShelfRoom ∷ []
 
 abbrev pub of_number : ℕ → Refusal
 of_number n = get_or (Refusal.NoMatch ∷ refusals) n Refusal.NoMatch
 
-numbered : (c : Refusal) → (0 < number c) × (number c < 21) × (of_number (number c) ≡ c)
+numbered : (c : Refusal) → (0 < number c) × (number c < 20) × (of_number (number c) ≡ c)
 numbered Refusal.PatternLength = (lit< tt, lit< tt, refl)
 numbered Refusal.PatternRecord = (lit< tt, lit< tt, refl)
 numbered Refusal.PatternTerm = (lit< tt, lit< tt, refl)
@@ -42,12 +42,11 @@ numbered Refusal.BookSize = (lit< tt, lit< tt, refl)
 numbered Refusal.LongRecipe = (lit< tt, lit< tt, refl)
 numbered Refusal.Buoy = (lit< tt, lit< tt, refl)
 numbered Refusal.ShelfRoom = (lit< tt, lit< tt, refl)
-numbered Refusal.Place = (lit< tt, lit< tt, refl)
 
 pub number_positive : (c : Refusal) → 0 < number c
 number_positive c = (numbered c).0
 
-pub number_most : (c : Refusal) → number c < 21
+pub number_most : (c : Refusal) → number c < 20
 number_most c = (numbered c).1
 
 pub of_number_lem : (c : Refusal) → of_number (number c) ≡ c

@@ -32,7 +32,6 @@ number Refusal.BookSize = 16
 number Refusal.LongRecipe = 17
 number Refusal.Buoy = 18
 number Refusal.ShelfRoom = 19
-number Refusal.Place = 20
 
 -- "Each is given when its cause holds and no earlier one does, and at no other time."
 unfoldable pub Judged : List Row → Type 0 → Verdict → Type 0

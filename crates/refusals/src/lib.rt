@@ -42,7 +42,6 @@ pub enum Refusal {
     LongRecipe,
     Buoy,
     ShelfRoom,
-    Place,
 }
 
 // What one step of judging the tables finds.
@@ -76,7 +75,6 @@ pub fn number_of(refusal: Refusal) -> u64
         Refusal::LongRecipe => 17,
         Refusal::Buoy => 18,
         Refusal::ShelfRoom => 19,
-        Refusal::Place => 20,
     }
 }
 

@@ -4,6 +4,7 @@
 use mathlib.Core.Path.{◌≡◌, refl, sym, ap, ◌∙◌}
 use mathlib.Core.Bool.{Bool, true, false, cond}
 use mathlib.Core.List.{List, [], ◌∷◌}
+use mathlib.Core.Logic.{inl}
 use Prim.Native.Nat.{ℕ, zero, suc, ◌+◌, ◌-◌, ◌/◌, ◌≤◌, ◌<◌}
 use native.Mathlib.Decide.{ℕ_discrete}
 use native.Mathlib.Omega.{arith}
@@ -11,7 +12,10 @@ use lib.Dec.{eqb}
 use lib.ListN.{length}
 use Rattle.terms.specs.Figures.{place_bytes}
 use Rattle.terms.proofs.Tests.{by_eqb}
-use Rattle.rules.specs.Rules.{left_count, right_count, count_up, is_empty, taken, places_from}
+use Rattle.refusals.specs.declared.Refusal.{Refusal}
+use Rattle.refusals.specs.declared.Verdict.{Verdict}
+use Rattle.refusals.specs.Judged.{Judged}
+use Rattle.rules.specs.Rules.{left_count, right_count, count_up, is_empty, taken, places_from, book_bytes, book_rows}
 use Rattle.rules.specs.Steps.{NextRule}
 
 true_false : (x : Bool) → x ≡ true → x ≡ false → ⊥
@@ -108,3 +112,13 @@ module _ (b : List ℕ) (i j : ℕ) (x : NextRule b i j) where
 
   pub next_some : ¬ (j ≡ length b / place_bytes) → places_from b i ≡ j ∷ places_from b (j + 1)
   next_some n = x.same ∙ places_here b j (omega (arith, x.within)) (next_taken n)
+
+-- a book of 64 places
+module _ (b : List ℕ) where
+  pub book_bad : ¬ (length b ≡ book_bytes) → Judged (book_rows b) (length b ≡ book_bytes) (Verdict.Refused Refusal.Tables)
+  unfolding Judged
+  book_bad h = inl (h, refl)
+
+  pub book_good : length b ≡ book_bytes → Judged (book_rows b) (length b ≡ book_bytes) Verdict.Right
+  unfolding Judged
+  book_good e = ((λ n. n e, tt), e)

@@ -1,25 +1,22 @@
 -- The sides of rules, read and judged: a side by its count and its records, a rule by its two sides, and the rules from one place on by the
 -- first of them and the others. From the laws of verdicts. Assumes nothing.
 use mathlib.Core.Path.{◌≡◌, refl, ap, subst}
-use mathlib.Core.Bool.{false}
 use mathlib.Core.List.{List}
 use mathlib.Core.Logic.{inl, inr}
-use Prim.Native.Nat.{ℕ, ◌+◌, ◌-◌, ◌*◌, ◌/◌, ◌≤◌, ◌<◌}
+use Prim.Native.Nat.{ℕ, suc, ◌+◌, ◌-◌, ◌*◌, ◌/◌, ◌≤◌, ◌<◌}
 use native.Mathlib.Decide.{ℕ_discrete}
 use native.Mathlib.Omega.{arith}
 use lib.ListN.{length, take, drop}
 use Rattle.terms.specs.Figures.{pattern_records, place_bytes}
 use Rattle.terms.specs.Layout.{word_at}
-use Rattle.terms.specs.Refusal.{pattern_rows}
+use Rattle.terms.specs.Refusal.{Passed, pattern_rows}
 use Rattle.records.specs.Checks.{Pattern}
 use Rattle.refusals.specs.declared.Refusal.{Refusal}
 use Rattle.refusals.specs.declared.Verdict.{Verdict}
 use Rattle.refusals.specs.Judged.{Judged, first_of}
 use Rattle.refusals.proofs.Judging.{judged_first, judged_more, judged_next, judged_stop}
-use Rattle.rules.specs.Rules.{is_empty, places_from, places, side_rows, left_count, left_table, right_count, right_table, rule_rows}
-use Rattle.rules.specs.Rules.{rules_rows, book_bytes, book_rows}
-use Rattle.rules.specs.Steps.{side_table, Side, Rule, Rules, RulesFrom, NextRule}
-use Rattle.rules.proofs.Places.{next_none, next_some}
+use Rattle.rules.specs.Rules.{count_up, places, side_rows, left_count, left_table, right_count, right_table, rule_rows, rules_rows}
+use Rattle.rules.specs.Steps.{side_table, Side, Rule, Rules, RulesFrom}
 
 -- a side, as the code reads it
 pub side_read : (b : List ℕ) (c f n : ℕ) → n ≡ word_at b c → take (f + 4 * n - f) (drop f b) ≡ side_table b c f
@@ -49,36 +46,41 @@ pub rule_judged :
 rule_judged b i l r v h x y e =
     judged_more (rule_rows b i) _ (Rule b i) v (λ s. record { within = h; left = s.0; right = s.1 }) (judged_first _ _ _ _ l r v x y e)
 
--- the rules from a place on: j is the first
-module _ (b : List ℕ) (i j : ℕ) (x : NextRule b i j) where
-  pub rules_none : j ≡ length b / place_bytes → Judged (rules_rows b (places_from b i)) (RulesFrom b i) Verdict.Right
+-- the rules at a place and behind it
+module _ (b : List ℕ) (i : ℕ) where
+  pub rules_none : i ≡ length b / place_bytes
+      → Judged (rules_rows b (count_up i (length b / place_bytes - i))) (RulesFrom b i) Verdict.Right
   unfolding Judged
-  rules_none e = (rw (next_none b i j x e) tt, λ k l g f. absurd (let z = x.behind k l g f in omega arith))
+  rules_none e =
+      let n : 0 ≡ length b / place_bytes - i = omega arith in
+      (subst (λ (k : ℕ). Passed (rules_rows b (count_up i k))) n tt, λ k l g. absurd (omega arith))
 
-  module _ (m : ¬ (j ≡ length b / place_bytes)) (v : Verdict) (y : Judged (rule_rows b j) (Rule b j) v) where
-    pub rules_stop : (c : Refusal) → v ≡ Verdict.Refused c → Judged (rules_rows b (places_from b i)) (RulesFrom b i) (Verdict.Refused c)
-    rules_stop c e = rw (next_some b i j x m) (judged_stop (rule_rows b j) (Rule b j) v y _ (RulesFrom b i) c e)
+  module _ (h : i ≤ length b / place_bytes) (m : ¬ (i ≡ length b / place_bytes)) (v : Verdict) (x : Judged (rule_rows b i) (Rule b i) v) where
+    one_more : suc (length b / place_bytes - suc i) ≡ length b / place_bytes - i
+    one_more = omega arith
 
-    pub rules_next : (u : Verdict) → v ≡ Verdict.Right → Judged (rules_rows b (places_from b (j + 1))) (RulesFrom b (j + 1)) u
-        → Judged (rules_rows b (places_from b i)) (RulesFrom b i) u
-    rules_next u e z =
-        rw (next_some b i j x m)
-        (judged_next (rule_rows b j) (Rule b j) v y _ (RulesFrom b (j + 1)) (RulesFrom b i) u e
-        (λ w r k l g f. at w r k (x.behind k l g f) g f (ℕ_discrete j k)) z)
+    pub rules_stop : (c : Refusal) → v ≡ Verdict.Refused c
+        → Judged (rules_rows b (count_up i (length b / place_bytes - i))) (RulesFrom b i) (Verdict.Refused c)
+    rules_stop c e =
+        subst (λ (k : ℕ). Judged (rules_rows b (count_up i k)) (RulesFrom b i) (Verdict.Refused c)) one_more
+        (judged_stop (rule_rows b i) (Rule b i) v x _ (RulesFrom b i) c e)
+
+    pub rules_next : (u : Verdict) → v ≡ Verdict.Right
+        → Judged (rules_rows b (count_up (i + 1) (length b / place_bytes - (i + 1)))) (RulesFrom b (i + 1)) u
+        → Judged (rules_rows b (count_up i (length b / place_bytes - i))) (RulesFrom b i) u
+    rules_next u e y =
+        let j : i + 1 ≡ suc i = omega arith in
+        subst (λ (k : ℕ). Judged (rules_rows b (count_up i k)) (RulesFrom b i) u) one_more
+        (judged_next (rule_rows b i) (Rule b i) v x _ (RulesFrom b (suc i)) (RulesFrom b i) u e (λ w r k l g. at w r k l g (ℕ_discrete i k))
+        (subst (λ (k : ℕ). Judged (rules_rows b (count_up k (length b / place_bytes - k))) (RulesFrom b k) u) j y))
       where
-        at : Rule b j → RulesFrom b (j + 1) → (k : ℕ) → j ≤ k → k < length b / place_bytes → is_empty b k ≡ false → Dec (j ≡ k) → Rule b k
-        at w r k l g f (yes q) = subst (Rule b) q w
-        at w r k l g f (no q) = r k (omega arith) g f
+        at : Rule b i → RulesFrom b (suc i) → (k : ℕ) → i ≤ k → k < length b / place_bytes → Dec (i ≡ k) → Rule b k
+        at w r k l g (yes z) = subst (Rule b) z w
+        at w r k l g (no z) = r k (omega arith) g
 
-pub rules_all : (b : List ℕ) (v : Verdict) → Judged (rules_rows b (places b)) (RulesFrom b 0) v → Judged (rules_rows b (places b)) (Rules b) v
-rules_all b v = judged_more (rules_rows b (places b)) (RulesFrom b 0) (Rules b) v (λ r k l e. r k (omega arith) l e)
-
--- a book of 64 places
-module _ (b : List ℕ) where
-  pub book_bad : ¬ (length b ≡ book_bytes) → Judged (book_rows b) (length b ≡ book_bytes) (Verdict.Refused Refusal.Tables)
-  unfolding Judged
-  book_bad h = inl (h, refl)
-
-  pub book_good : length b ≡ book_bytes → Judged (book_rows b) (length b ≡ book_bytes) Verdict.Right
-  unfolding Judged
-  book_good e = ((λ n. n e, tt), e)
+pub rules_all : (b : List ℕ) (v : Verdict) → Judged (rules_rows b (count_up 0 (length b / place_bytes - 0))) (RulesFrom b 0) v
+    → Judged (rules_rows b (places b)) (Rules b) v
+rules_all b v x =
+    let n : length b / place_bytes - 0 ≡ length b / place_bytes = omega arith in
+    judged_more (rules_rows b (places b)) (RulesFrom b 0) (Rules b) v (λ r k l. r k (omega arith) l)
+    (subst (λ (k : ℕ). Judged (rules_rows b (count_up 0 k)) (RulesFrom b 0) v) n x)

@@ -1,9 +1,10 @@
 -- What reading and judging rules needs, and what it shows.
 --   side_table b c f   the counted records of the side whose count stands at byte c of the book b and whose records from byte f on
 --   Side n l           a side with a count of n and the counted records l is a pattern, or a right side
---   Rule b i           place i lies in the book b and has a rule that an operation takes
---   Rules b            so does each place that isn't empty
---   RulesFrom b i      each such place from i on
+--   Rule b i           place i lies in the book b and has a rule
+--   Rules b            so does each place
+--   RulesFrom b i      each place from i on
+--   TakenRules b       each place that isn't empty
 --   NextRule b i j     j is the first place from i on that isn't empty, or the end of the book
 --   SideWithin b c f   the count at byte c and the 32 records from byte f on lie in the book b
 --   SideRead b c f     its count is at most 32, too
@@ -25,10 +26,13 @@ pub record Rule (b : List ℕ) (i : ℕ) : Type 0 where
   pub right : Side (right_count b i) (right_table b i)
 
 abbrev pub RulesFrom : List ℕ → ℕ → Type 0
-RulesFrom b i = (k : ℕ) → i ≤ k → k < length b / place_bytes → is_empty b k ≡ false → Rule b k
+RulesFrom b i = (k : ℕ) → i ≤ k → k < length b / place_bytes → Rule b k
 
 abbrev pub Rules : List ℕ → Type 0
-Rules b = (k : ℕ) → k < length b / place_bytes → is_empty b k ≡ false → Rule b k
+Rules b = (k : ℕ) → k < length b / place_bytes → Rule b k
+
+abbrev pub TakenRules : List ℕ → Type 0
+TakenRules b = (k : ℕ) → k < length b / place_bytes → is_empty b k ≡ false → Rule b k
 
 pub record NextRule (b : List ℕ) (i j : ℕ) : Type 0 where
   pub from : i ≤ j

@@ -1,18 +1,20 @@
 // The rules of a book: their two sides read, and judged in book order.
 //
-// A book is a table of places, each with the two sides of a rule: two counts of records, and room for 32 records a side. A place whose
-// counts are both 0 is empty, and passed over. The crate promises that a side which it gives is the counted records and no others, and, for
-// any bytes, that its verdict on all rules is the first of the rows 1 to 3 of their sides, left before right and in book order, whose cause
-// holds; else that every side is one that an operation takes. It rests on `refusals` for the verdict on one side. `specs/Pairs` has the
-// order in which rules are tried on the closed parts of a recipe.
+// A book is a table of places, each with the two sides of a rule: two counts of records, and room for 32 records a side. The crate promises
+// that a side which it gives is the counted records and no others, and, for any bytes, that its verdict on all rules is the first of the
+// rows 1 to 3 of their sides, left before right and in book order, whose cause holds; else that every side is one that an operation takes.
+// It rests on `refusals` for the verdict on one side. `specs/Pairs` has the order in which rules are tried on the closed parts of a recipe.
+//
+// A place whose counts are both 0 is empty: `is_empty` and `next_rule` tell which are, and `judge_length` whether a book has 64 places. No
+// operation asks for these yet.
 
 #![tactic(auto)]
 
-ghost use Rattle.std.specs.Prelude.{◌≡◌, ◌+◌, ◌*◌, ◌/◌, ◌≤◌, length};
+ghost use Rattle.std.specs.Prelude.{◌≡◌, ◌+◌, ◌-◌, ◌*◌, ◌/◌, ◌≤◌, length};
 ghost use Rattle.terms.specs.Figures.{place_bytes};
 ghost use Rattle.terms.specs.Layout.{word_at};
 ghost use Rattle.refusals.specs.Judged.{Judged};
-ghost use Rattle.rules.specs.Rules.{left_table, right_table, is_empty, places_from, places, side_rows, rule_rows, rules_rows};
+ghost use Rattle.rules.specs.Rules.{left_table, right_table, count_up, is_empty, places, side_rows, rule_rows, rules_rows};
 ghost use Rattle.rules.specs.Rules.{book_bytes, book_rows};
 ghost use Rattle.rules.specs.Steps.{side_table, Side, Rule, Rules, RulesFrom, NextRule, SideWithin, SideRead};
 
@@ -100,12 +102,12 @@ pub fn next_rule(book: &[u8], from: usize) -> usize
     i
 }
 
-// The rules at the places from `from` on, in book order.
-fn judge_from(book: &[u8], from: usize) -> Verdict
-    requires { from ≤ length book.now / place_bytes }
-    ensures { Judged (rules_rows book.now (places_from book.now from)) (RulesFrom book.now from) result }
+// The rules at place i and behind it, in book order.
+fn judge_from(book: &[u8], i: usize) -> Verdict
+    requires { i ≤ length book.now / place_bytes }
+    ensures { Judged (rules_rows book.now (count_up i (length book.now / place_bytes - i)))
+        (RulesFrom book.now i) result }
 {
-    let i = next_rule(book, from);
     if i == book.len() / PLACE {
         return Verdict::Right;
     }

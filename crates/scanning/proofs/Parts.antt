@@ -17,7 +17,7 @@ use Rattle.records.specs.Tests.{Says, Tells}
 use Rattle.records.specs.Checks.{Recipe}
 use Rattle.records.proofs.Parts.{part_one, part_bytes, tree}
 use Rattle.refusals.specs.declared.Refusal.{Refusal}
-use Rattle.rules.specs.Rules.{places}
+use Rattle.rules.specs.Rules.{count_up, places}
 use Rattle.rules.specs.Pairs.{Parts, pairs}
 use Rattle.replacing.proofs.Holes.{Hole, hole, hole_part}
 use Rattle.replacing.proofs.Wholes.{recipe_length, recipe_hole, recipe_part}
@@ -68,10 +68,15 @@ module _ (r : List ℕ) (x : Recipe r) (k : ℕ) (h : 4 * k < length r) where
           inr (subst (λ (u : Term). ¬ Closed 0 u) q o, refl)
 
       pub part_closed : b ≡ true → (d : List ℕ) (c : ℕ) (a : Scan) (f : List ℕ)
-          → ((t : Term) → take (end - 4 * k) (drop (4 * k) r) ≡ encode t → RuleScan d t (places d) c a f) → PartScan d r k c a f
+          → ((t : Term) → take (end - 4 * k) (drop (4 * k) r) ≡ encode t → RuleScan d t (count_up 0 (length d / place_bytes - 0)) c a f)
+          → PartScan d r k c a f
       part_closed e d c a f s t p =
           let q = part_one r (4 * k) here.here t here_part p in
-          inl (subst (Closed 0) q (here_closed e), s t (here_bytes ∙ ap encode q))
+          let n : length d / place_bytes - 0 ≡ length d / place_bytes = omega arith in
+          inl (
+            subst (Closed 0) q (here_closed e),
+            subst (λ (m : ℕ). RuleScan d t (count_up 0 m) c a f) n (s t (here_bytes ∙ ap encode q)),
+          )
 
 -- how many pairs are passed over before a part, and with it
 pub pairs_most : (r : List ℕ) → Recipe r → (k : ℕ) → 4 * k < length r → (c : ℕ) → c ≤ most_places * k → c ≤ most_places * recipe_records + 0
@@ -83,7 +88,7 @@ part_most b r lines values work x y k h c g a f s m e = go (s (here r y k h).her
   where
     go : (Closed 0 (here r y k h).here × RuleScan b (here r y k h).here (places b) c a f)
         ⊎ (¬ Closed 0 (here r y k h).here × (a ≡ Scan.PassedOver c)) → m ≤ most_places * (k + 1)
-    go (inl z) = omega (arith, scan_most b (here r y k h).here c a f z.1 m e, x.few)
+    go (inl z) = omega (arith, scan_most b (here r y k h).here 0 (length b / place_bytes) c a f z.1 m e, x.few)
     go (inr z) = let q : m ≡ c = cc in omega (arith, q)
 
 -- the closed parts from a record on

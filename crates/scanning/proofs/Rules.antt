@@ -1,9 +1,8 @@
 -- The rules tried on one part, one after the other: what one rule and those behind it come to. By induction on the rules. Assumes nothing.
-use mathlib.Core.Path.{◌≡◌, refl, sym, ◌∙◌, subst}
-use mathlib.Core.Bool.{false}
+use mathlib.Core.Path.{◌≡◌, refl, sym, ap, ◌∙◌, subst}
 use mathlib.Core.List.{List, [], ◌∷◌, ◌++◌}
 use mathlib.Core.Logic.{inl, inr}
-use Prim.Native.Nat.{ℕ, suc, ◌+◌, ◌/◌, ◌≤◌, ◌<◌}
+use Prim.Native.Nat.{ℕ, zero, suc, ◌+◌, ◌-◌, ◌/◌, ◌≤◌, ◌<◌}
 use native.Mathlib.Omega.{arith}
 use lib.ListN.{length}
 use Rattle.terms.specs.Figures.{place_bytes}
@@ -13,10 +12,9 @@ use Rattle.terms.proofs.Table.{encode_one}
 use Rattle.records.specs.Checks.{Recipe}
 use Rattle.refusals.specs.declared.Refusal.{Refusal}
 use Rattle.refusals.specs.Judged.{number}
-use Rattle.rules.specs.Rules.{left_table, right_table, is_empty, places_from, places}
+use Rattle.rules.specs.Rules.{left_table, right_table, count_up}
 use Rattle.rules.specs.Pairs.{Pair, with_rules}
-use Rattle.rules.specs.Steps.{Rule, NextRule}
-use Rattle.rules.proofs.Places.{next_none, next_some, length_places}
+use Rattle.rules.specs.Steps.{Rule}
 use Rattle.replacing.specs.Replacing.{replaced}
 use Rattle.attempts.specs.declared.PairAnswer.{PairAnswer}
 use Rattle.attempts.specs.Pairs.{next, form, stop, Tried}
@@ -45,10 +43,9 @@ module _ (p q : List ℕ) (t : Term) (a : PairAnswer) (f : List ℕ) (x : PairAn
       (z.0, subst (Tried p q t) z.1 x.holds, z.2)
 
 -- what is lent for one rule
-module _ (b lines values work : List ℕ) (x : RuleTables b lines values work) (i : ℕ) (h : i < length b / place_bytes)
-    (e : is_empty b i ≡ false) where
+module _ (b lines values work : List ℕ) (x : RuleTables b lines values work) (i : ℕ) (h : i < length b / place_bytes) where
   pub rule_at : Rule b i
-  rule_at = x.rules i h e
+  rule_at = x.rules i h
 
   pub pair_tables : (p q r : List ℕ) → p ≡ left_table b i → q ≡ right_table b i → Recipe r → PairTables p q r lines values work
   pair_tables p q r ep eq y = record {
@@ -77,29 +74,38 @@ same_tables b lines values work x lines' values' work' e f g = record {
   area = g ∙ x.area;
 }
 
--- the rules from a place on: j is the first
-module _ (b : List ℕ) (t : Term) (i j : ℕ) (y : NextRule b i j) (c : ℕ) where
-  pub scan_none : j ≡ length b / place_bytes → (f : List ℕ) → RuleScan b t (places_from b i) c (Scan.PassedOver c) f
+-- no rule is left
+pub scan_none : (b : List ℕ) (t : Term) (i n c : ℕ) (f : List ℕ) → i ≡ n → RuleScan b t (count_up i (n - i)) c (Scan.PassedOver c) f
+unfolding RuleScan
+scan_none b t i n c f e = let z : n - i ≡ 0 = omega arith in rw z refl
+
+-- one rule more
+module _ (b : List ℕ) (t : Term) (i n c : ℕ) (h : i ≤ n) (g : ¬ (i ≡ n)) (a : PairAnswer) (f : List ℕ)
+    (x : PairAnswered (Tried (left_table b i) (right_table b i) t) a f) where
+  left_is : n - i ≡ suc (n - (i + 1))
+  left_is = omega arith
+
+  as_scan : (d : Scan) (k : List ℕ) → RuleScan b t (i ∷ count_up (suc i) (n - (i + 1))) c d k → RuleScan b t (count_up i (n - i)) c d k
+  as_scan d k z = subst (λ (m : ℕ). RuleScan b t (count_up i m) c d k) (sym left_is) z
+
+  pub scan_next : a ≡ PairAnswer.PassedOver → (d : Scan) (k : List ℕ) → RuleScan b t (count_up (i + 1) (n - (i + 1))) (c + 1) d k
+      → RuleScan b t (count_up i (n - i)) c d k
   unfolding RuleScan
-  scan_none e f = rw (next_none b i j y e) refl
+  scan_next e d k w =
+      let s : i + 1 ≡ suc i = omega arith in
+      let o : c + 1 ≡ suc c = omega arith in
+      let v : RuleScan b t (count_up (suc i) (n - (i + 1))) (suc c) d k =
+      subst (λ (j : ℕ). RuleScan b t (count_up (suc i) (n - (i + 1))) j d k) o
+      (subst (λ (j : ℕ). RuleScan b t (count_up j (n - (i + 1))) (c + 1) d k) s w) in
+      as_scan d k (inl (tried_next (left_table b i) (right_table b i) t a f x e, v))
 
-  module _ (g : ¬ (j ≡ length b / place_bytes)) (a : PairAnswer) (f : List ℕ)
-      (x : PairAnswered (Tried (left_table b j) (right_table b j) t) a f) where
-    pub scan_next : a ≡ PairAnswer.PassedOver → (d : Scan) (k : List ℕ) → RuleScan b t (places_from b (j + 1)) (c + 1) d k
-        → RuleScan b t (places_from b i) c d k
-    unfolding RuleScan
-    scan_next e d k w =
-        let o : c + 1 ≡ suc c = omega arith in
-        rw (next_some b i j y g)
-        (inl (tried_next (left_table b j) (right_table b j) t a f x e, subst (λ (m : ℕ). RuleScan b t (places_from b (j + 1)) m d k) o w))
+  pub scan_form : (m : ℕ) → a ≡ PairAnswer.Records m → RuleScan b t (count_up i (n - i)) c (Scan.Form m (c + 1)) f
+  unfolding RuleScan
+  scan_form m e = as_scan (Scan.Form m (c + 1)) f (inr (omega arith, tried_form (left_table b i) (right_table b i) t a f x m e))
 
-    pub scan_form : (m : ℕ) → a ≡ PairAnswer.Records m → RuleScan b t (places_from b i) c (Scan.Form m (c + 1)) f
-    unfolding RuleScan
-    scan_form m e = rw (next_some b i j y g) (inr (omega arith, tried_form (left_table b j) (right_table b j) t a f x m e))
-
-    pub scan_refused : (k : Refusal) → a ≡ PairAnswer.Refused k → RuleScan b t (places_from b i) c (Scan.Refused k) f
-    unfolding RuleScan
-    scan_refused k e = rw (next_some b i j y g) (inr (tried_stop (left_table b j) (right_table b j) t a f x k e))
+  pub scan_refused : (k : Refusal) → a ≡ PairAnswer.Refused k → RuleScan b t (count_up i (n - i)) c (Scan.Refused k) f
+  unfolding RuleScan
+  scan_refused k e = as_scan (Scan.Refused k) f (inr (tried_stop (left_table b i) (right_table b i) t a f x k e))
 
 -- how many pairs are passed over
 count_most : (b : List ℕ) (t : Term) (is : List ℕ) (c m : ℕ) (f : List ℕ) → RuleScan b t is c (Scan.PassedOver m) f → m ≤ c + length is
@@ -108,10 +114,14 @@ count_most b t [] c m f x = let e : m ≡ c = cc in omega (arith, e)
 count_most b t (i ∷ is) c m f (inl x) = omega (arith, count_most b t is (suc c) m f x.1)
 count_most b t (i ∷ is) c m f (inr x) = absurd x
 
-pub scan_most : (b : List ℕ) (t : Term) (c : ℕ) (a : Scan) (f : List ℕ) → RuleScan b t (places b) c a f → (m : ℕ)
-    → a ≡ Scan.PassedOver m → m ≤ c + length b / place_bytes
-scan_most b t c a f x m e =
-    omega (arith, count_most b t (places b) c m f (subst (λ (d : Scan). RuleScan b t (places b) c d f) e x), length_places b 0)
+length_count_up : (i n : ℕ) → length (count_up i n) ≡ n
+length_count_up i zero = refl
+length_count_up i (suc n) = ap suc (length_count_up (suc i) n)
+
+pub scan_most : (b : List ℕ) (t : Term) (i n c : ℕ) (a : Scan) (f : List ℕ) → RuleScan b t (count_up i n) c a f → (m : ℕ)
+    → a ≡ Scan.PassedOver m → m ≤ c + n
+scan_most b t i n c a f x m e =
+    omega (arith, count_most b t (count_up i n) c m f (subst (λ (d : Scan). RuleScan b t (count_up i n) c d f) e x), length_count_up i n)
 
 -- the form that the scan ended with
 pub scan_table : (b : List ℕ) (t : Term) (is : List ℕ) (c n m : ℕ) (f : List ℕ) → RuleScan b t is c (Scan.Form n m) f

@@ -10,12 +10,12 @@
 
 #![tactic(auto)]
 
-ghost use Rattle.std.specs.Prelude.{◌≡◌, false, ◌+◌, ◌-◌, ◌*◌, ◌/◌, ◌≤◌, ◌<◌, length};
+ghost use Rattle.std.specs.Prelude.{◌≡◌, ◌+◌, ◌-◌, ◌*◌, ◌/◌, ◌≤◌, ◌<◌, length};
 ghost use Rattle.terms.specs.Figures.{recipe_records, table_bytes, place_bytes, most_places};
 ghost use Rattle.terms.specs.Term.{Term};
 ghost use Rattle.terms.specs.Table.{encode};
 ghost use Rattle.records.specs.Checks.{Recipe};
-ghost use Rattle.rules.specs.Rules.{left_table, right_table, is_empty, places_from};
+ghost use Rattle.rules.specs.Rules.{left_table, right_table, count_up};
 ghost use Rattle.rules.specs.Steps.{Rules};
 ghost use Rattle.attempts.specs.Pairs.{Tried};
 ghost use Rattle.attempts.specs.Steps.{PairAnswered};
@@ -54,8 +54,7 @@ fn try_place(
     form: &mut [u8; SWEPT_BYTES],
     work: &mut [u8],
 ) -> PairAnswer
-    requires { RuleTables book.now lines.old values.old work.old × (i < length book.now / place_bytes)
-        × (is_empty book.now i ≡ false) × Recipe part.now }
+    requires { RuleTables book.now lines.old values.old work.old × (i < length book.now / place_bytes) × Recipe part.now }
     ensures { (t : Term) → part.now ≡ encode t
         → PairAnswered (Tried (left_table book.now i) (right_table book.now i) t) result form.new }
 {
@@ -64,10 +63,10 @@ fn try_place(
     attempts::try_rule(left, right, part, lines, values, form, work)
 }
 
-// Tries the rules at the places from `from` on on a part.
+// Tries the rules at place i and behind it on a part.
 fn try_rules(
     book: &[u8],
-    from: usize,
+    i: usize,
     part: &[u8],
     pairs: usize,
     lines: &mut [u8],
@@ -75,12 +74,11 @@ fn try_rules(
     form: &mut [u8; SWEPT_BYTES],
     work: &mut [u8],
 ) -> Scan
-    requires { RuleTables book.now lines.old values.old work.old × (from ≤ length book.now / place_bytes) × Recipe part.now
-        × (pairs ≤ most_places * recipe_records + from) }
+    requires { RuleTables book.now lines.old values.old work.old × (i ≤ length book.now / place_bytes) × Recipe part.now
+        × (pairs ≤ most_places * recipe_records + i) }
     ensures { (t : Term) → part.now ≡ encode t
-        → RuleScan book.now t (places_from book.now from) pairs result form.new }
+        → RuleScan book.now t (count_up i (length book.now / place_bytes - i)) pairs result form.new }
 {
-    let i = rules::next_rule(book, from);
     if i == book.len() / PLACE {
         return Scan::PassedOver(pairs);
     }

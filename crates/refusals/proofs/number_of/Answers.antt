@@ -59,6 +59,3 @@ returns-in-Buoy c = sym (ap number c.in-Buoy.is)
 
 pub returns-in-ShelfRoom : goal.returns-in-ShelfRoom
 returns-in-ShelfRoom c = sym (ap number c.in-ShelfRoom.is)
-
-pub returns-in-Place : goal.returns-in-Place
-returns-in-Place c = sym (ap number c.in-Place.is)

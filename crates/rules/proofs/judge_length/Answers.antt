@@ -1,5 +1,5 @@
 -- `rules::judge_length` meets its contract. Assumes nothing.
-use Rattle.rules.proofs.Rules.{book_bad, book_good}
+use Rattle.rules.proofs.Places.{book_bad, book_good}
 use borrow.Author.Rules.{rules}
 use Rattle.rules.proofs.judge_length.Goals as goal
 
