@@ -4,7 +4,8 @@
     tests/names.py            from anywhere; status 1 if a name is nowhere, with a line `docs/X.md:LINE: NAME is nowhere` for each
     tests/names.py FILE..     the same for these documents only
 
-The documents are README.md, those of docs and docs/changes, and README.md of examples, bench and bench/cases. What is recognised, and where it has to be:
+The documents are README.md, those of docs and docs/changes but for PORT.md, which has the old names beside the new ones, and README.md of
+examples, bench and bench/cases. What is recognised, and where it has to be:
 
 in backquotes
   crate::name, crate::module::name   a function, type, constant, case or module in crates/crate/src (and in that module's file)
@@ -294,7 +295,9 @@ def main(paths):
     index = Index()
     whole = not paths
     if whole:
-        paths = [os.path.join(TOP, "README.md")] + sorted(glob.glob(os.path.join(TOP, "docs", "**", "*.md"), recursive=True))
+        paths = [os.path.join(TOP, "README.md")] + sorted(
+            set(glob.glob(os.path.join(TOP, "docs", "**", "*.md"), recursive=True)) - {os.path.join(TOP, "docs", "PORT.md")}
+        )
         paths += [os.path.join(TOP, folder, "README.md") for folder in ("examples", "bench", "bench/cases")]
     missing = []
     for path in paths:
