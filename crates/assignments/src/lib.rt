@@ -73,6 +73,7 @@ pub fn value_of(values: &[u8], span: Span) -> &[u8]
 }
 
 // Whether variable i is assigned a value.
+#[tactic(auto, using(crate::proofs::Entries::not_long, crate::proofs::Entries::not_past))]
 fn is_given(values: &[u8], entries: [Entry; VARIABLES], variable: usize) -> bool
     requires { variable < variables }
     ensures { Says result ((v : Term) × Given values.now entries variable v) }

@@ -85,6 +85,7 @@ fn copy_lines(
 
 // Writes the full listing, or refuses if it has no room. Where the search stops at no limit, its tables hold all that has room in those
 // lent.
+#[tactic(auto, using(crate::proofs::Searches::no_lines))]
 fn enumerate_long(
     pattern: &[u8],
     recipe: &[u8],

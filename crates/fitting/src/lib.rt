@@ -20,6 +20,7 @@ use reducts::PATTERN_BYTES;
 use sweeping::Length;
 
 // Whether the heads of the pattern and the recipe exclude a match.
+#[tactic(auto, using(crate::proofs::Heads::excluded))]
 pub fn heads_exclude(pattern: &[u8], recipe: &[u8]) -> bool
     requires { Pattern pattern.now × Recipe recipe.now }
     ensures { Excluded pattern.now recipe.now result }

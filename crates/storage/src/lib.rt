@@ -38,6 +38,7 @@ pub fn judge_buoy(buoy: usize) -> Verdict
 }
 
 // The directory, its length and its counts of records together: 8.
+#[tactic(auto, using(crate::proofs::Judges::counts_bad))]
 pub fn judge_directory(directory: &[u8]) -> Verdict
     ensures { Judged (directory_rows directory.now) (Directory directory.now) result }
 {

@@ -26,9 +26,9 @@ returns-then-bytes-gt-SWEPT_BYTES c = search (rules, redex_too_long)
 
 pub substitute_into-requires : goal.substitute_into-requires
 substitute_into-requires c =
-    redex_substitution _ _ c.requires.1 _ _ c.count_uses-uses.ensures _ c.requires.0 (omega (arith, c.if-bytes-gt-SWEPT_BYTES.false))
-    c.if-bytes-gt-SWEPT_BYTES.false
+    redex_substitution _ _ c.requires.1 _ _ c.count_uses-uses.ensures _ c.requires.0 (omega arith)
+    (omega arith)
 
 pub returns : goal.returns
 returns c =
-    redex_written _ _ c.requires.1 _ _ c.count_uses-uses.ensures _ _ _ _ c.if-bytes-gt-SWEPT_BYTES.false c.substitute_into.ensures
+    redex_written _ _ c.requires.1 _ _ c.count_uses-uses.ensures _ _ _ _ (omega arith) c.substitute_into.ensures
