@@ -4,7 +4,7 @@
     tests/names.py            from anywhere; status 1 if a name is nowhere, with a line `docs/X.md:LINE: NAME is nowhere` for each
     tests/names.py FILE..     the same for these documents only
 
-The documents are README.md, those of docs and docs/changes but for PORT.md, which has the old names beside the new ones, and README.md of
+The documents are README.md, those of docs and docs/changes but for PORT.md and DESIGN-PASS.md, which have old names beside new ones, and README.md of
 examples, bench and bench/cases. What is recognised, and where it has to be:
 
 in backquotes
@@ -296,7 +296,7 @@ def main(paths):
     whole = not paths
     if whole:
         paths = [os.path.join(TOP, "README.md")] + sorted(
-            set(glob.glob(os.path.join(TOP, "docs", "**", "*.md"), recursive=True)) - {os.path.join(TOP, "docs", "PORT.md")}
+            set(glob.glob(os.path.join(TOP, "docs", "**", "*.md"), recursive=True)) - {os.path.join(TOP, "docs", name) for name in ("PORT.md", "DESIGN-PASS.md")}
         )
         paths += [os.path.join(TOP, folder, "README.md") for folder in ("examples", "bench", "bench/cases")]
     missing = []

@@ -9,6 +9,7 @@ use native.Mathlib.Numerals.{add-one}
 use lib.ListN.{length, get_or}
 use lib.Seq.{sets}
 use borrow.Author.Tests.{lt-ltb, le-ltb}
+use Rattle.std.specs.declared.option.Option.TheVariants.{Some, None}
 use Rattle.terms.specs.Figures.{numbers, table_bytes}
 use Rattle.terms.specs.Term.{Term, app, lam, loc, con, var, size, shift}
 use Rattle.terms.specs.Table.{record_bytes, encode}
@@ -16,10 +17,7 @@ use Rattle.terms.proofs.Shift.{size_shift}
 use Rattle.terms.proofs.Table.{encode_length}
 use Rattle.terms.proofs.Substitute.{size_pos}
 use Rattle.matching.specs.Bodies.{copies, choose, body}
-use Rattle.matching.proofs.Bodies.{Leaf, copies_here, body_here, copies_app, body_app, copies_lam, body_lam}
-use Rattle.matching.proofs.Bodies.{copies_leaf, body_leaf}
-use Rattle.records.specs.declared.Walk.{Walk}
-use Rattle.records.specs.declared.Walk.TheVariants.{Upto, No}
+use Rattle.matching.proofs.Bodies.{Leaf, copies_here, body_here, copies_app, body_app, copies_lam, body_lam, copies_leaf, body_leaf}
 use Rattle.records.specs.Parts.{slice, Part, Whole, Ends}
 use Rattle.records.proofs.Parts.{whole, kind_at}
 use Rattle.records.proofs.Slices.{part_slice, whole_slice, slice_length, head_slice, body_slice}
@@ -47,15 +45,15 @@ pub record NoCopy (s : List ℕ) (d : ℕ) (e : List ℕ) : Type 0 where
   pub differs : (t y : Term) → Part s 0 t → Part e 0 y → ¬ (t ≡ shift d 0 y)
 
 module _ (s : List ℕ) (d : ℕ) (e : List ℕ) where
-  pub no_copy : (w : Walk) → w ≡ No → PartsCompared s e (Shifted d 0) w → NoCopy s d e
-  no_copy w i x = record { differs = λ t y u v. compared_no s e (Shifted d 0) w x t y u v i }
+  pub no_copy : PartsCompared s e (Shifted d 0) None → NoCopy s d e
+  no_copy x = record { differs = λ t y u v. compared_no s e (Shifted d 0) t y u v x }
 
   -- the count, part by part
-  pub counts_copy : (h : ℕ) (w : Walk) → w ≡ Upto h → PartsCompared s e (Shifted d 0) w → CopiesCounted s d e h 1
-  counts_copy h w i x = let n = compared_ends s e (Shifted d 0) h w i x in record {
+  pub counts_copy : (h : ℕ) → PartsCompared s e (Shifted d 0) (Some h) → CopiesCounted s d e h 1
+  counts_copy h x = let n = compared_ends s e (Shifted d 0) h x in record {
     ends = n;
     few = n.more;
-    exact = λ t y u v. sym (copies_here y d t (compared_yes s e (Shifted d 0) w x t y u v h i));
+    exact = λ t y u v. sym (copies_here y d t (compared_yes s e (Shifted d 0) t y u v h x));
   }
 
   pub counts_application : (h r n m : ℕ) → NoCopy s d e → get_or s 0 0 ≡ 0 → CopiesCounted (slice s 4) d e h n
@@ -136,11 +134,11 @@ module _ (s : List ℕ) (d : ℕ) (m : List ℕ) (k : ℕ) (out : List ℕ) (o :
 
 -- the bytes of a body, part by part
 module _ (s : List ℕ) (d : ℕ) (e m : List ℕ) (k : ℕ) (out : List ℕ) (o : ℕ) where
-  pub body_copy : (p : List ℕ) (h end : ℕ) (w : Walk) → w ≡ Upto h → PartsCompared s e (Shifted d 0) w → Whole s 0
-      → Chose s d m k out o p end → Body s d e m k out o p h end (k + 1)
-  body_copy p h end w i x a y =
-      let n = compared_ends s e (Shifted d 0) h w i x in
-      let c : (t b : Term) → Part s 0 t → Part e 0 b → t ≡ shift d 0 b = λ t b u v. compared_yes s e (Shifted d 0) w x t b u v h i in
+  pub body_copy : (p : List ℕ) (h end : ℕ) → PartsCompared s e (Shifted d 0) (Some h) → Whole s 0 → Chose s d m k out o p end
+      → Body s d e m k out o p h end (k + 1)
+  body_copy p h end x a y =
+      let n = compared_ends s e (Shifted d 0) h x in
+      let c : (t b : Term) → Part s 0 t → Part e 0 b → t ≡ shift d 0 b = λ t b u v. compared_yes s e (Shifted d 0) t b u v h x in
       let f : (t b : Term) → Part s 0 t → Part e 0 b → body b d t (chosen_in m) k ≡ choose (chosen_in m k) d t =
       λ t b u v. body_here b d t (chosen_in m) k (c t b u v) in
       record {

@@ -1,26 +1,26 @@
 -- The parts of a part: the j-th one stands 4 * j bytes on, and whether it is a copy of a term. By the term's kind, which its first record
 -- shows; the parts of a head come before those of the argument. Assumes nothing.
 use mathlib.Core.Path.{◌≡◌, refl, sym, ap, ap₂, ◌∙◌, subst}
-use mathlib.Core.Bool.{Bool, true, false}
+use mathlib.Core.Bool.{Bool, true, false, not}
+use lib.Dec.{T}
 use mathlib.Core.List.{List}
 use Prim.Native.Nat.{ℕ, zero, suc, ◌+◌, ◌-◌, ◌*◌, ◌≤◌, ◌<◌}
 use native.Mathlib.Omega.{arith}
 use native.Mathlib.Decide.{dec_lt}
 use lib.ListN.{length, get_or}
+use Rattle.std.specs.Prelude.{is_some}
+use Rattle.std.specs.declared.option.Option.{Option}
+use Rattle.std.specs.declared.option.Option.TheVariants.{Some, None}
 use Rattle.terms.specs.Figures.{table_bytes}
 use Rattle.terms.specs.Term.{Term, app, lam, loc, con, var, size}
 use Rattle.matching.specs.Occurrences.{part_at, Copy}
 use Rattle.matching.proofs.Occurrences.{part_at_head, part_at_argument, part_at_first}
-use Rattle.records.specs.declared.Walk.{Walk}
-use Rattle.records.specs.declared.Walk.TheVariants.{Upto, No}
 use Rattle.records.specs.Parts.{slice, Part, Whole}
 use Rattle.records.proofs.Parts.{whole, leaf_size, application_parts, abstraction_part}
 use Rattle.records.proofs.Slices.{part_slice, whole_slice, slice_length, head_slice, body_slice}
 use Rattle.shifting.specs.Tests.{PartsComparable, Shifted, PartsCompared}
 use Rattle.shifting.proofs.Slices.{ApplicationSlices, application_slices, abstraction_slices}
 use Rattle.shifting.proofs.Tests.{compared_yes, compared_no}
-use Rattle.abstractions.specs.declared.Look.{Look}
-use Rattle.abstractions.specs.declared.Look.TheVariants.{Left, Found}
 use Rattle.abstractions.specs.Occurrences.{Looks, CopyAt, NoneBefore, CopyBefore, Earlier}
 
 -- the j-th part of a term is the term itself, or a part of its own parts
@@ -83,22 +83,19 @@ argument_index d t f a i k e n = ap₂ (part_at d) e n ∙ part_at_argument d f 
 
 -- whether a part is a copy
 module _ (s e : List ℕ) (d : ℕ) where
-  pub copy_yes : (h : ℕ) (w : Walk) → w ≡ Upto h → PartsCompared s e (Shifted d 0) w → CopyAt s e d true
+  pub copy_says : (w : Option ℕ) → PartsCompared s e (Shifted d 0) w → CopyAt s e d (is_some w)
   unfolding CopyAt
-  copy_yes h w g q = λ x y p t. compared_yes s e (Shifted d 0) w q x y p t h g
-
-  pub copy_no : (w : Walk) → w ≡ No → PartsCompared s e (Shifted d 0) w → CopyAt s e d false
-  unfolding CopyAt
-  copy_no w g q = λ x y p t. compared_no s e (Shifted d 0) w q x y p t g
+  copy_says (Some h) q = λ x y p t. compared_yes s e (Shifted d 0) x y p t h q
+  copy_says None q = λ x y p t. compared_no s e (Shifted d 0) x y p t q
 
   pub copy_answer : (b r : Bool) → CopyAt s e d b → b ≡ r → CopyAt s e d r
   copy_answer b r x g = subst (CopyAt s e d) g x
 
 -- looking for a copy among the first parts
-none_before : (s : List ℕ) (goal : ℕ) (e : List ℕ) (d left : ℕ) (w : Look) → w ≡ Left left → CopyBefore s goal e d w
+none_before : (s : List ℕ) (goal : ℕ) (e : List ℕ) (d left : ℕ) (w : Option ℕ) → w ≡ Some left → CopyBefore s goal e d w
     → NoneBefore s goal e d left
 unfolding CopyBefore
-none_before s goal e d left w g q = let m : CopyBefore s goal e d (Left left) = subst (CopyBefore s goal e d) g q in m
+none_before s goal e d left w g q = let m : CopyBefore s goal e d (Some left) = subst (CopyBefore s goal e d) g q in m
 
 -- what looking for a copy needs of the parts
 module _ (s e : List ℕ) (d : ℕ) (x : Looks s e d) where
@@ -125,7 +122,7 @@ module _ (s e : List ℕ) (d : ℕ) (x : Looks s e d) where
   }
 
 -- where some parts are left behind a head, the others are the application's own and the head's: behind so many stands the argument
-module _ (s : List ℕ) (goal : ℕ) (e : List ℕ) (d left : ℕ) (w : Look) (z : get_or s 0 0 ≡ 0) (g : w ≡ Left left) (m : ¬ (left ≡ 0))
+module _ (s : List ℕ) (goal : ℕ) (e : List ℕ) (d left : ℕ) (w : Option ℕ) (z : get_or s 0 0 ≡ 0) (g : w ≡ Some left) (m : ¬ (left ≡ 0))
     (q : CopyBefore (slice s 4) (goal - 1) e d w) where
   passed_head : (x : Term) → (v : ApplicationSlices s x) → goal - left ≡ 1 + size v.f
   passed_head x v = omega (arith, (none_before (slice s 4) (goal - 1) e d left w g q).behind v.f v.head)
@@ -155,21 +152,21 @@ module _ (s : List ℕ) (goal : ℕ) (e : List ℕ) (d left : ℕ) (w : Look) (z
       }
 
 module _ (s : List ℕ) (goal : ℕ) (e : List ℕ) (d : ℕ) where
-  pub before_none : goal ≡ 0 → CopyBefore s goal e d (Left 0)
+  pub before_none : goal ≡ 0 → CopyBefore s goal e d (Some 0)
   unfolding CopyBefore
   before_none h = record { behind = λ x p. omega arith; none = λ x y p q i n m. absurd (omega arith) }
 
   module _ (some : ¬ (goal ≡ 0)) where
-    pub before_here : CopyAt s e d true → CopyBefore s goal e d Found
+    pub before_here : CopyAt s e d true → CopyBefore s goal e d None
     unfolding CopyBefore CopyAt
     before_here f = λ x y p q. (0, omega (arith, p.some), omega arith, index_first (λ i u. Copy u y) d x (f x y p q))
 
     module _ (f : CopyAt s e d false) where
-      module _ (w : Look) (z : get_or s 0 0 ≡ 0) (q : CopyBefore (slice s 4) (goal - 1) e d w) where
-        pub before_stop : w ≡ Found → CopyBefore s goal e d Found
+      module _ (w : Option ℕ) (z : get_or s 0 0 ≡ 0) (q : CopyBefore (slice s 4) (goal - 1) e d w) where
+        pub before_stop : w ≡ None → CopyBefore s goal e d None
         unfolding CopyBefore
         before_stop g = λ x y p t.
-            let m : CopyBefore (slice s 4) (goal - 1) e d Found = subst (CopyBefore (slice s 4) (goal - 1) e d) g q in
+            let m : CopyBefore (slice s 4) (goal - 1) e d None = subst (CopyBefore (slice s 4) (goal - 1) e d) g q in
             let v = application_slices s x p z in
             let (i, h, n, c) = m v.f y v.head t in (
               suc i,
@@ -192,11 +189,11 @@ module _ (s : List ℕ) (goal : ℕ) (e : List ℕ) (d : ℕ) where
             (k x y p t v) in
             subst (λ (u : Term). (j : ℕ) → j < size u → j < goal → ¬ Copy (part_at d u j) y) (sym v.is) g i n
 
-        module _ (left : ℕ) (g : w ≡ Left left) where
+        module _ (left : ℕ) (g : w ≡ Some left) where
           in_head : NoneBefore (slice s 4) (goal - 1) e d left
           in_head = none_before (slice s 4) (goal - 1) e d left w g q
 
-          pub before_cut : left ≡ 0 → CopyBefore s goal e d (Left 0)
+          pub before_cut : left ≡ 0 → CopyBefore s goal e d (Some 0)
           unfolding CopyBefore
           before_cut h = record {
             behind = λ x p.
@@ -205,9 +202,10 @@ module _ (s : List ℕ) (goal : ℕ) (e : List ℕ) (d : ℕ) where
             none = none_app left in_head (λ x y p t v i r n. absurd (omega (arith, in_head.behind v.f v.head)));
           }
 
-          pub before_argument : (r : Look) → ¬ (left ≡ 0) → CopyBefore (slice s (4 * (goal - left))) left e d r → CopyBefore s goal e d r
+          pub before_argument : (r : Option ℕ) → ¬ (left ≡ 0) → CopyBefore (slice s (4 * (goal - left))) left e d r
+              → CopyBefore s goal e d r
           unfolding CopyBefore
-          before_argument (Left j) h o = record {
+          before_argument (Some j) h o = record {
             behind = λ x p.
                 let v = application_slices s x p z in
                 let k = passed_head s goal e d left w z g h q x v in
@@ -216,7 +214,7 @@ module _ (s : List ℕ) (goal : ℕ) (e : List ℕ) (d : ℕ) where
                 let k = passed_head s goal e d left w z g h q x v in
                 o.none v.a y (behind_head s goal e d left w z g h q x v) t i r (omega arith));
           }
-          before_argument Found h o = λ x y p t.
+          before_argument None h o = λ x y p t.
               let v = application_slices s x p z in
               let k = passed_head s goal e d left w z g h q x v in
               let (i, r, n, c) = o v.a y (behind_head s goal e d left w z g h q x v) t in (
@@ -226,9 +224,9 @@ module _ (s : List ℕ) (goal : ℕ) (e : List ℕ) (d : ℕ) where
                 subst (λ (u : ℕ × Term). Copy u y) (sym (argument_index d x v.f v.a (suc (size v.f + i)) i v.is refl)) c,
               )
 
-      pub before_body : (r : Look) → get_or s 0 0 ≡ 1 → CopyBefore (slice s 4) (goal - 1) e (d + 1) r → CopyBefore s goal e d r
+      pub before_body : (r : Option ℕ) → get_or s 0 0 ≡ 1 → CopyBefore (slice s 4) (goal - 1) e (d + 1) r → CopyBefore s goal e d r
       unfolding CopyBefore CopyAt
-      before_body (Left left) z o = record {
+      before_body (Some left) z o = record {
         behind = λ x p. let v = abstraction_slices s x p z in omega (arith, ap size v.is, o.behind v.b v.body);
         none = λ x y p t i n.
             let v = abstraction_slices s x p z in
@@ -238,14 +236,14 @@ module _ (s : List ℕ) (goal : ℕ) (e : List ℕ) (d : ℕ) where
             (λ j r m. subst (λ (n : ℕ). ¬ Copy (part_at n v.b j) y) k (o.none v.b y v.body t j r (omega arith))) in
             subst (λ (u : Term). (j : ℕ) → j < size u → j < goal → ¬ Copy (part_at d u j) y) (sym v.is) g i n;
       }
-      before_body Found z o = λ x y p t.
+      before_body None z o = λ x y p t.
           let v = abstraction_slices s x p z in
           let k : d + 1 ≡ suc d = omega arith in
           let (i, r, n, c) = o v.b y v.body t in
           let q : Copy (part_at d (lam v.b) (suc i)) y = subst (λ (n : ℕ). Copy (part_at n v.b i) y) k c in
           (suc i, omega (arith, ap size v.is), omega arith, subst (λ (u : Term). Copy (part_at d u (suc i)) y) (sym v.is) q)
 
-      pub before_leaf : ¬ (get_or s 0 0 ≡ 0) → ¬ (get_or s 0 0 ≡ 1) → CopyBefore s goal e d (Left (goal - 1))
+      pub before_leaf : ¬ (get_or s 0 0 ≡ 0) → ¬ (get_or s 0 0 ≡ 1) → CopyBefore s goal e d (Some (goal - 1))
       unfolding CopyBefore CopyAt
       before_leaf n m = record {
         behind = λ x p. omega (arith, leaf_size s 0 x p n m);
@@ -254,16 +252,12 @@ module _ (s : List ℕ) (goal : ℕ) (e : List ℕ) (d : ℕ) where
 
 -- what looking among the first j parts gives
 module _ (s : List ℕ) (j : ℕ) (e : List ℕ) where
-  pub earlier_no : (left : ℕ) (w : Look) → w ≡ Left left → CopyBefore s j e 0 w → Earlier s j e false
-  unfolding Earlier
-  earlier_no left w g q = λ x y p t i r n. (none_before s j e 0 left w g q).none x y p t i n r
-
-  pub earlier_yes : (w : Look) → w ≡ Found → CopyBefore s j e 0 w → Earlier s j e true
+  pub earlier_says : (w : Option ℕ) (b : Bool) → is_some w ≡ not b → CopyBefore s j e 0 w → Earlier s j e b
   unfolding Earlier CopyBefore
-  earlier_yes w g q = λ x y p t.
-      let m : CopyBefore s j e 0 Found = subst (CopyBefore s j e 0) g q in
-      let (i, n, r, c) = m x y p t in
-      (i, r, n, c)
+  earlier_says (Some left) true g q = absurd (subst T g tt)
+  earlier_says (Some left) false g q = λ x y p t i r n. q.none x y p t i n r
+  earlier_says None true g q = λ x y p t. let (i, n, r, c) = q x y p t in (i, r, n, c)
+  earlier_says None false g q = absurd (subst T (sym g) tt)
 
 -- parts of tables, handed on as slices
 module _ (l m : List ℕ) (at e : ℕ) where

@@ -11,6 +11,8 @@
 --                                   of them
 --   CopyBefore s goal e d r         the same for r, or one is
 --   Earlier s j e r                 r says whether one of the first j parts of the part that s begins with is such a copy
+use Rattle.std.specs.declared.option.Option.{Option}
+use Rattle.std.specs.declared.option.Option.TheVariants.{Some, None}
 use Rattle.std.specs.Prelude.{◌≡◌, Bool, true, false, List, ◌⊎◌, ℕ, ◌+◌, ◌-◌, ◌≤◌, ◌<◌, length, get_or}
 use Rattle.terms.specs.Figures.{table_bytes}
 use Rattle.terms.specs.Term.{Term, size}
@@ -18,8 +20,6 @@ use Rattle.matching.specs.Occurrences.{part_at, Copy}
 use Rattle.records.specs.Parts.{Part, Whole, Ends}
 use Rattle.records.specs.Tests.{Says}
 use Rattle.shifting.specs.Tests.{Shifted}
-use Rattle.abstractions.specs.declared.Look.{Look}
-use Rattle.abstractions.specs.declared.Look.TheVariants.{Left, Found}
 
 abbrev pub DepthOf : List ℕ → ℕ → ℕ → ℕ → Type 0
 DepthOf l at j r = (t : Term) → Part l at t → j < size t → r ≡ (part_at 0 t j).0
@@ -51,9 +51,9 @@ pub record NoneBefore (s : List ℕ) (goal : ℕ) (e : List ℕ) (d left : ℕ) 
   pub behind : (x : Term) → Part s 0 x → left ≡ goal - size x
   pub none : (x y : Term) → Part s 0 x → Part e 0 y → (i : ℕ) → i < size x → i < goal → ¬ Copy (part_at d x i) y
 
-unfoldable pub CopyBefore : List ℕ → ℕ → List ℕ → ℕ → Look → Type 0
-CopyBefore s goal e d (Left left) = NoneBefore s goal e d left
-CopyBefore s goal e d Found = (x y : Term) → Part s 0 x → Part e 0 y → (i : ℕ) × (i < size x) × (i < goal) × Copy (part_at d x i) y
+unfoldable pub CopyBefore : List ℕ → ℕ → List ℕ → ℕ → Option ℕ → Type 0
+CopyBefore s goal e d (Some left) = NoneBefore s goal e d left
+CopyBefore s goal e d None = (x y : Term) → Part s 0 x → Part e 0 y → (i : ℕ) × (i < size x) × (i < goal) × Copy (part_at d x i) y
 
 unfoldable pub Earlier : List ℕ → ℕ → List ℕ → Bool → Type 0
 Earlier s j e true = (x y : Term) → Part s 0 x → Part e 0 y → (i : ℕ) × (i < j) × (i < size x) × Copy (part_at 0 x i) y

@@ -19,7 +19,7 @@ ghost use Rattle.substitution.specs.Writers.{Source};
 ghost use Rattle.abstractions.specs.Bodies.{Counting, CopiesCounted, BodySource, Chose, Body};
 ghost use Rattle.abstractions.specs.Occurrences.{DepthSource, WroteDepths, Looks, CopyAt, CopyBefore, Earlier};
 
-use records::{Kind, RECORD, Walk};
+use records::{Kind, RECORD};
 
 // How many bytes a part takes, and how many copies of a term it has.
 #[derive(Clone, Copy)]
@@ -34,8 +34,7 @@ pub fn copies(s: &[u8], d: usize, e: &[u8]) -> Counted
     requires { Counting s.now d e.now }
     ensures { CopiesCounted s.now d e.now result.length result.count }
 {
-    let walk = shifting::copy_length(s, e, d);
-    if let Walk::Upto(length) = walk {
+    if let Some(length) = shifting::copy_length(s, e, d) {
         return Counted { length, count: 1 };
     }
     let kind = s[0];
@@ -110,8 +109,7 @@ pub fn body_into(
     ensures { Body s.now d e.now chosen.now k out.old o out.new
         result.length result.end result.k }
 {
-    let copy = shifting::copy_length(s, e, d);
-    if let Walk::Upto(length) = copy {
+    if let Some(length) = shifting::copy_length(s, e, d) {
         let end = choice_into(s, d, chosen, k, out, o);
         return Built {
             length,
@@ -163,41 +161,26 @@ fn is_copy(s: &[u8], e: &[u8], d: usize) -> bool
     requires { Looks s.now e.now d }
     ensures { CopyAt s.now e.now d result }
 {
-    let walk = shifting::copy_length(s, e, d);
-    match walk {
-        Walk::Upto(_) => true,
-        Walk::No => false,
-    }
-}
-
-// What looking for a copy among the first parts comes to: there is none, and so many of them are left behind the part that was looked
-// through, or one is found.
-#[derive(Clone, Copy)]
-enum Look {
-    Left(usize),
-    Found,
+    shifting::copy_length(s, e, d).is_some()
 }
 
 // Looks for a copy of the part that e begins with among the first `goal` parts of the part that s begins with, above which d binders stand.
 // It stops at the first. Where some are left behind a head, the others are its records and the application's own.
-fn copy_before(s: &[u8], goal: usize, e: &[u8], d: usize) -> Look
+fn copy_before(s: &[u8], goal: usize, e: &[u8], d: usize) -> Option<usize>
     requires { Looks s.now e.now d }
     ensures { CopyBefore s.now goal e.now d result }
 {
     if goal == 0 {
-        return Look::Left(0);
+        return Some(0);
     }
     if is_copy(s, e, d) {
-        return Look::Found;
+        return None;
     }
     let k = s[0];
     if k == Kind::APPLICATION.code {
-        let head = copy_before(&s[RECORD..], goal - 1, e, d);
-        let Look::Left(left) = head else {
-            return Look::Found;
-        };
+        let left = copy_before(&s[RECORD..], goal - 1, e, d)?;
         if left == 0 {
-            return Look::Left(0);
+            return Some(0);
         }
         let next = RECORD * (goal - left);
         return copy_before(&s[next..], left, e, d);
@@ -205,7 +188,7 @@ fn copy_before(s: &[u8], goal: usize, e: &[u8], d: usize) -> Look
     if k == Kind::ABSTRACTION.code {
         return copy_before(&s[RECORD..], goal - 1, e, d + 1);
     }
-    Look::Left(goal - 1)
+    Some(goal - 1)
 }
 
 // Whether one of the first j parts of the part that s begins with is a copy of the part that e begins with.
@@ -213,9 +196,5 @@ pub fn occurs_before(s: &[u8], j: usize, e: &[u8]) -> bool
     requires { Looks s.now e.now 0 }
     ensures { Earlier s.now j e.now result }
 {
-    let look = copy_before(s, j, e, 0);
-    match look {
-        Look::Left(_) => false,
-        Look::Found => true,
-    }
+    copy_before(s, j, e, 0).is_none()
 }

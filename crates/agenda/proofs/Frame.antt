@@ -213,7 +213,8 @@ module _ (W X : List ℕ) (at : ℕ) (r : StoredGoal) (e : X ≡ sets W at (stor
       origin = omega (arith, byte 2 (at + 2) (omega arith) (omega arith), byte 3 (at + 2 + 1) (omega arith) (omega arith))
 
 -- and the list that it begins
-module _ (K : Goal → Type 0) (P X : List ℕ) (top at : ℕ) (r : StoredGoal) (x : StoredAt X at r) (low : 0 < at) (room : at + goal_bytes ≤ top)
+module _ (K : Goal → Type 0) (P X : List ℕ) (top at : ℕ) (r : StoredGoal) (x : StoredAt X at r) (low : 0 < at)
+    (room : at + goal_bytes ≤ top)
     (even : at % 4 ≡ 0) (falls : r.next < at) where
   pub chain_match :
       (p t : Term) (gs : List Goal) → r.argument ≡ 0 → K (match p t) → Part P r.part p

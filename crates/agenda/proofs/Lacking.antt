@@ -6,14 +6,16 @@ use mathlib.Core.List.{List}
 use Prim.Native.Nat.{ℕ, zero, suc, ◌*◌, ◌<◌, ◌≤◌}
 use native.Mathlib.Omega.{arith}
 use lib.ListN.{length, get_or, replicate, length-replicate}
+use Rattle.std.specs.Prelude.{is_some}
+use Rattle.std.specs.declared.option.Option.{Option}
+use Rattle.std.specs.declared.option.Option.TheVariants.{Some, None}
+use Rattle.std.specs.Bool.{MatchBool}
 use Rattle.terms.specs.Figures.{pattern_records, numbers}
 use Rattle.terms.specs.Term.{Term, size, uses, Closed}
 use Rattle.terms.proofs.Locals.{closed_more}
 use Rattle.records.specs.Parts.{slice, Part, Whole}
 use Rattle.records.specs.Tests.{Asks, Walked}
 use Rattle.records.specs.declared.Ask.TheVariants.{Other}
-use Rattle.records.specs.declared.Walk.{Walk}
-use Rattle.records.specs.declared.Walk.TheVariants.{Upto}
 use Rattle.records.proofs.Slices.{part_slice, whole_slice, slice_length}
 use Rattle.shifting.specs.Locals.{Marks, Marked}
 use Rattle.shifting.proofs.Locals.{marks_at, marking, mark_true, mark_false}
@@ -23,11 +25,10 @@ pub not_unused : (P : List ℕ) (k m : ℕ) → Unused P k m false
 unfolding Unused
 not_unused P k m = tt
 
-pub is_unused : (P : List ℕ) (k m n : ℕ) (w : Walk) → m ≡ 1 → Walked P 0 (Asks Other k) w → w ≡ Upto n → Unused P k m true
+pub is_unused : (P : List ℕ) (k m : ℕ) (w : Option ℕ) → m ≡ 1 → Walked P 0 (Asks Other k) w → Unused P k m (is_some w)
 unfolding Unused Walked
-is_unused P k m n w h x e =
-    let y : Walked P 0 (Asks Other k) (Upto n) = subst (Walked P 0 (Asks Other k)) e x in
-    (h, y.1)
+is_unused P k m (Some n) h x = (h, x.1)
+is_unused P k m None h x = tt
 
 get_or_zeros : (n j : ℕ) → ◌≡◌ {A = ℕ} (get_or (replicate n 0) j 0) 0
 get_or_zeros zero j = refl
@@ -47,16 +48,13 @@ module _ (W : List ℕ) (r : ℕ) (after : List ℕ) (x : Marked W 0 (replicate 
   pub unused_unmarked : ¬ (get_or after k 0 ≡ 1) → uses k t ≡ false
   unused_unmarked n = mark_false (uses k t) (λ e. n (mark ∙ e))
 
-pub lacks_none : (P W : List ℕ) → Lacks P W false
-unfolding Lacks
-lacks_none P W = tt
-
-pub lacks : (P W : List ℕ) (m : List ℕ) (k r : ℕ) (b : Bool) → k < pattern_records → Marked W 0 (replicate pattern_records 0) m r
-    → Unused P k (get_or m k 0) b → b ≡ true → Lacks P W true
+-- what a search for a local that is marked and unused comes to
+pub lacks : (P W : List ℕ) (m : List ℕ) (r : ℕ) (b : Bool) → Marked W 0 (replicate pattern_records 0) m r
+    → MatchBool b ((k : ℕ) × (k < pattern_records) × Unused P k (get_or m k 0) true) ((k : ℕ) → k < pattern_records → Unit {0})
+    → Lacks P W b
 unfolding Lacks Unused
-lacks P W m k r b h x u e =
-    let v : Unused P k (get_or m k 0) true = subst (Unused P k (get_or m k 0)) e u in
-    (k, λ p t y z. (v.1 p y, uses_marked W r m x k h t z v.0))
+lacks P W m r true x u = (u.0, λ p t y z. (u.2.1 p y, uses_marked W r m x u.0 u.1 t z u.2.0))
+lacks P W m r false x u = tt
 
 -- a mark for each loose local of a term that stands in a table
 pub all_marks_at : (W : List ℕ) (j n : ℕ) (t : Term) → Part W j t → n ≤ pattern_records → Closed n t → size t ≤ numbers

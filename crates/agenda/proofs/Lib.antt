@@ -3,3 +3,4 @@ pub mod Frame
 pub mod Targets
 pub mod Lacking
 pub mod Missing
+pub mod Ranges

@@ -6,6 +6,7 @@ use mathlib.Core.List.{List}
 use Prim.Native.Nat.{ℕ, ◌*◌, ◌<◌, ◌≤◌}
 use native.Mathlib.Omega.{arith}
 use lib.ListN.{length, get_or, replicate}
+use Rattle.std.specs.Bool.{MatchBool}
 use Rattle.terms.specs.Figures.{pattern_records}
 use Rattle.terms.specs.Term.{Term, uses}
 use Rattle.records.specs.Parts.{slice, Part, Whole}
@@ -23,18 +24,17 @@ pub missing_none : (P : List ℕ) (k m n : ℕ) → Missing P k m n false
 unfolding Missing
 missing_none P k m n = tt
 
-pub misses_none : (P W E : List ℕ) → Misses P W E false
-unfolding Misses
-misses_none P W E = tt
-
-pub misses_found :
-    (P W E : List ℕ) (k r q : ℕ) (after other : List ℕ) (b : Bool) → k < pattern_records
+-- what a search for a local that is missing comes to
+pub misses : (P W E : List ℕ) (r q : ℕ) (after other : List ℕ) (b : Bool)
     → Marked W 0 (replicate pattern_records 0) after r → Marked E 0 (replicate pattern_records 0) other q
-    → b ≡ true → Missing P k (get_or after k 0) (get_or other k 0) b → Misses P W E true
+    → MatchBool b ((k : ℕ) × (k < pattern_records) × Missing P k (get_or after k 0) (get_or other k 0) true)
+    ((k : ℕ) → k < pattern_records → Unit {0})
+    → Misses P W E b
 unfolding Missing Misses
-misses_found P W E k r q after other b h x y g m =
-    let z : Missing P k (get_or after k 0) (get_or other k 0) true = subst (Missing P k (get_or after k 0) (get_or other k 0)) g m in
-    (k, λ f t u d v w. (uses_marked W r after x k h t v z.0, z.2 f d, unused_unmarked E q other y k h u w z.1))
+misses P W E r q after other true x y m =
+    let z = m.2 in
+    (m.0, λ f t u d v w. (uses_marked W r after x m.0 m.1 t v z.0, z.2 f d, unused_unmarked E q other y m.0 m.1 u w z.1))
+misses P W E r q after other false x y m = tt
 
 -- parts of tables, handed on as slices
 module _ (P : List ℕ) (i : ℕ) (W : List ℕ) (j : ℕ) (E : List ℕ) (e : ℕ) where

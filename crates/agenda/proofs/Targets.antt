@@ -119,7 +119,8 @@ module _ (W Y Z : List ℕ) (top : ℕ) (t : Term) (e : Y ≡ sets W (top + heig
       record {
         kept = kept_then W Y Z top top (omega arith) (kept_sets (encode t) W Y (top + height_bytes) top e (omega arith) (omega arith))
             (kept_sets (heights t) Y Z (top + height_bytes - height_bytes) top g (omega arith) (omega (arith, written)));
-        part = part_behind (heights t) Y Z (top + height_bytes - height_bytes) (top + height_bytes) t g (omega (arith, heights_length t, few))
+        part = part_behind (heights t) Y Z (top + height_bytes - height_bytes) (top + height_bytes) t g
+            (omega (arith, heights_length t, few))
             (omega (arith, heights_length t, few, written)) stands;
         heights = record {
           low = omega arith;

@@ -3,6 +3,8 @@
 --   Move k P W s a Q W' s' a'    the next state's assignments are those of Q in the state before, which may lack k bytes
 --   Failed k P W s a Q W'        Q has no assignment
 --   Branched, Decided            what the answer of a step says
+use Rattle.std.specs.declared.option.Option.{Option}
+use Rattle.std.specs.declared.option.Option.TheVariants.{Some, None}
 use Rattle.std.specs.Prelude.{◌≡◌, ◌↔◌, List, ℕ, ◌+◌, ◌-◌, ◌*◌, ◌<◌, ◌≤◌, take}
 use Rattle.terms.specs.Figures.{table_bytes}
 use Rattle.terms.specs.Term.{Term}
@@ -11,7 +13,6 @@ use Rattle.matching.specs.Lists.{Values, Predicate}
 use Rattle.matching.specs.Goals.{Goal}
 use Rattle.assignments.specs.declared.Entry.{Entry}
 use Rattle.agenda.specs.declared.Agenda.{Agenda}
-use Rattle.agenda.specs.declared.Branch.{Branch}
 use Rattle.agenda.specs.declared.Decision.{Decision}
 use Rattle.agenda.specs.State.{State, Sat, Bounds, relinking}
 
@@ -41,9 +42,9 @@ pub record Failed (k : ℕ) (P W : List ℕ) (s : Agenda) (a : List Entry) (Q : 
   pub none : (gs hs : List Goal) (l : Line) → State k P W s a gs hs l → (φ : ℕ → Term) → Values φ → ¬ Q gs hs l φ
   pub kept : take s.top W' ≡ take s.top W
 
-unfoldable pub Branched : List ℕ → List ℕ → Agenda → List Entry → Question → List ℕ → Branch → Type 0
-Branched P W s a Q W' Branch.Failed = Failed relinking P W s a Q W'
-Branched P W s a Q W' (Branch.Next s') = Move relinking P W s a Q W' s' a
+unfoldable pub Branched : List ℕ → List ℕ → Agenda → List Entry → Question → List ℕ → Option Agenda → Type 0
+Branched P W s a Q W' None = Failed relinking P W s a Q W'
+Branched P W s a Q W' (Some s') = Move relinking P W s a Q W' s' a
 
 unfoldable pub Decided : ℕ → List ℕ → List ℕ → Agenda → List Entry → List ℕ → Decision → Type 0
 Decided k P W s a W' Decision.Failed = Failed k P W s a Sat W'

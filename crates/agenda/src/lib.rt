@@ -55,13 +55,6 @@ pub enum Step {
     Assign(Binding),
 }
 
-// What one alternative of a goal comes to.
-#[derive(Clone, Copy)]
-pub enum Branch {
-    Failed,
-    Next(Agenda),
-}
-
 // What is known of the swept form of a part while some variables are open: a term with holes that it fits, as so many bytes.
 #[derive(Clone, Copy)]
 pub struct Skeleton {

@@ -5,7 +5,7 @@ ghost use Rattle.terms.specs.Figures.{table_bytes};
 ghost use Rattle.records.specs.Parts.{Whole};
 ghost use Rattle.agenda.specs.Locals.{Unused, Locals, Lacks, Missing, ArgumentComparable, Misses};
 
-use records::{Ask, PATTERN_RECORDS, Walk};
+use records::{Ask, PATTERN_RECORDS};
 
 // Whether local k is marked, and the part of the pattern doesn't use it.
 fn is_unused(part: &[u8], k: usize, mark: u8) -> bool
@@ -15,11 +15,7 @@ fn is_unused(part: &[u8], k: usize, mark: u8) -> bool
     if mark != 1 {
         return false;
     }
-    let walk = records::ask_part(part, Ask::Other, k);
-    match walk {
-        Walk::Upto(_) => true,
-        Walk::No => false,
-    }
+    records::ask_part(part, Ask::Other, k).is_some()
 }
 
 // Whether the target has a loose local that the part of the pattern lacks, which no assignment can bring in.
@@ -29,14 +25,7 @@ pub fn lacks_local(part: &[u8], target: &[u8]) -> bool
 {
     let mut marks = [0u8; PATTERN_RECORDS];
     shifting::loose_locals(target, 0, &mut marks);
-    let mut k = 0;
-    while k < PATTERN_RECORDS {
-        if is_unused(part, k, marks[k]) {
-            return true;
-        }
-        k += 1;
-    }
-    false
+    (0..PATTERN_RECORDS).any(|k| is_unused(part, k, marks[k]))
 }
 
 // Whether local k is marked by `mark` and not by `other`, and the part of the pattern doesn't use it.
@@ -60,12 +49,5 @@ pub fn misses_local(part: &[u8], target: &[u8], argument: &[u8]) -> bool
     shifting::loose_locals(target, 0, &mut target_marks);
     let mut argument_marks = [0u8; PATTERN_RECORDS];
     shifting::loose_locals(argument, 0, &mut argument_marks);
-    let mut k = 0;
-    while k < PATTERN_RECORDS {
-        if is_missing(part, k, target_marks[k], argument_marks[k]) {
-            return true;
-        }
-        k += 1;
-    }
-    false
+    (0..PATTERN_RECORDS).any(|k| is_missing(part, k, target_marks[k], argument_marks[k]))
 }

@@ -8,6 +8,8 @@ use Prim.Native.Nat.{ℕ, ◌+◌, ◌-◌, ◌*◌, ◌/◌, ◌≤◌}
 use native.Mathlib.Omega.{arith}
 use lib.ListN.{length, get_or, take, drop, replicate, length-take}
 use lib.Seq.{sets}
+use Rattle.std.specs.declared.option.Option.{Option}
+use Rattle.std.specs.declared.option.Option.TheVariants.{Some, None}
 use Rattle.terms.specs.Figures.{variables, pattern_records, value_records, table_bytes}
 use Rattle.terms.specs.Term.{Term, app, size, shift, Closed}
 use Rattle.terms.specs.Table.{encode}
@@ -34,11 +36,10 @@ use Rattle.copying.proofs.Stores as Stores
 use Rattle.assignments.specs.declared.Entry.{Entry}
 use Rattle.shifting.proofs.Tests.{rigid_at}
 use Rattle.agenda.specs.declared.Agenda.{Agenda}
-use Rattle.agenda.specs.declared.Branch.{Branch}
 use Rattle.agenda.specs.declared.StoredGoal.{StoredGoal}
 use Rattle.agenda.specs.declared.Skeleton.{Skeleton}
 use Rattle.agenda.specs.declared.Ways.{Ways}
-use Rattle.agenda.specs.Stored.{stored_bytes, StoredAt, StoredFits}
+use Rattle.agenda.specs.Stored.{stored_bytes, StoredAt, StoredFits, stored_match}
 use Rattle.agenda.specs.State.{goal_bytes, target_bytes, HeightsBeside, Target, State, Bounds, Easy, Deferred, Chain, relinking}
 use Rattle.agenda.specs.Moves.{Move, Moved, Failed, Branched}
 use Rattle.abstractions.proofs.Depths.{depths_at, depth_written}
@@ -48,11 +49,9 @@ use Rattle.deciding.specs.Refuting.{SkeletonSource, PartSkeleton}
 use Rattle.builds.specs.Builds.{Pushes, StoredPushed, after_stored, target_end}
 use Rattle.builds.proofs.Pushing.{pushed_state, pushed_falls, pushed_bounds}
 use Rattle.arguments.specs.Applications.{ApplicationDeferred, WaysCounted}
-use Rattle.agenda.specs.Stored.{stored_match}
 use Rattle.agenda.specs.Locals.{Locals, Lacks}
 use Rattle.agenda.proofs.Lacking.{all_marks_at, locals_at, lacks_at}
-use Rattle.agenda.proofs.Frame.{Kept, target_kept, chain_kept, holds_kept, kept_sets, kept_then, length_stored}
-use Rattle.agenda.proofs.Frame.{goal_stored, chain_match}
+use Rattle.agenda.proofs.Frame.{Kept, target_kept, chain_kept, holds_kept, kept_sets, kept_then, length_stored, goal_stored, chain_match}
 use Rattle.agenda.proofs.Targets.{beside_head, beside_argument}
 use Rattle.deciding.proofs.Refutations.{line_values_lem, extended_values, source_at, skeleton_at}
 use Rattle.arguments.proofs.Applications.{argument_from, ApplicationSite, StoredBounds, MatchState, application_site, application_opened}
@@ -135,7 +134,7 @@ module _ (P W : List ℕ) (s : Agenda) (a : List Entry) (x : ApplicationDeferred
         alternative_no_parts φ f b t (λ q. k (kind_at W r.target t v.target.part ∙ q)) p.1.0)
 
 pub at_way :
-    (P W : List ℕ) (s : Agenda) (a : List Entry) (i j : ℕ) (X : List ℕ) (r : Branch) → i ≡ j → Branched P W s a (Way j) X r
+    (P W : List ℕ) (s : Agenda) (a : List Entry) (i j : ℕ) (X : List ℕ) (r : Option Agenda) → i ≡ j → Branched P W s a (Way j) X r
     → Branched P W s a (Way i) X r
 at_way P W s a i j X r e x = subst (λ (n : ℕ). Branched P W s a (Way n) X r) (sym e) x
 
@@ -278,7 +277,7 @@ way_parts_pushed P W s a r h e Y X i j x y eh ee p q first second =
 -- a head that lacks a local of the target is no abstraction over it
 pub constant_lacking : (P W : List ℕ) (s : Agenda) (a : List Entry) (w : Ways) → ApplicationDeferred P W s a → WaysCounted P W s a w
     → w.lacking ≡ true
-    → Branched P W s a (Way 1) W Branch.Failed
+    → Branched P W s a (Way 1) W None
 constant_lacking P W s a w x c e = branch_failed P W s a (Way 1) W (record {
   none = λ gs hs l z φ v. application_opened P W s a x gs l (λ us. HeadLacks us → ¬ Way 1 gs us l φ) (λ f b t us o k p.
       no_local φ v f (constant t) k.0 k.1 (constant_local k.0 t ∙ k.2) p.1.0) hs z (c.lacking_head e gs hs l z);
@@ -392,8 +391,8 @@ module _ (P W : List ℕ) (s : Agenda) (a : List Entry) (x : ApplicationDeferred
       pub constant_pushes : Pushes W s i c
       constant_pushes = subst (λ (k : StoredGoal). Pushes W s k c) (sym e) room
 
-      pub constant_pushed : (X : List ℕ) (s' : Agenda) → StoredPushed W s i c X s' → Branched P W s a (Way 1) X (Branch.Next s')
+      pub constant_pushed : (X : List ℕ) (s' : Agenda) → StoredPushed W s i c X s' → Branched P W s a (Way 1) X (Some s')
       constant_pushed X s' g =
           let p = subst (λ (k : StoredGoal). StoredPushed W s k c X s') e g in
-          subst (λ (o : Agenda). Branched P W s a (Way 1) X (Branch.Next o)) (sym p.agenda)
+          subst (λ (o : Agenda). Branched P W s a (Way 1) X (Some o)) (sym p.agenda)
           (branch_next P W s a (Way 1) X (after_stored s dropped (target_end s c)) (constant_move X s' p))

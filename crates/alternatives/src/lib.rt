@@ -16,7 +16,7 @@ ghost use Rattle.arguments.specs.Applications.{ApplicationDeferred, WaysCounted}
 ghost use Rattle.arguments.specs.Ways.{Way};
 ghost use Rattle.agenda.specs.Moves.{Branched};
 
-use agenda::{Agenda, Branch, GOAL, TARGET_BYTES, Ways};
+use agenda::{Agenda, GOAL, TARGET_BYTES, Ways};
 use assignments::Entry;
 use records::{Ask, Kind, PATTERN_RECORDS, RECORD, VALUE_RECORDS, VARIABLES};
 
@@ -49,14 +49,19 @@ pub fn ways(pattern: &[u8], work: &[u8], agenda: Agenda, entries: [Entry; VARIAB
 }
 
 // The target's own parts: its head is the head's target, and its argument the argument's.
-fn split(pattern: &[u8], work: &mut [u8], agenda: Agenda, entries: [Entry; VARIABLES]) -> Branch
+fn split(
+    pattern: &[u8],
+    work: &mut [u8],
+    agenda: Agenda,
+    entries: [Entry; VARIABLES],
+) -> Option<Agenda>
     requires { ApplicationDeferred pattern.now work.old agenda entries }
     ensures { Branched pattern.now work.old agenda entries (Way 0) work.new result }
 {
     let goal = agenda::goal_at(work, agenda.deferred);
     let target = goal.target;
     if work[target] != Kind::APPLICATION.code {
-        return Branch::Failed;
+        return None;
     }
     let argument = records::end_at(pattern, goal.part + RECORD);
     let end = records::end_at(work, target + RECORD);
@@ -70,7 +75,7 @@ fn split(pattern: &[u8], work: &mut [u8], agenda: Agenda, entries: [Entry; VARIA
         agenda.top + GOAL,
         agenda::match_goal(goal.part + RECORD, goal.origin, target + RECORD, agenda.top),
     );
-    Branch::Next(Agenda {
+    Some(Agenda {
         top: agenda.top + 2 * GOAL,
         easy: agenda.top + GOAL,
         deferred: goal.next,
@@ -85,12 +90,12 @@ fn constant_head(
     agenda: Agenda,
     entries: [Entry; VARIABLES],
     ways: Ways,
-) -> Branch
+) -> Option<Agenda>
     requires { ApplicationDeferred pattern.now work.old agenda entries × WaysCounted pattern.now work.old agenda entries ways }
     ensures { Branched pattern.now work.old agenda entries (Way 1) work.new result }
 {
     if ways.lacking {
-        return Branch::Failed;
+        return None;
     }
     let goal = agenda::goal_at(work, agenda.deferred);
     let mut b = [0u8; TARGET_BYTES];
@@ -98,7 +103,7 @@ fn constant_head(
     let moved = substitution::shift_into(&work[target..], 1, 0, &mut b, 0);
     let n = moved.end;
     let head = agenda::match_goal(goal.part + RECORD, goal.origin, goal.target, goal.next);
-    Branch::Next(builds::push_abstraction(work, agenda, head, &b[0..n]))
+    Some(builds::push_abstraction(work, agenda, head, &b[0..n]))
 }
 
 // The way with this number in which the first deferred goal, an application, comes to its target.
@@ -109,7 +114,7 @@ pub fn way(
     entries: [Entry; VARIABLES],
     number: usize,
     ways: Ways,
-) -> Branch
+) -> Option<Agenda>
     requires { ApplicationDeferred pattern.now work.old agenda entries × WaysCounted pattern.now work.old agenda entries ways
         × (number < ways.count) }
     ensures { Branched pattern.now work.old agenda entries (Way number) work.new result }

@@ -8,6 +8,7 @@ use Prim.Native.Nat.{ℕ, ◌+◌, ◌*◌, ◌%◌, ◌<◌, ◌≤◌}
 use native.Mathlib.Omega.{arith}
 use lib.ListN.{length, take}
 use lib.Seq.{sets}
+use Rattle.std.specs.declared.option.Option.TheVariants.{Some, None}
 use Rattle.terms.specs.Figures.{variables, table_bytes, words}
 use Rattle.terms.specs.Term.{Term, app, lam, loc, con, var, size}
 use Rattle.terms.specs.Listing.{Line}
@@ -20,15 +21,13 @@ use Rattle.records.proofs.Slices.{whole_slice}
 use Rattle.records.proofs.Parts.{application_parts, whole}
 use Rattle.assignments.specs.declared.Entry.{Entry}
 use Rattle.agenda.specs.declared.Agenda.{Agenda}
-use Rattle.agenda.specs.declared.Branch.{Branch}
 use Rattle.agenda.specs.declared.StoredGoal.{StoredGoal}
 use Rattle.agenda.specs.declared.Ways.{Ways}
-use Rattle.agenda.specs.Stored.{part_limit, stored_bytes, StoredAt, StoredFits}
+use Rattle.agenda.specs.Stored.{part_limit, stored_bytes, StoredAt, StoredFits, stored_match, stored_build}
 use Rattle.agenda.specs.State.{Target, State, relinking}
 use Rattle.agenda.specs.Moves.{Question, Move, Failed, Branched}
 use Rattle.arguments.specs.Ways.{Way}
 use Rattle.arguments.specs.Applications.{ApplicationDeferred, WaysCounted}
-use Rattle.agenda.specs.Stored.{stored_match, stored_build}
 
 pub argument_from : (l : List ℕ) (at h : ℕ) (f b : Term) → Ends l (at + 4) h → Part l at (app f b) → Part l h b
 argument_from l at h f b e x =
@@ -142,12 +141,12 @@ module _ (P W : List ℕ) (s : Agenda) (a : List Entry) where
 
 -- what a way answers
 pub branch_next : (P W : List ℕ) (s : Agenda) (a : List Entry) (Q : Question) (X : List ℕ) (s' : Agenda) → Move relinking P W s a Q X s' a
-    → Branched P W s a Q X (Branch.Next s')
+    → Branched P W s a Q X (Some s')
 unfolding Branched
 branch_next P W s a Q X s' x = x
 
 pub branch_failed : (P W : List ℕ) (s : Agenda) (a : List Entry) (Q : Question) (X : List ℕ) → Failed relinking P W s a Q X
-    → Branched P W s a Q X Branch.Failed
+    → Branched P W s a Q X None
 unfolding Branched
 branch_failed P W s a Q X x = x
 

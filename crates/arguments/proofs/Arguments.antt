@@ -11,6 +11,8 @@ use native.Mathlib.Omega.{arith}
 use lib.Dec.{T}
 use lib.ListN.{length, get_or, take, drop, length-take}
 use lib.Seq.{sets}
+use Rattle.std.specs.declared.option.Option.{Option}
+use Rattle.std.specs.declared.option.Option.TheVariants.{Some, None}
 use Rattle.terms.specs.Figures.{variables, pattern_records, value_records, table_bytes}
 use Rattle.terms.specs.Term.{Term, app, size, shift, unshift, uses}
 use Rattle.terms.specs.Table.{encode}
@@ -27,9 +29,7 @@ use Rattle.matching.proofs.Alternatives.{alternative_argument, listable_argument
 use Rattle.matching.proofs.Targets.{part_closed, part_normal, part_ground, part_size}
 use Rattle.records.specs.Parts.{slice, Part, Whole, Ends}
 use Rattle.records.specs.Tests.{Walked}
-use Rattle.records.specs.declared.Walk.{Walk}
-use Rattle.records.specs.declared.Walk.TheVariants.{Upto, No}
-use Rattle.records.proofs.Slices.{whole_slice, slice_upto, slice_no}
+use Rattle.records.proofs.Slices.{whole_slice, slice_walked}
 use Rattle.records.proofs.Parts.{part_one, application_parts, whole}
 use Rattle.substitution.specs.Writers.{Wrote}
 use Rattle.copying.proofs.Stores as Stores
@@ -41,13 +41,12 @@ use Rattle.shifting.proofs.Lowering.{lowers_at, lowered_wrote_at}
 use Rattle.abstractions.specs.Occurrences.{DepthOf, Looks, Earlier}
 use Rattle.abstractions.proofs.Occurrences.{part_at_lem, looks_at, earlier_yes_at, earlier_no_at}
 use Rattle.agenda.specs.declared.Agenda.{Agenda}
-use Rattle.agenda.specs.declared.Branch.{Branch}
 use Rattle.agenda.specs.declared.StoredGoal.{StoredGoal}
 use Rattle.agenda.specs.declared.Ways.{Ways}
 use Rattle.agenda.specs.Stored.{stored_bytes, StoredAt, StoredFits}
 use Rattle.agenda.specs.State.{goal_bytes, target_bytes, height_bytes, target_start, WrittenTarget, Target, State, Easy, Deferred, Chain}
 use Rattle.agenda.specs.State.{relinking}
-use Rattle.agenda.specs.Moves.{Move, Moved, Failed, Branched}
+use Rattle.agenda.specs.Moves.{Move, Moved, Branched}
 use Rattle.arguments.specs.Ways.{Way, Fitting}
 use Rattle.arguments.specs.Applications.{ApplicationDeferred, WaysCounted, argument_of, ArgumentPlace, Argument, Placed, ArgumentRoom}
 use Rattle.arguments.specs.Applications.{head_goal, argument_goal, ArgumentPushed}
@@ -95,11 +94,12 @@ module _ (W : List ℕ) (top at j : ℕ) where
         lowers_at W (at + 4 * j) 0 d 0 room (part_at 0 t j).1 q (omega (arith, n, x.few)) (omega (arith, n, x.few))
         (omega (arith, n, x.few, k t x.part m))
 
-    module _ (out after : List ℕ) (w : Walk) (y : Lowered (slice W (at + 4 * j)) 0 d out 0 after w) where
-      pub stuck : w ≡ No → Placed W top at j W No
+    module _ (out after : List ℕ) (w : Option ℕ) (y : Lowered (slice W (at + 4 * j)) 0 d out 0 after w) where
+      pub stuck : w ≡ None → Placed W top at j W None
       unfolding Placed Walked
       stuck c =
-          let n : Walked W (at + 4 * j) (Movable d 0) No = slice_no W (at + 4 * j) (Movable d 0) w c y.walked in (
+          let n : Walked W (at + 4 * j) (Movable d 0) None = slice_walked W (at + 4 * j) (Movable d 0) None
+          (subst (Walked (slice W (at + 4 * j)) 0 (Movable d 0)) c y.walked) in (
             refl,
             λ t u p f.
                 let m = number_within t p in
@@ -107,10 +107,11 @@ module _ (W : List ℕ) (top at j : ℕ) where
                 (subst (λ (i : ℕ). (part_at 0 t j).1 ≡ shift i 0 (unshift i 0 (part_at 0 t j).1)) (sym (k t p m)) (first_movable t j u f)),
           )
 
-      module _ (n : ℕ) (c : w ≡ Upto n) where
+      module _ (n : ℕ) (c : w ≡ Some n) where
         walked_upto : Ends W (at + 4 * j) (at + 4 * j + n) × ((t : Term) → Part W (at + 4 * j) t → Movable d 0 t)
         unfolding Walked
-        walked_upto = slice_upto W (at + 4 * j) (Movable d 0) n w c y.walked
+        walked_upto = slice_walked W (at + 4 * j) (Movable d 0) (Some n)
+            (subst (Walked (slice W (at + 4 * j)) 0 (Movable d 0)) c y.walked)
 
         leaves_upto : Wrote (unshift d) W (at + 4 * j) 0 out 0 after (at + 4 * j + n) (0 + n)
         leaves_upto = lowered_wrote_at W (at + 4 * j) 0 d 0 out after w y n c
@@ -162,7 +163,7 @@ module _ (W : List ℕ) (top at j : ℕ) where
                 (X : List ℕ)
                 → ((t : Term) → Y ≡ sets W (top + height_bytes) (encode t) → top + height_bytes + 4 * size t ≤ length W
                 → size t ≤ value_records → NewTarget W X top t)
-                → Placed W top at j X (Upto (top + height_bytes + n))
+                → Placed W top at j X (Some (top + height_bytes + n))
             unfolding Placed
             placed X f t p =
                 let z = f (argument_of x.tree j) written fits few in
@@ -176,12 +177,12 @@ module _ (W : List ℕ) (top at j : ℕ) where
                   same_length = z.same_length;
                 })
 
-pub placed_no : (W : List ℕ) (top at j : ℕ) (X : List ℕ) (w : Walk) → Placed W top at j X w → w ≡ No
+pub placed_no : (W : List ℕ) (top at j : ℕ) (X : List ℕ) (w : Option ℕ) → Placed W top at j X w → w ≡ None
     → (take top X ≡ take top W) × ((t e : Term) → Part W at t → ¬ FirstCopy t j e)
 unfolding Placed
 placed_no W top at j X w p c = subst (Placed W top at j X) c p
 
-placed_at : (W : List ℕ) (top at j : ℕ) (X : List ℕ) (w : Walk) (r : ℕ) → Placed W top at j X w → w ≡ Upto r → (t : Term) → Part W at t
+placed_at : (W : List ℕ) (top at j : ℕ) (X : List ℕ) (w : Option ℕ) (r : ℕ) → Placed W top at j X w → w ≡ Some r → (t : Term) → Part W at t
     → Argument W top t j X r
 unfolding Placed
 placed_at W top at j X w r p c = subst (Placed W top at j X) c p
@@ -229,7 +230,7 @@ module _ (P W : List ℕ) (s : Agenda) (a : List Entry) (x : ApplicationDeferred
 
     -- the argument has a rigid head, and the part has another one
     pub unlike : (e : Bool) → Agree (slice P w.argument) (slice W (r.target + 4 * j)) e → e ≡ false → w.rigid ≡ true
-        → Branched P W s a (Way (suc (suc j))) W Branch.Failed
+        → Branched P W s a (Way (suc (suc j))) W None
     unlike e q n k =
         let m = unlike_at P w.argument W (r.target + 4 * j) e n q in
         branch_failed P W s a (Way (suc (suc j))) W (way_failed P W s a x r y (suc (suc j)) W refl (λ f b t gs hs l φ v u o.
@@ -238,14 +239,14 @@ module _ (P W : List ℕ) (s : Agenda) (a : List Entry) (x : ApplicationDeferred
         m b (part_at 0 t j).1 i (part_at_lem W r.target 0 t j v.target.part d.within) (sym (c.rigid_argument b i) ∙ k) φ
         (part_at 0 t j).0 o.1.0.0 d.copy o.1.0.2))
 
-  pub no_argument : (X : List ℕ) (w : Walk) → Placed W s.top r.target j X w → w ≡ No
-      → Branched P W s a (Way (suc (suc j))) X Branch.Failed
+  pub no_argument : (X : List ℕ) (w : Option ℕ) → Placed W s.top r.target j X w → w ≡ None
+      → Branched P W s a (Way (suc (suc j))) X None
   no_argument X w p c =
       let n = placed_no W s.top r.target j X w p c in
       branch_failed P W s a (Way (suc (suc j))) X (way_failed P W s a x r y (suc (suc j)) X n.0 (λ f b t gs hs l φ v u o.
       n.1 t o.1.0.0 v.target.part o.1.0.1))
 
-  module _ (X : List ℕ) (end : ℕ) (walk : Walk) (placed : Placed W s.top r.target j X walk) (upto : walk ≡ Upto end) where
+  module _ (X : List ℕ) (end : ℕ) (walk : Option ℕ) (placed : Placed W s.top r.target j X walk) (upto : walk ≡ Some end) where
     pub record ArgumentStanding (f b t : Term) : Type 0 where
       pub found : Argument W s.top t j X end
       pub few : size (argument_of t j) ≤ size t
@@ -317,7 +318,7 @@ module _ (P W : List ℕ) (s : Agenda) (a : List Entry) (x : ApplicationDeferred
 
     -- an earlier part gives the same argument
     pub again : (b : Bool) → Earlier (slice X r.target) j (slice X (target_start s)) b → b ≡ true
-        → Branched P W s a (Way (suc (suc j))) X Branch.Failed
+        → Branched P W s a (Way (suc (suc j))) X None
     again k e c =
         branch_failed P W s a (Way (suc (suc j))) X (way_failed P W s a x r y (suc (suc j)) X ending.same (λ f b t gs hs l φ v u o.
         let n = standing f b t v in
@@ -343,7 +344,7 @@ module _ (P W : List ℕ) (s : Agenda) (a : List Entry) (x : ApplicationDeferred
     pub unfitting :
         (w : Ways) (c : WaysCounted P W s a w) (b : Bool)
         → MayBe (take (w.skeleton.length - 0) (drop 0 w.skeleton.bytes)) (slice X (target_start s)) b → b ≡ false
-        → Branched P W s a (Way (suc (suc j))) X Branch.Failed
+        → Branched P W s a (Way (suc (suc j))) X None
     unfitting w c b e i =
         let k = c.skeleton_table in
         let q = may_be_at (take (w.skeleton.length - 0) (drop 0 w.skeleton.bytes)) X (target_start s) b i e in
@@ -360,7 +361,7 @@ module _ (P W : List ℕ) (s : Agenda) (a : List Entry) (x : ApplicationDeferred
 
     -- the target has a local that nothing brings in
     pub lacking : (c : Bool) → Misses (slice P (r.part + 4)) (slice X r.target) (slice X (target_start s)) c → c ≡ true
-        → Branched P W s a (Way (suc (suc j))) X Branch.Failed
+        → Branched P W s a (Way (suc (suc j))) X None
     lacking c e i =
         let q = misses_at P (r.part + 4) X r.target X (target_start s) c i e in
         branch_failed P W s a (Way (suc (suc j))) X (way_failed P W s a x r y (suc (suc j)) X ending.same (λ f b t gs hs l φ v u o.
@@ -527,9 +528,9 @@ module _ (P W : List ℕ) (s : Agenda) (a : List Entry) (x : ApplicationDeferred
 
     pub argument_found : (h : ℕ) (e : Bool) (Z : List ℕ) (s' : Agenda) → Ends P (r.part + 4) h
         → Earlier (slice X r.target) j (slice X (target_start s)) e → e ≡ false → ArgumentPushed X s r h end Z s'
-        → Branched P W s a (Way (suc (suc j))) Z (Branch.Next s')
+        → Branched P W s a (Way (suc (suc j))) Z (Some s')
     argument_found h e Z s' eh b c d =
-        subst (λ (q : Agenda). Branched P W s a (Way (suc (suc j))) Z (Branch.Next q)) (sym d.agenda)
+        subst (λ (q : Agenda). Branched P W s a (Way (suc (suc j))) Z (Some q)) (sym d.agenda)
         (branch_next P W s a (Way (suc (suc j))) Z (record { top = end + 2 * goal_bytes; easy = end + goal_bytes; deferred = end })
         (argument_move h eh (subst (Earlier (slice X r.target) j (slice X (target_start s))) c b) _ Z refl d.stored))
 

@@ -11,6 +11,8 @@
 --   argument_goal s h              the goal that its argument, at byte h of the pattern, sweeps to that
 --   ArgumentRoom W s r h end       these two goals can be written from byte `end` on
 --   ArgumentPushed W s r h end X s'   they were
+use Rattle.std.specs.declared.option.Option.{Option}
+use Rattle.std.specs.declared.option.Option.TheVariants.{Some, None}
 use Rattle.std.specs.Prelude.{◌≡◌, true, List, ℕ, ◌+◌, ◌*◌, ◌<◌, ◌≤◌, length, take}
 use Rattle.std.proofs.lemmas.List.Edits.{sets}
 use Rattle.terms.specs.Figures.{pattern_records, value_records, table_bytes}
@@ -20,14 +22,13 @@ use Rattle.terms.specs.Heads.{rigid}
 use Rattle.matching.specs.Goals.{Goal}
 use Rattle.matching.specs.Occurrences.{part_at, Copy, FirstCopy}
 use Rattle.records.specs.Parts.{Part, Ends}
-use Rattle.records.specs.declared.Walk.{Walk}
-use Rattle.records.specs.declared.Walk.TheVariants.{Upto, No}
 use Rattle.assignments.specs.declared.Entry.{Entry}
 use Rattle.agenda.specs.declared.Agenda.{Agenda}
 use Rattle.agenda.specs.declared.StoredGoal.{StoredGoal}
 use Rattle.agenda.specs.declared.Ways.{Ways}
 use Rattle.agenda.specs.Stored.{stored_bytes, stored_match, stored_build, StoredFits}
-use Rattle.agenda.specs.State.{goal_bytes, IsMatch, target_bytes, height_bytes, HeightsBeside, State, Ready, pattern_at, relinking, target_start}
+use Rattle.agenda.specs.State.{goal_bytes, IsMatch, target_bytes, height_bytes, HeightsBeside}
+use Rattle.agenda.specs.State.{State, Ready, pattern_at, relinking, target_start}
 use Rattle.arguments.specs.Ways.{HasWays, HasDepths, HeadLacks, Fitting}
 use Rattle.deciding.specs.Refuting.{Prefix}
 
@@ -82,6 +83,6 @@ pub record ArgumentPushed (W : List ℕ) (s : Agenda) (r : StoredGoal) (h end : 
   pub stored : X ≡ sets (sets W end (stored_bytes (head_goal s r))) (end + goal_bytes) (stored_bytes (argument_goal s h))
   pub agenda : s' ≡ record { top = end + 2 * goal_bytes; easy = end + goal_bytes; deferred = end }
 
-unfoldable pub Placed : List ℕ → ℕ → ℕ → ℕ → List ℕ → Walk → Type 0
-Placed W top at j X (Upto r) = (t : Term) → Part W at t → Argument W top t j X r
-Placed W top at j X No = (take top X ≡ take top W) × ((t e : Term) → Part W at t → ¬ FirstCopy t j e)
+unfoldable pub Placed : List ℕ → ℕ → ℕ → ℕ → List ℕ → Option ℕ → Type 0
+Placed W top at j X (Some r) = (t : Term) → Part W at t → Argument W top t j X r
+Placed W top at j X None = (take top X ≡ take top W) × ((t e : Term) → Part W at t → ¬ FirstCopy t j e)

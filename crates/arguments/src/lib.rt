@@ -17,27 +17,24 @@ ghost use Rattle.arguments.specs.Applications.{ApplicationDeferred, WaysCounted,
 ghost use Rattle.arguments.specs.Ways.{Way};
 ghost use Rattle.agenda.specs.Moves.{Branched};
 
-use agenda::{Agenda, Branch, GOAL, HEIGHT_BYTES, StoredGoal, TARGET_BYTES, Ways};
+use agenda::{Agenda, GOAL, HEIGHT_BYTES, StoredGoal, TARGET_BYTES, Ways};
 use assignments::Entry;
-use records::{RECORD, VARIABLES, Walk};
+use records::{RECORD, VARIABLES};
 
 // Writes the j-th part of the term at byte `at`, moved out of the `depth` binders above it, as a target with its heights from byte `top`
-// on, and gives its end; or No where it uses one of those binders.
-fn place_argument(work: &mut [u8], top: usize, at: usize, j: usize, depth: usize) -> Walk
+// on, and gives its end, if it uses none of those binders.
+fn place_argument(work: &mut [u8], top: usize, at: usize, j: usize, depth: usize) -> Option<usize>
     requires { ArgumentPlace work.old top at j × DepthOf work.old at j depth }
     ensures { Placed work.old top at j work.new result }
 {
     let part = at + RECORD * j;
     let mut e = [0u8; TARGET_BYTES];
-    let moved = shifting::lower_into(&work[part..], 0, depth, &mut e, 0);
-    let Walk::Upto(n) = moved else {
-        return Walk::No;
-    };
+    let n = shifting::lower_into(&work[part..], 0, depth, &mut e, 0)?;
     let target = top + HEIGHT_BYTES;
     copying::copy_into(&e[0..n], work, target);
     let end = target + n;
     agenda::keep_heights(work, target, end);
-    Walk::Upto(end)
+    Some(end)
 }
 
 // Writes two goals from byte `end` on: that the goal's head builds its target from the target that was placed at the top, and that its
@@ -74,7 +71,7 @@ pub fn find_argument(
     entries: [Entry; VARIABLES],
     j: usize,
     ways: Ways,
-) -> Branch
+) -> Option<Agenda>
     requires { ApplicationDeferred pattern.now work.old agenda entries × WaysCounted pattern.now work.old agenda entries ways
         × (j + 2 < ways.count) }
     ensures { Branched pattern.now work.old agenda entries (Way (suc (suc j))) work.new result }
@@ -84,31 +81,28 @@ pub fn find_argument(
     let target = goal.target;
     if ways.rigid {
         if !agenda::heads::heads_agree(&pattern[argument..], &work[target + RECORD * j..]) {
-            return Branch::Failed;
+            return None;
         }
     }
     let depths = ways.depths;
     let depth = records::wide(depths[j]);
-    let placed = place_argument(work, agenda.top, target, j, depth);
-    let Walk::Upto(end) = placed else {
-        return Branch::Failed;
-    };
+    let end = place_argument(work, agenda.top, target, j, depth)?;
     let skeleton = ways.skeleton;
     let bytes = skeleton.bytes;
     let n = skeleton.length;
     let top = agenda.top;
     let found = top + HEIGHT_BYTES;
     if !skeletons::may_be(&bytes[0..n], &work[found..], &work[top..]) {
-        return Branch::Failed;
+        return None;
     }
     if abstractions::occurs_before(&work[target..], j, &work[found..]) {
-        return Branch::Failed;
+        return None;
     }
     let head = goal.part + RECORD;
     if ways.lacking {
         if agenda::locals::misses_local(&pattern[head..], &work[target..], &work[found..]) {
-            return Branch::Failed;
+            return None;
         }
     }
-    Branch::Next(push_argument(work, agenda, goal, argument, end))
+    Some(push_argument(work, agenda, goal, argument, end))
 }

@@ -5,11 +5,11 @@ use mathlib.Core.Bool.{Bool, true, false}
 use mathlib.Core.Option.{Option, none, some}
 use mathlib.Core.List.{List, [], ◌∷◌, ◌++◌, append_assoc}
 use mathlib.Core.Logic.{inl, inr, ⊎_elim}
-use Prim.Native.Nat.{ℕ, zero, suc, ◌+◌, ◌*◌, ◌≤◌, ◌<◌}
+use Prim.Native.Nat.{ℕ, ◌+◌, ◌*◌, ◌≤◌, ◌<◌}
 use native.Mathlib.Omega.{arith}
 use native.Mathlib.Nat.{div-add-mod'}
 use lib.ListN.{length, get_or, take, drop, length-append}
-use lib.Seq.{get_or-drop, drop-drop, drop_at, take_at, take_all}
+use lib.Seq.{get_or-drop, drop-drop, drop_at, take_at}
 use Rattle.terms.specs.Figures.{variables}
 use Rattle.terms.specs.Term.{Term, size}
 use Rattle.terms.specs.Table.{encode}
@@ -24,31 +24,33 @@ use Rattle.assignments.specs.declared.Entry.{Entry}
 use Rattle.assignments.specs.declared.Entry.TheVariants.{Open, Assigned}
 use Rattle.assignments.specs.Entries.{entry_at}
 use Rattle.assignments.proofs.Entries.{open_at, assigned_at, open_span, span_inj}
-use Rattle.arranging.specs.declared.Comparison.{Comparison}
-use Rattle.arranging.specs.declared.Comparison.TheVariants.{Earlier, Same, Later}
-use Rattle.arranging.specs.Order.{ComparesAs, open_against, Standing, LinesComparable, EntriesCompared, TwoLines}
-use Rattle.arranging.specs.Order.{Ordered}
+use Rattle.std.specs.declared.cmp.Ordering.{Ordering}
+use Rattle.std.specs.Ordering.{MatchOrdering, ordering_then, nat_cmp}
+use Rattle.std.specs.Cmp.Lexicographic.{slice_cmp}
+use Rattle.std.proofs.lemmas.Cmp.{ranked}
+use Rattle.arranging.specs.Order.{ComparesAs, open_against, Standing, LinesComparable, EntriesCompared, TwoLines, Ordered}
 use Rattle.listing.specs.Outcome.{Laid, Lines}
 use Rattle.listing.proofs.Writers.{line_bytes_length}
 
 -- the first byte that differs decides
-pub byte_less : (i : ℕ) (a b : List ℕ) → take i a ≡ take i b → i < length a → i < length b → get_or a i 0 < get_or b i 0 → Lexicographic ◌<◌ a b
-byte_less i [] b e h g k = absurd (omega arith)
-byte_less i (x ∷ a) [] e h g k = absurd (omega arith)
-byte_less zero (x ∷ a) (y ∷ b) e h g k = inl k
-byte_less (suc i) (x ∷ a) (y ∷ b) e h g k =
-    inr (ap (λ (l : List ℕ). get_or l 0 0) e, byte_less i a b (ap (drop 1) e) (omega arith) (omega arith) k)
+then_compared : (x y : ℕ) (a b : List ℕ) (r o : Ordering) → MatchOrdering r (x < y) (x ≡ y) (y < x) → ComparesAs (Lexicographic ◌<◌) a b o
+    → ComparesAs (Lexicographic ◌<◌) (x ∷ a) (y ∷ b) (ordering_then r o)
+unfolding ComparesAs
+then_compared x y a b Ordering.Less o m h = inl m
+then_compared x y a b Ordering.Equal Ordering.Less m h = inr (m, h)
+then_compared x y a b Ordering.Equal Ordering.Equal m h = ap₂ ◌∷◌ m h
+then_compared x y a b Ordering.Equal Ordering.Greater m h = inr (sym m, h)
+then_compared x y a b Ordering.Greater o m h = inl m
 
-pub shorter_less : (i : ℕ) (a b : List ℕ) → take i a ≡ take i b → length a ≤ i → i < length b → Lexicographic ◌<◌ a b
-shorter_less i [] [] e h g = absurd (omega arith)
-shorter_less i [] (y ∷ b) e h g = tt
-shorter_less i (x ∷ a) [] e h g = absurd (omega arith)
-shorter_less zero (x ∷ a) (y ∷ b) e h g = absurd (omega arith)
-shorter_less (suc i) (x ∷ a) (y ∷ b) e h g =
-    inr (ap (λ (l : List ℕ). get_or l 0 0) e, shorter_less i a b (ap (drop 1) e) (omega arith) (omega arith))
+compared : (a b : List ℕ) → ComparesAs (Lexicographic ◌<◌) a b (slice_cmp nat_cmp a b)
+unfolding ComparesAs
+compared [] [] = refl
+compared [] (y ∷ b) = tt
+compared (x ∷ a) [] = tt
+compared (x ∷ a) (y ∷ b) = then_compared x y a b (nat_cmp x y) (slice_cmp nat_cmp a b) (ranked x y _ refl) (compared a b)
 
-pub both_ended : (i : ℕ) (a b : List ℕ) → take i a ≡ take i b → length a ≤ i → length b ≤ i → a ≡ b
-both_ended i a b e h g = sym (take_all i a h) ∙ e ∙ take_all i b g
+pub bytes_compared : (a b : List ℕ) (c : Ordering) → c ≡ slice_cmp nat_cmp a b → ComparesAs (Lexicographic ◌<◌) a b c
+bytes_compared a b c e = subst (ComparesAs (Lexicographic ◌<◌) a b) (sym e) (compared a b)
 
 -- a 16-bit number that stands in a table
 module _ (l : List ℕ) (at n : ℕ) (rest : List ℕ) (e : drop at l ≡ word n rest) where
@@ -134,11 +136,11 @@ module _ (L : List ℕ) (i : ℕ) (X : List ℕ) where
 
 -- entries compared
 module _ (A B : List ℕ) (i : ℕ) (X : List ℕ) where
-  both_open : entry_at A i ≡ Open → entry_at B i ≡ Open → EntriesCompared A B i X Same
+  both_open : entry_at A i ≡ Open → entry_at B i ≡ Open → EntriesCompared A B i X Ordering.Equal
   unfolding ComparesAs
   both_open e f = record { exact = λ o q l m s t. not_assigned A i X o l s e ∙ sym (not_assigned B i X q m t f) }
 
-  open_earlier : (y : Span) → entry_at A i ≡ Open → entry_at B i ≡ Assigned y → EntriesCompared A B i X Earlier
+  open_earlier : (y : Span) → entry_at A i ≡ Open → entry_at B i ≡ Assigned y → EntriesCompared A B i X Ordering.Less
   unfolding ComparesAs
   open_earlier y e f = record {
     exact = λ o q l m s t.
@@ -146,11 +148,12 @@ module _ (A B : List ℕ) (i : ℕ) (X : List ℕ) where
         rw (not_assigned A i X o l s e, w.is) (before_open w.value);
   }
 
-  pub open_against_lem : (y : Entry) (c : Comparison) → entry_at A i ≡ Open → y ≡ entry_at B i → c ≡ open_against y → EntriesCompared A B i X c
+  pub open_against_lem : (y : Entry) (c : Ordering) → entry_at A i ≡ Open → y ≡ entry_at B i → c ≡ open_against y
+      → EntriesCompared A B i X c
   open_against_lem Open c e f k = rw k (both_open e (sym f))
   open_against_lem (Assigned y) c e f k = rw k (open_earlier y e (sym f))
 
-  pub open_later : (x : Span) → entry_at A i ≡ Assigned x → entry_at B i ≡ Open → EntriesCompared A B i X Later
+  pub open_later : (x : Span) → entry_at A i ≡ Assigned x → entry_at B i ≡ Open → EntriesCompared A B i X Ordering.Greater
   unfolding ComparesAs
   open_later x e f = record {
     exact = λ o q l m s t.
@@ -158,16 +161,16 @@ module _ (A B : List ℕ) (i : ℕ) (X : List ℕ) where
         rw (not_assigned B i X q m t f, v.is) (before_open v.value);
   }
 
-  order_values : (v w : Term) (c : Comparison) → ComparesAs (Lexicographic ◌<◌) (encode v) (encode w) c
+  order_values : (v w : Term) (c : Ordering) → ComparesAs (Lexicographic ◌<◌) (encode v) (encode w) c
       → ComparesAs Before (some v) (some w) c
   unfolding ComparesAs
-  order_values v w Earlier h = inr (refl, (order_bytes v w).1 h)
-  order_values v w Same h = ap some (encode_one v w h)
-  order_values v w Later h = inr (refl, (order_bytes w v).1 h)
+  order_values v w Ordering.Less h = inr (refl, (order_bytes v w).1 h)
+  order_values v w Ordering.Equal h = ap some (encode_one v w h)
+  order_values v w Ordering.Greater h = inr (refl, (order_bytes w v).1 h)
 
   pub by_values :
       (x y : Span) → entry_at A i ≡ Assigned x → entry_at B i ≡ Assigned y → (p q : List ℕ) → p ≡ take (4 * x.count) (drop (4 * x.first) X)
-      → q ≡ take (4 * y.count) (drop (4 * y.first) X) → (c : Comparison) → ComparesAs (Lexicographic ◌<◌) p q c
+      → q ≡ take (4 * y.count) (drop (4 * y.first) X) → (c : Ordering) → ComparesAs (Lexicographic ◌<◌) p q c
       → EntriesCompared A B i X c
   by_values x y e f p q g k c h = record {
     exact = λ o r l m s t.
@@ -201,16 +204,16 @@ module _ (A B : List ℕ) (i : ℕ) (X : List ℕ) where
     by_entries P f (o ∷ l) [] s t = absurd (omega (arith, t.entries))
     by_entries P f (o ∷ l) (q ∷ m) s t = f o q l m s t
 
-    line_earlier : (c : Comparison) → c ≡ Earlier → EntriesCompared A B i X c → LinesCompared A B i X true
+    line_earlier : (c : Ordering) → c ≡ Ordering.Less → EntriesCompared A B i X c → LinesCompared A B i X true
     unfolding ComparesAs
     line_earlier c e x =
-        let y : EntriesCompared A B i X Earlier = rw e at x in
+        let y : EntriesCompared A B i X Ordering.Less = rw e at x in
         record { exact = by_entries Less (λ o q l m s t. inl (y.exact o q l m s t)) }
 
-    line_later : (c : Comparison) → c ≡ Later → EntriesCompared A B i X c → LinesCompared A B i X false
+    line_later : (c : Ordering) → c ≡ Ordering.Greater → EntriesCompared A B i X c → LinesCompared A B i X false
     unfolding ComparesAs
     line_later c e x =
-        let y : EntriesCompared A B i X Later = rw e at x in
+        let y : EntriesCompared A B i X Ordering.Greater = rw e at x in
         record {
           exact = by_entries (λ l m. ¬ Less l m)
               (λ o q l m s t k. less_irrefl (o ∷ l) (less_trans (o ∷ l) (q ∷ m) (o ∷ l) k (inl (y.exact o q l m s t))));
@@ -220,10 +223,11 @@ module _ (A B : List ℕ) (i : ℕ) (X : List ℕ) where
     says_next o q l m true e k = inr (e, k)
     says_next o q l m false e k = ⊎_elim (λ (z : Before o q). less_irrefl (o ∷ []) (inl (subst (Before o) (sym e) z))) (λ z. k z.1)
 
-    line_next : (c : Comparison) (r : Bool) → c ≡ Same → EntriesCompared A B i X c → LinesCompared A B (i + 1) X r → LinesCompared A B i X r
+    line_next : (c : Ordering) (r : Bool) → c ≡ Ordering.Equal → EntriesCompared A B i X c → LinesCompared A B (i + 1) X r
+        → LinesCompared A B i X r
     unfolding ComparesAs
     line_next c r e x k =
-        let y : EntriesCompared A B i X Same = rw e at x in
+        let y : EntriesCompared A B i X Ordering.Equal = rw e at x in
         record {
           exact = by_entries (λ l m. Says r (Less l m))
               (λ o q l m s t. says_next o q l m r (y.exact o q l m s t)
@@ -297,14 +301,14 @@ module _ (A B X : List ℕ) where
     pub undecided_end : variables ≤ i → Ordered A B X false
     undecided_end h = x.decides false (no_entries A B i X (omega (arith, x.comparable.most)))
 
-    module _ (h : i < variables) (c : Comparison) (y : EntriesCompared A B i X c) where
-      pub decided_earlier : c ≡ Earlier → Ordered A B X true
+    module _ (h : i < variables) (c : Ordering) (y : EntriesCompared A B i X c) where
+      pub decided_earlier : c ≡ Ordering.Less → Ordered A B X true
       decided_earlier e = x.decides true (line_earlier A B i X h c e y)
 
-      pub decided_later : c ≡ Later → Ordered A B X false
+      pub decided_later : c ≡ Ordering.Greater → Ordered A B X false
       decided_later e = x.decides false (line_later A B i X h c e y)
 
-      pub undecided_next : c ≡ Same → Undecided (i + 1)
+      pub undecided_next : c ≡ Ordering.Equal → Undecided (i + 1)
       undecided_next e = record {
         comparable = comparable_next A B i X h x.comparable;
         decides = λ r z. x.decides r (line_next A B i X h c r e y z);

@@ -33,21 +33,20 @@ use Rattle.terms.specs.Members.{Distinct}
 use Rattle.records.specs.Tests.{Says}
 use Rattle.assignments.specs.declared.Entry.{Entry}
 use Rattle.assignments.specs.declared.Entry.TheVariants.{Open, Assigned}
-use Rattle.arranging.specs.declared.Comparison.{Comparison}
-use Rattle.arranging.specs.declared.Comparison.TheVariants.{Earlier, Same, Later}
+use Rattle.std.specs.declared.cmp.Ordering.{Ordering}
 use Rattle.listing.specs.Outcome.{Laid, Lines}
 use Rattle.arranging.specs.Arranged.{Sorted}
 
 module _ {A : Type 0} (R : A → A → Type 0) where
-  unfoldable pub ComparesAs : A → A → Comparison → Type 0
-  ComparesAs x y Earlier = R x y
-  ComparesAs x y Same = x ≡ y
-  ComparesAs x y Later = R y x
+  unfoldable pub ComparesAs : A → A → Ordering → Type 0
+  ComparesAs x y Ordering.Less = R x y
+  ComparesAs x y Ordering.Equal = x ≡ y
+  ComparesAs x y Ordering.Greater = R y x
 
 -- "Open comes before assigned."
-abbrev pub open_against : Entry → Comparison
-open_against Open = Same
-open_against (Assigned x) = Earlier
+abbrev pub open_against : Entry → Ordering
+open_against Open = Ordering.Equal
+open_against (Assigned x) = Ordering.Less
 
 pub record Standing (L : List ℕ) (i : ℕ) (X : List ℕ) (l : Line) : Type 0 where
   pub entries : i + length l ≡ variables
@@ -69,7 +68,7 @@ pub record LinesComparable (A B : List ℕ) (i : ℕ) (X : List ℕ) : Type 0 wh
   pub left_whole : 4 * variables ≤ length A
   pub right_whole : 4 * variables ≤ length B
 
-pub record EntriesCompared (A B : List ℕ) (i : ℕ) (X : List ℕ) (c : Comparison) : Type 0 where
+pub record EntriesCompared (A B : List ℕ) (i : ℕ) (X : List ℕ) (c : Ordering) : Type 0 where
   pub exact : (o q : Option Term) (l m : Line) → Standing A i X (o ∷ l) → Standing B i X (q ∷ m) → ComparesAs Before o q c
 
 pub record TwoLines (A B X : List ℕ) : Type 0 where

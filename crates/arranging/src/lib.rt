@@ -8,59 +8,28 @@
 
 ghost use Rattle.std.specs.Prelude.{◌≡◌, ◌+◌, ◌<◌, length, take, drop};
 ghost use Rattle.terms.specs.Figures.{variables};
-ghost use Rattle.terms.specs.Listing.{Lexicographic};
 ghost use Rattle.arranging.specs.Arranged.{Arranges, Arranged};
-ghost use Rattle.arranging.specs.Order.{ComparesAs, open_against, LinesComparable, EntriesCompared, TwoLines, Ordered, Merging};
+ghost use Rattle.arranging.specs.Order.{open_against, LinesComparable, EntriesCompared, TwoLines, Ordered, Merging};
 ghost use Rattle.arranging.specs.Order.{NextChosen};
 ghost use Rattle.arranging.specs.Order.{MergesLine, MergedLine, Merges, Merged, Halves, Sorts, InOrder};
 ghost use Rattle.arranging.specs.Laying.{LayLine, LaidLine, LayLines, LaidLines, LayOut, LaidOut};
 
 use assignments::Entry;
 use records::{LINE, RECORD, VARIABLES};
-
-// How one thing stands to another in an order.
-#[derive(Clone, Copy)]
-enum Comparison {
-    Earlier,
-    Same,
-    Later,
-}
-
-// Compares two tables: the first byte that differs decides, and a table comes before each longer one that begins with it.
-fn compare(a: &[u8], b: &[u8]) -> Comparison
-    ensures { ComparesAs (Lexicographic ◌<◌) a.now b.now result }
-{
-    let mut i = 0;
-    while i < a.len() {
-        if b.len() <= i {
-            return Comparison::Later;
-        }
-        if a[i] < b[i] {
-            return Comparison::Earlier;
-        }
-        if b[i] < a[i] {
-            return Comparison::Later;
-        }
-        i += 1;
-    }
-    if i < b.len() {
-        return Comparison::Earlier;
-    }
-    Comparison::Same
-}
+use std::cmp::Ordering;
 
 // How an open entry stands to another: open comes before assigned.
-fn compare_open(other: Entry) -> Comparison
+fn compare_open(other: Entry) -> Ordering
     ensures { result ≡ open_against other }
 {
     match other {
-        Entry::Open => Comparison::Same,
-        Entry::Assigned(_) => Comparison::Earlier,
+        Entry::Open => Ordering::Equal,
+        Entry::Assigned(_) => Ordering::Less,
     }
 }
 
 // Compares the entries that two lines have for a variable: open comes before assigned, and values go by their bytes.
-fn compare_entries(a: &[u8], b: &[u8], variable: usize, values: &[u8]) -> Comparison
+fn compare_entries(a: &[u8], b: &[u8], variable: usize, values: &[u8]) -> Ordering
     requires { LinesComparable a.now b.now variable values.now × (variable < variables) }
     ensures { EntriesCompared a.now b.now variable values.now result }
 {
@@ -70,12 +39,9 @@ fn compare_entries(a: &[u8], b: &[u8], variable: usize, values: &[u8]) -> Compar
         return compare_open(y);
     };
     let Entry::Assigned(w) = y else {
-        return Comparison::Later;
+        return Ordering::Greater;
     };
-    compare(
-        assignments::value_of(values, v),
-        assignments::value_of(values, w),
-    )
+    assignments::value_of(values, v).cmp(assignments::value_of(values, w))
 }
 
 // Whether the line that a begins with comes before the one that b begins with: the first entry that differs decides.
@@ -83,19 +49,11 @@ fn before(a: &[u8], b: &[u8], values: &[u8]) -> bool
     requires { TwoLines a.now b.now values.now }
     ensures { Ordered a.now b.now values.now result }
 {
-    let mut variable = 0;
-    while variable < VARIABLES {
-        let order = compare_entries(a, b, variable, values);
-        match order {
-            Comparison::Earlier => {
-                return true;
-            }
-            Comparison::Later => {
-                return false;
-            }
-            Comparison::Same => {
-                variable += 1;
-            }
+    for variable in 0..VARIABLES {
+        match compare_entries(a, b, variable, values) {
+            Ordering::Less => return true,
+            Ordering::Greater => return false,
+            Ordering::Equal => {}
         }
     }
     false
@@ -152,6 +110,7 @@ fn merge(a: &[u8], b: &[u8], values: &[u8], out: &mut [u8])
     let n = a.len() + b.len();
     let mut i = 0;
     let mut j = 0;
+    // No `for`: a count of the lines would serve nothing in the loop, since which of the two places moves on is what `merge_line` answers.
     while i + j < n {
         let next = merge_line(a, i, b, j, values, out);
         i = next.left;
@@ -203,10 +162,8 @@ fn lay_lines(source: &[u8], lines: &mut [u8], count: usize, values: &mut [u8])
         values.new }
 {
     let mut first = 0;
-    let mut i = 0;
-    while i < count {
+    for i in 0..count {
         first = lay_line(source, lines, LINE * i, values, first);
-        i += 1;
     }
 }
 

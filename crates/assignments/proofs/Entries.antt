@@ -10,8 +10,7 @@ use native.Mathlib.Nat.{eq-or-lt_of_le}
 use native.Mathlib.Decide.{ℕ_discrete, dec_lt}
 use borrow.Author.Tests.{eq-eqb, ne_eqb}
 use lib.Dec.{eqb}
-use lib.ListN.{length, get_or, set, take, drop, length-take}
-use lib.Seq.{get_or-set_same, get_or-set_other}
+use lib.ListN.{length, get_or, take, drop, length-take}
 use Rattle.terms.specs.Figures.{variables, value_records}
 use Rattle.terms.specs.Term.{Term, app, lam, loc, con, var, size, Occurs}
 use Rattle.terms.specs.Table.{encode}
@@ -37,11 +36,6 @@ pub assigned_at : (l : List ℕ) (i c f : ℕ) → c ≡ word_at l (4 * i + 2) �
     → Assigned (record { first = f; count = c }) ≡ entry_at l i
 unfolding entry_at
 assigned_at l i c f e z g = simp (ne_eqb _ _ (λ (h : word_at l (4 * i + 2) ≡ 0). z (e ∙ h)), ← e, ← g)
-
-pub read_more : (l : List ℕ) (a : List Entry) (i : ℕ) (x : Entry) → i < length a → x ≡ entry_at l i → Read l a i → Read l (set a i x) (i + 1)
-read_more l a i x h e r k lt =
-    ⊎_elim (λ (q : k ≡ i). rw q (get_or-set_same a i x Open h ∙ e)) (λ (q : k < i). get_or-set_other a i k x Open (omega arith) ∙ r k q)
-    (eq-or-lt_of_le (omega arith))
 
 pub open_span : {x : Span} → Open ≡ Assigned x → ⊥
 open_span e = let z : ◌≡◌ {A = ℕ} 0 1 = cc in omega arith
@@ -132,14 +126,6 @@ module _ (l s : List ℕ) (a : List Entry) (r : Read l a variables) (i : ℕ) (h
 pub variable_here : (l : List ℕ) (at i n : ℕ) → get_or l at 0 ≡ 4 → n ≡ number_at l at → Says (eqb n i) (VariableAt l at i)
 variable_here l at i n k e =
     by_eqb (λ b. Says b (VariableAt l at i)) n i (λ p. record { kind = k; number = sym e ∙ p }) (λ p v. p (e ∙ v.number))
-
--- passes over the records and over the variables
-module _ (l : List ℕ) (i : ℕ) where
-  pub mentions_none : (n k : ℕ) → n ≡ length l / 4 → n ≤ k → ((j : ℕ) → j < k → ¬ VariableAt l (4 * j) i) → ¬ Mentions l i
-  mentions_none n k e h none m = none m.index (omega (arith, m.within)) m.is
-
-  pub mentions_here : (k : ℕ) → k < length l / 4 → VariableAt l (4 * k) i → Mentions l i
-  mentions_here k h v = record { index = k; within = omega arith; is = v }
 
 -- a variable has no value, or has one where it is mentioned
 module _ (l s : List ℕ) (a : List Entry) where

@@ -52,14 +52,7 @@ pub fn entries_of(line: &[u8]) -> [Entry; VARIABLES]
     requires { length line.now ≡ 4 * variables }
     ensures { Read line.now result variables }
 {
-    let mut a = [Entry::Open; VARIABLES];
-    let mut i = 0;
-    while i < VARIABLES {
-        let e = entry_at(line, i);
-        a[i] = e;
-        i += 1;
-    }
-    a
+    std::array::from_fn(|variable| entry_at(line, variable))
 }
 
 // The records of a span.
@@ -110,13 +103,10 @@ fn is_variable(s: &[u8], at: usize, variable: usize) -> bool
 fn mentions(s: &[u8], variable: usize) -> bool
     ensures { Says result (Mentions s.now variable) }
 {
-    let n = s.len() / RECORD;
-    let mut k = 0;
-    while k < n {
+    for k in 0..s.len() / RECORD {
         if is_variable(s, RECORD * k, variable) {
             return true;
         }
-        k += 1;
     }
     false
 }
@@ -136,12 +126,10 @@ fn lacks(s: &[u8], values: &[u8], entries: [Entry; VARIABLES], variable: usize) 
 pub fn all_given(s: &[u8], values: &[u8], entries: [Entry; VARIABLES]) -> bool
     ensures { AllGiven s.now values.now entries result }
 {
-    let mut i = 0;
-    while i < VARIABLES {
+    for i in 0..VARIABLES {
         if lacks(s, values, entries, i) {
             return false;
         }
-        i += 1;
     }
     true
 }

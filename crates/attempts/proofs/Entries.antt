@@ -20,7 +20,8 @@ module _ (l : List ℕ) (at n : ℕ) (h : at + 2 ≤ length l) where
   pub word_same : n < words → word_at (sets l at (word n [])) at ≡ n
   word_same f =
       let a : get_or (set (set l at (n / 256)) (suc at) (n % 256)) at 0 ≡ n / 256 =
-      get_or-set_other (set l at (n / 256)) (suc at) at (n % 256) 0 (λ e. omega (arith, e)) ∙ get_or-set_same l at (n / 256) 0 (omega arith) in
+      get_or-set_other (set l at (n / 256)) (suc at) at (n % 256) 0 (λ e. omega (arith, e))
+      ∙ get_or-set_same l at (n / 256) 0 (omega arith) in
       let s : at + 1 ≡ suc at = omega arith in
       let b : get_or (set (set l at (n / 256)) (suc at) (n % 256)) (at + 1) 0 ≡ n % 256 =
       ap (λ (k : ℕ). get_or (set (set l at (n / 256)) (suc at) (n % 256)) k 0) s

@@ -8,6 +8,11 @@ use Prim.Native.Nat.{ℕ, ◌*◌, ◌-◌, ◌/◌, ◌<◌}
 use native.Mathlib.Omega.{arith}
 use lib.ListN.{length, take, drop, length-take}
 use lib.Seq.{sets}
+use Rattle.std.specs.declared.option.Option.{Option}
+use Rattle.std.specs.declared.option.Option.TheVariants.{None}
+use Rattle.std.specs.Prelude.{⊤, is_ok}
+use Rattle.std.specs.declared.result.Result.{Result}
+use Rattle.std.specs.declared.result.Result.TheVariants.{Ok, Err}
 use Rattle.terms.specs.Figures.{variables}
 use Rattle.terms.specs.Term.{Term, size, Normal}
 use Rattle.terms.specs.Table.{record_bytes, encode}
@@ -20,12 +25,9 @@ use Rattle.terms.proofs.Table.{encode_one}
 use Rattle.records.specs.Tests.{Says}
 use Rattle.records.specs.Checks.{Pattern}
 use Rattle.refusals.specs.declared.Refusal.{Refusal}
-use Rattle.refusals.specs.declared.Verdict.{Verdict}
 use Rattle.refusals.specs.Judged.{number, Judged, FilledTables}
-use Rattle.enumeration.specs.declared.ListAnswer.{ListAnswer}
 use Rattle.enumeration.specs.Written.{lent_lines, lent_records, ListingOf, WrittenLines, Enumerated}
 use Rattle.fitting.specs.Steps.{Excluded}
-use Rattle.attempts.specs.declared.PairAnswer.{PairAnswer}
 use Rattle.attempts.specs.Pairs.{full_lines, full_records, ListedPair, line_zero, Usable, filling, next, stop, PairRewritten, Tried}
 use Rattle.attempts.specs.Steps.{PairAnswers, PairAnswered, FilledOpen, SidesFilled, SidesRewritten, ListingTables}
 use Rattle.attempts.specs.Steps.{UsableTold, LineUsed, PairTables}
@@ -45,18 +47,19 @@ module _ (p q : List ℕ) (t : Term) (n : ℕ) (lines values : List ℕ) (x : Li
     full = x.full;
   }
 
-  passed_over : ¬ Usable x.right.tree x.ls → (f : List ℕ) → PairAnswered (Tried p q t) PairAnswer.PassedOver f
+  passed_over : ¬ Usable x.right.tree x.ls → (f : List ℕ) → PairAnswered (Tried p q t) (Ok None) f
   unfolding PairAnswers
   passed_over h f = record { outcome = next; holds = (listed, inr (x.room, inl (h, refl))); answers = refl }
 
   pub passed_unusable : (b : Bool) → UsableTold q n lines values b → b ≡ false → (f : List ℕ)
-      → PairAnswered (Tried p q t) PairAnswer.PassedOver f
+      → PairAnswered (Tried p q t) (Ok None) f
   passed_unusable b u e f = passed_over (subst (λ (c : Bool). Says c (Usable x.right.tree x.ls)) e (u p t x)) f
 
   pub usable_some : (b : Bool) → UsableTold q n lines values b → b ≡ true → 0 < n
   usable_some b u e = omega (arith, (subst (λ (c : Bool). Says c (Usable x.right.tree x.ls)) e (u p t x)).0, x.count)
 
-  pub used_listing : (b : Bool) → UsableTold q n lines values b → b ≡ true → (a : PairAnswer) (f : List ℕ) → LineUsed p q n lines values a f
+  pub used_listing : (b : Bool) → UsableTold q n lines values b → b ≡ true → (a : Result (Option ℕ) Refusal) (f : List ℕ)
+      → LineUsed p q n lines values a f
       → PairAnswered (Tried p q t) a f
   used_listing b u e a f w =
       let y = w t x in
@@ -93,7 +96,7 @@ module _ (p q : List ℕ) (t : Term) (n : ℕ) (lines values : List ℕ) (x : Li
       pub both_filled : SidesFilled p q line' after
       both_filled = (filled_tables p x.left, filled_tables q x.right)
 
-      pub used_line : (a : PairAnswer) (f : List ℕ) → SidesRewritten p q line' after a f
+      pub used_line : (a : Result (Option ℕ) Refusal) (f : List ℕ) → SidesRewritten p q line' after a f
           → PairAnswered (PairRewritten x.left.tree x.right.tree (filling l)) a f
       used_line a f r =
           r x.left.tree x.right.tree (filling l) x.left.table x.right.table
@@ -108,13 +111,11 @@ module _ (q : List ℕ) (n : ℕ) (lines values : List ℕ) where
   abbrev line : List ℕ
   line = take (4 * variables - 0) (drop 0 lines)
 
-  module _ (h : ¬ (n ≡ 0)) (v : Verdict) (j : Judged (assignment_rows (OccursIn q) line values) (FilledTables q line values) v) where
-    judged_as : (d : Verdict) → v ≡ d → Judged (assignment_rows (OccursIn q) line values) (FilledTables q line values) d
-    judged_as d e = subst (Judged (assignment_rows (OccursIn q) line values) (FilledTables q line values)) e j
-
-    pub open_unusable : (c : Refusal) → v ≡ Verdict.Refused c → UsableTold q n lines values false
+  module _ (h : ¬ (n ≡ 0)) where
+    open_unusable : (c : Refusal) → Judged (assignment_rows (OccursIn q) line values) (FilledTables q line values) (Err c)
+        → UsableTold q n lines values false
     unfolding Judged
-    open_unusable c e p t x u = go (judged_as (Verdict.Refused c) e)
+    open_unusable c j p t x u = go j
       where
         go : Refused (assignment_rows (OccursIn q) line values) (number c) → ⊥
         go (inl ((i, o, none), k)) =
@@ -125,10 +126,10 @@ module _ (q : List ℕ) (n : ℕ) (lines values : List ℕ) where
             none w.0 (line_stored p q t n lines values x u.0 i h w.0 w.1)
         go (inr (k, m)) = m
 
-    pub given_usable : v ≡ Verdict.Right → UsableTold q n lines values true
+    given_usable : Judged (assignment_rows (OccursIn q) line values) (FilledTables q line values) (Ok tt) → UsableTold q n lines values true
     unfolding Judged
-    given_usable e p t x =
-        let y = (judged_as Verdict.Right e).1.filled in
+    given_usable j p t x =
+        let y = j.1.filled in
         let d : x.right.tree ≡ y.term = encode_one x.right.tree y.term (sym x.right.table.0 ∙ y.table.0) in
         let g : 0 < length x.ls = omega (arith, x.count) in (
           g,
@@ -136,9 +137,14 @@ module _ (q : List ℕ) (n : ℕ) (lines values : List ℕ) where
               (y.stored i (rw d at o)),
         )
 
+    pub told_usable : (v : Result ⊤ Refusal) → Judged (assignment_rows (OccursIn q) line values) (FilledTables q line values) v
+        → UsableTold q n lines values (is_ok v)
+    told_usable (Ok tt) j = given_usable j
+    told_usable (Err c) j = open_unusable c j
+
 -- a rule whose head excludes a match
 module _ (p q r lines values work : List ℕ) (x : PairTables p q r lines values work) (t : Term) (e : r ≡ encode t) where
-  pub passed_excluded : (b : Bool) → Excluded p r b → b ≡ true → (f : List ℕ) → PairAnswered (Tried p q t) PairAnswer.PassedOver f
+  pub passed_excluded : (b : Bool) → Excluded p r b → b ≡ true → (f : List ℕ) → PairAnswered (Tried p q t) (Ok None) f
   unfolding PairAnswers Excluded
   passed_excluded b y d f =
       let z : t ≡ x.part.tree = encode_one t x.part.tree (sym e ∙ x.part.table.0) in
@@ -159,7 +165,7 @@ module _ (p q r lines values work : List ℕ) (x : PairTables p q r lines values
       }
 
   -- the listing that was made, or that has no room
-  module _ (a : ListAnswer) (lines' values' : List ℕ) (w : Enumerated p r lines values a lines' values') where
+  module _ (a : Result ℕ Refusal) (lines' values' : List ℕ) (w : Enumerated p r lines values a lines' values') where
     same : t ≡ x.part.tree
     same = encode_one t x.part.tree (sym e ∙ x.part.table.0)
 
@@ -175,12 +181,12 @@ module _ (p q r lines values work : List ℕ) (x : PairTables p q r lines values
     records_full : lent_records values ≡ full_records
     records_full = ap (λ (k : ℕ). k / 4) x.values_length
 
-    pub listing_tables : (n : ℕ) → a ≡ ListAnswer.Lines n → length lines' ≡ length lines → length values' ≡ length values
+    pub listing_tables : (n : ℕ) → a ≡ Ok n → length lines' ≡ length lines → length values' ≡ length values
         → ListingTables p q t n lines' values'
     unfolding Enumerated
     listing_tables n f g h =
         let k : WrittenLines p r lines values n lines' values' =
-        subst (λ (b : ListAnswer). Enumerated p r lines values b lines' values') f w in
+        subst (λ (b : Result ℕ Refusal). Enumerated p r lines values b lines' values') f w in
         record {
           left = x.left;
           right = x.right;
@@ -198,10 +204,10 @@ module _ (p q r lines values work : List ℕ) (x : PairTables p q r lines values
           values_length = h ∙ x.values_length;
         }
 
-    pub listing_refused : (c : Refusal) → a ≡ ListAnswer.Refused c → (f : List ℕ) → PairAnswered (Tried p q t) (PairAnswer.Refused c) f
+    pub listing_refused : (c : Refusal) → a ≡ Err c → (f : List ℕ) → PairAnswered (Tried p q t) (Err c) f
     unfolding PairAnswers Enumerated
     listing_refused c d f =
-        let k = (subst (λ (b : ListAnswer). Enumerated p r lines values b lines' values') d w).0 in
+        let k = (subst (λ (b : Result ℕ Refusal). Enumerated p r lines values b lines' values') d w).0 in
         record {
           outcome = stop (number c);
           holds = (

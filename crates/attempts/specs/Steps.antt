@@ -12,6 +12,11 @@
 --   ListingTables ..               the tables of a full listing that has room
 --   UsableTold .., LineUsed ..     whether its line 0 can be used, and what comes of using it
 --   PairTables ..                  all that trying a rule is lent
+use Rattle.std.specs.declared.result.Result.{Result}
+use Rattle.std.specs.declared.option.Option.{Option}
+use Rattle.std.specs.declared.result.Result.TheVariants.{Ok, Err}
+use Rattle.std.specs.declared.option.Option.TheVariants.{Some, None}
+use Rattle.refusals.specs.declared.Refusal.{Refusal}
 use Rattle.std.specs.Prelude.{◌≡◌, Bool, cond, List, ◌++◌, ℕ, ◌+◌, ◌*◌, ◌≤◌, ◌<◌, eqb, length}
 use Rattle.terms.specs.Figures.{variables, recipe_records, swept_records, table_bytes}
 use Rattle.terms.specs.Term.{Term, size, Closed, Below, Normal, Occurs}
@@ -23,7 +28,6 @@ use Rattle.records.specs.Tests.{Says}
 use Rattle.records.specs.Checks.{Pattern, Recipe}
 use Rattle.normalizing.specs.Normalized.{Begins}
 use Rattle.refusals.specs.Judged.{number, FilledTables}
-use Rattle.attempts.specs.declared.PairAnswer.{PairAnswer}
 use Rattle.attempts.specs.Pairs.{full_lines, full_records, PairOutcome, next, form, stop, line_zero, Usable, filling, PairRewritten}
 
 pub record FormTable (f : List ℕ) (n : ℕ) (u : Term) : Type 0 where
@@ -32,12 +36,12 @@ pub record FormTable (f : List ℕ) (n : ℕ) (u : Term) : Type 0 where
   pub closed : Closed 0 u
   pub below : Below 0 u
 
-unfoldable pub PairAnswers : PairAnswer → List ℕ → PairOutcome → Type 0
-PairAnswers PairAnswer.PassedOver f o = o ≡ next
-PairAnswers (PairAnswer.Records n) f o = (u : Term) × (o ≡ form u) × FormTable f n u
-PairAnswers (PairAnswer.Refused c) f o = o ≡ stop (number c)
+unfoldable pub PairAnswers : Result (Option ℕ) Refusal → List ℕ → PairOutcome → Type 0
+PairAnswers (Ok None) f o = o ≡ next
+PairAnswers (Ok (Some n)) f o = (u : Term) × (o ≡ form u) × FormTable f n u
+PairAnswers (Err c) f o = o ≡ stop (number c)
 
-pub record PairAnswered (W : PairOutcome → Type 0) (a : PairAnswer) (f : List ℕ) : Type 0 where
+pub record PairAnswered (W : PairOutcome → Type 0) (a : Result (Option ℕ) Refusal) (f : List ℕ) : Type 0 where
   pub outcome : PairOutcome
   pub holds : W outcome
   pub answers : PairAnswers a f outcome
@@ -73,7 +77,7 @@ abbrev pub FilledBy : Term → List ℕ → List ℕ → (ℕ → Term) → Type
 FilledBy p l s φ = (i : ℕ) → Occurs i p → Stored l s i (φ i)
 
 -- what rewriting the sides shows
-abbrev pub SidesRewritten : List ℕ → List ℕ → List ℕ → List ℕ → PairAnswer → List ℕ → Type 0
+abbrev pub SidesRewritten : List ℕ → List ℕ → List ℕ → List ℕ → Result (Option ℕ) Refusal → List ℕ → Type 0
 SidesRewritten p q l s a f =
     (u v : Term) (φ : ℕ → Term) → IsTable p u → IsTable q v → FilledBy u l s φ → FilledBy v l s φ → PairAnswered (PairRewritten u v φ) a f
 
@@ -104,7 +108,7 @@ pub record PairTables (p q t lines values work : List ℕ) : Type 0 where
 abbrev pub UsableTold : List ℕ → ℕ → List ℕ → List ℕ → Bool → Type 0
 UsableTold q n lines values b = (p : List ℕ) (t : Term) (x : ListingTables p q t n lines values) → Says b (Usable x.right.tree x.ls)
 
-abbrev pub LineUsed : List ℕ → List ℕ → ℕ → List ℕ → List ℕ → PairAnswer → List ℕ → Type 0
+abbrev pub LineUsed : List ℕ → List ℕ → ℕ → List ℕ → List ℕ → Result (Option ℕ) Refusal → List ℕ → Type 0
 LineUsed p q n lines values a f =
     (t : Term) (x : ListingTables p q t n lines values)
     → PairAnswered (PairRewritten x.left.tree x.right.tree (filling (line_zero x.ls))) a f

@@ -16,24 +16,14 @@ ghost use Rattle.std.specs.Prelude.{◌≡◌, ◌+◌, ◌*◌, ◌≤◌, ◌<
 ghost use Rattle.terms.specs.Figures.{variables, words};
 ghost use Rattle.terms.specs.Term.{Term};
 ghost use Rattle.terms.specs.Table.{encode};
-ghost use Rattle.records.specs.Checks.{Pattern, Recipe};
+ghost use Rattle.records.specs.Checks.{Pattern};
 ghost use Rattle.attempts.specs.Pairs.{Tried};
 ghost use Rattle.attempts.specs.Steps.{PairAnswered, EntryWritten, FilledOpen, SidesFilled, SidesRewritten};
 ghost use Rattle.attempts.specs.Steps.{ListingTables, UsableTold, LineUsed, PairTables};
 
-use enumeration::ListAnswer;
-use normalizing::NormalForm;
 use records::{Kind, LINE, RECORD, VARIABLES};
-use refusals::{Refusal, Verdict};
-use sweeping::{Length, SWEPT_BYTES};
-
-// What comes of a pair: it is passed over, the part becomes a form of so many records, or the search is refused.
-#[derive(Clone, Copy)]
-pub enum PairAnswer {
-    PassedOver,
-    Records(usize),
-    Refused(Refusal),
-}
+use refusals::Refusal;
+use sweeping::SWEPT_BYTES;
 
 // Fills variable i's entry of the line that the table begins with, if it is open: it gets the value of one record at record n.
 fn fill_entry(line: &mut [u8], i: usize, n: usize)
@@ -53,10 +43,8 @@ fn fill_open(line: &mut [u8], n: usize)
     requires { (4 * variables ≤ length line.old) × (n < words) }
     ensures { FilledOpen line.old n line.new variables }
 {
-    let mut i = 0;
-    while i < VARIABLES {
+    for i in 0..VARIABLES {
         fill_entry(line, i, n);
-        i += 1;
     }
 }
 
@@ -67,22 +55,17 @@ fn rewrite_sides(
     line: &[u8],
     values: &[u8],
     form: &mut [u8; SWEPT_BYTES],
-) -> PairAnswer
+) -> Result<Option<usize>, Refusal>
     requires { SidesFilled left.now right.now line.now values.now }
     ensures { SidesRewritten left.now right.now line.now values.now result
         form.new }
 {
     let mut swept = [0u8; SWEPT_BYTES];
-    let length = sides::sweep_side(left, line, values, &mut swept);
-    let Length::Records(_k) = length else {
-        return PairAnswer::Refused(Refusal::SweptForm);
-    };
-    let normal = sides::normalize_side(right, line, values, form);
-    match normal {
-        NormalForm::TooLong => PairAnswer::Refused(Refusal::SweptForm),
-        NormalForm::NotReached => PairAnswer::Refused(Refusal::NoNormalForm),
-        NormalForm::Records(n) => PairAnswer::Records(n),
+    if sides::sweep_side(left, line, values, &mut swept).is_none() {
+        return Err(Refusal::SweptForm);
     }
+    let n = sides::normalize_side(right, line, values, form)?;
+    Ok(Some(n))
 }
 
 // Whether a listing of n lines isn't empty and its line 0 leaves no variable of the right side open.
@@ -93,11 +76,7 @@ fn is_usable(right: &[u8], n: usize, lines: &[u8], values: &[u8]) -> bool
     if n == 0 {
         return false;
     }
-    let verdict = refusals::judge_assignment(right, &lines[0..LINE], values);
-    match verdict {
-        Verdict::Refused(_c) => false,
-        Verdict::Right => true,
-    }
+    refusals::judge_assignment(right, &lines[0..LINE], values).is_ok()
 }
 
 // Rewrites by line 0 of a listing, its open entries being filled with the constant 0.
@@ -108,7 +87,7 @@ fn use_line(
     lines: &mut [u8],
     values: &mut [u8],
     form: &mut [u8; SWEPT_BYTES],
-) -> PairAnswer
+) -> Result<Option<usize>, Refusal>
     requires { ((t : Term) × ListingTables left.now right.now t n lines.old values.old) × (0 < n) }
     ensures { LineUsed left.now right.now n lines.old values.old result form.new }
 {
@@ -126,7 +105,7 @@ fn use_listing(
     lines: &mut [u8],
     values: &mut [u8],
     form: &mut [u8; SWEPT_BYTES],
-) -> PairAnswer
+) -> Result<Option<usize>, Refusal>
     requires { (t : Term) × ListingTables left.now right.now t n lines.old values.old }
     ensures { (t : Term) → ListingTables left.now right.now t n lines.old values.old
         → PairAnswered (Tried left.now right.now t) result form.new }
@@ -134,10 +113,10 @@ fn use_listing(
     if is_usable(right, n, lines, values) {
         return use_line(left, right, n, lines, values, form);
     }
-    PairAnswer::PassedOver
+    Ok(None)
 }
 
-// Tries a rule on a part.
+// Tries a rule on a part: it becomes a form of so many records, or is passed over; or the search is refused.
 pub fn try_rule(
     left: &[u8],
     right: &[u8],
@@ -146,17 +125,14 @@ pub fn try_rule(
     values: &mut [u8],
     form: &mut [u8; SWEPT_BYTES],
     work: &mut [u8],
-) -> PairAnswer
+) -> Result<Option<usize>, Refusal>
     requires { PairTables left.now right.now part.now lines.old values.old work.old }
     ensures { (t : Term) → part.now ≡ encode t
         → PairAnswered (Tried left.now right.now t) result form.new }
 {
     if fitting::heads_exclude(left, part) {
-        return PairAnswer::PassedOver;
+        return Ok(None);
     }
-    let listed = enumeration::enumerate(left, part, lines, values, work);
-    match listed {
-        ListAnswer::Refused(c) => PairAnswer::Refused(c),
-        ListAnswer::Lines(n) => use_listing(left, right, n, lines, values, form),
-    }
+    let n = enumeration::enumerate(left, part, lines, values, work)?;
+    use_listing(left, right, n, lines, values, form)
 }

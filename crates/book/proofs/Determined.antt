@@ -6,6 +6,8 @@ use mathlib.Core.List.{List, ◌++◌}
 use mathlib.Core.Logic.{◌⊎◌, inl, inr}
 use Prim.Native.Nat.{ℕ}
 use native.Mathlib.Omega.{arith}
+use Rattle.std.specs.declared.result.Result.{Result}
+use Rattle.std.specs.declared.result.Result.TheVariants.{Ok, Err}
 use Rattle.terms.specs.Term.{Term, size}
 use Rattle.terms.specs.Table.{encode}
 use Rattle.terms.specs.Refusal.{Row, Refused, Passed, recipe_rows}
@@ -17,8 +19,14 @@ use Rattle.refusals.proofs.Numbers.{number_inj, refusal_one}
 use Rattle.rules.specs.Rules.{places, rules_rows}
 use Rattle.scanning.specs.Search.{BookOutcome, given, refused, Found}
 use Rattle.scanning.proofs.Determined.{found_one}
-use Rattle.book.specs.declared.BookAnswer.{BookAnswer}
+use Rattle.book.specs.declared.NewRecipe.{NewRecipe}
 use Rattle.book.specs.Operations.{book_table_rows, places_rows, lent_for_book, last_rows, WrittenRecipe, Stopped, Booked}
+
+abbrev new_recipe : ℕ → ℕ → NewRecipe
+new_recipe n c = record { records = n; pairs = c }
+
+same_recipe : (u v : NewRecipe) → u.records ≡ v.records → u.pairs ≡ v.pairs → u ≡ v
+same_recipe u v e f = ap (λ (n : ℕ). new_recipe n u.pairs) e ∙ ap (new_recipe v.records) f
 
 module _ (b r o w : List ℕ) where
   abbrev lent : List Row
@@ -78,13 +86,11 @@ module _ (b r o w : List ℕ) where
           x.bytes ∙ ap (λ (t : Term). overwritten (encode t) o) f ∙ sym y.bytes,
         )
 
-  pub booked_one : (a d : BookAnswer) (m n : List ℕ) → Booked b r o w a m → Booked b r o w d n → (a ≡ d) × (m ≡ n)
+  pub booked_one : (a d : Result NewRecipe Refusal) (m n : List ℕ) → Booked b r o w a m → Booked b r o w d n → (a ≡ d) × (m ≡ n)
   unfolding Booked
-  booked_one (BookAnswer.Records j c) (BookAnswer.Records k d) m n x y =
-      let e = written_one j c m x.0 x.1 k d n y.1 in
-      let f = e.0 in
-      let g = e.1 in
-      (cc, e.2)
-  booked_one (BookAnswer.Records j c) (BookAnswer.Refused d) m n x y = absurd (why_written j c m x.0 x.1 d y.0)
-  booked_one (BookAnswer.Refused c) (BookAnswer.Records k d) m n x y = absurd (why_written k d n y.0 y.1 c x.0)
-  booked_one (BookAnswer.Refused c) (BookAnswer.Refused d) m n x y = (ap BookAnswer.Refused (why_one c d x.0 y.0), x.1 ∙ sym y.1)
+  booked_one (Ok u) (Ok v) m n x y =
+      let e = written_one u.records u.pairs m x.0 x.1 v.records v.pairs n y.1 in
+      (ap Ok (same_recipe u v e.0 e.1), e.2)
+  booked_one (Ok u) (Err d) m n x y = absurd (why_written u.records u.pairs m x.0 x.1 d y.0)
+  booked_one (Err c) (Ok v) m n x y = absurd (why_written v.records v.pairs n y.0 y.1 c x.0)
+  booked_one (Err c) (Err d) m n x y = (ap Err (why_one c d x.0 y.0), x.1 ∙ sym y.1)

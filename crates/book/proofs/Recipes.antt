@@ -8,6 +8,7 @@ use Prim.Native.Nat.{ℕ, ◌*◌}
 use native.Mathlib.Omega.{arith}
 use lib.ListN.{length, take, drop}
 use lib.Seq.{take_at}
+use Rattle.std.specs.declared.result.Result.TheVariants.{Ok}
 use Rattle.terms.specs.Figures.{recipe_records, most_sweeps}
 use Rattle.terms.specs.Term.{Term, Below}
 use Rattle.terms.specs.Table.{encode, good_records, IsTable}
@@ -24,7 +25,7 @@ use Rattle.replacing.proofs.Holes.{hole}
 use Rattle.replacing.proofs.Wholes.{replaced_put}
 use Rattle.attempts.proofs.Forms.{form_closed_below}
 use Rattle.rules.specs.Pairs.{pairs}
-use Rattle.book.specs.declared.BookAnswer.{BookAnswer}
+use Rattle.book.specs.declared.NewRecipe.{NewRecipe}
 use Rattle.book.specs.Operations.{book_table_rows, places_rows, WrittenRecipe, Booked}
 use Rattle.book.proofs.Used.{NoneUsed, RuleUsed, found_used}
 
@@ -35,7 +36,13 @@ whole_below r s e h k t u p g w i =
     let x = hole s k (omega (arith, p.some, p.within, ap length e, encode_length s)) in
     subst (Below 0) (encode_one (x.put u) w (sym (replaced_put r s e k x t u p) ∙ i.0)) (x.put_below u g h)
 
-module _ (b r o w : List ℕ) (n c : ℕ) (after : List ℕ) (x : Booked b r o w (BookAnswer.Records n c) after) where
+module _ (b r o w : List ℕ) (a : NewRecipe) (after : List ℕ) (x : Booked b r o w (Ok a) after) where
+  abbrev n : ℕ
+  n = a.records
+
+  abbrev c : ℕ
+  c = a.pairs
+
   passed : Passed (recipe_rows r)
   unfolding Booked
   passed =

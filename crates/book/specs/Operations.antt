@@ -6,15 +6,18 @@
 --   Stopped b r o k               the search ends with the refusal k, or the new recipe is refused with it
 --   Booked                        what an answer says, by its cases
 use Rattle.std.specs.Prelude.{◌≡◌, List, [], ◌∷◌, ◌++◌, ◌⊎◌, ℕ, ◌*◌, ◌/◌, ◌%◌, ◌<◌, length}
+use Rattle.std.specs.declared.result.Result.{Result}
+use Rattle.std.specs.declared.result.Result.TheVariants.{Ok, Err}
 use Rattle.terms.specs.Figures.{recipe_records, place_bytes, most_places}
 use Rattle.terms.specs.Term.{Term, size}
 use Rattle.terms.specs.Table.{encode}
 use Rattle.terms.specs.Refusal.{Row, Refused, Passed, BadTable, BadArea, recipe_rows}
+use Rattle.refusals.specs.declared.Refusal.{Refusal}
 use Rattle.refusals.specs.Judged.{number}
 use Rattle.refusals.specs.Lent.{overwritten}
 use Rattle.rules.specs.Rules.{places, rules_rows}
 use Rattle.scanning.specs.Search.{BookOutcome, given, refused, Found}
-use Rattle.book.specs.declared.BookAnswer.{BookAnswer}
+use Rattle.book.specs.declared.NewRecipe.{NewRecipe}
 
 -- "A length that is no multiple of 260 gets 8."
 abbrev pub book_table_rows : List ℕ → List ℕ → List ℕ → List Row
@@ -46,7 +49,7 @@ pub record Stopped (b r o : List ℕ) (k : ℕ) : Type 0 where
   pub cause : (outcome ≡ refused k) ⊎ ((v : Term) × (c : ℕ) × (outcome ≡ given v c) × Refused (last_rows v o) k)
 
 -- "it and every later number comes alone and leaves all tables as they were"
-unfoldable pub Booked : List ℕ → List ℕ → List ℕ → List ℕ → BookAnswer → List ℕ → Type 0
-Booked b r o w (BookAnswer.Records n c) after = Passed (lent_for_book b r o w) × WrittenRecipe b r o n c after
-Booked b r o w (BookAnswer.Refused k) after =
+unfoldable pub Booked : List ℕ → List ℕ → List ℕ → List ℕ → Result NewRecipe Refusal → List ℕ → Type 0
+Booked b r o w (Ok x) after = Passed (lent_for_book b r o w) × WrittenRecipe b r o x.records x.pairs after
+Booked b r o w (Err k) after =
     (Refused (lent_for_book b r o w) (number k) ⊎ (Passed (lent_for_book b r o w) × Stopped b r o (number k))) × (after ≡ o)

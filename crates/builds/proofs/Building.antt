@@ -11,9 +11,9 @@ use mathlib.Core.List.{List, [], ◌∷◌}
 use Prim.Native.Nat.{ℕ, suc, ◌+◌, ◌-◌, ◌*◌, ◌%◌, ◌<◌, ◌≤◌}
 use native.Mathlib.Omega.{arith}
 use lib.Dec.{T}
-use lib.ListN.{length, get_or, take, drop}
+use lib.ListN.{length, take, drop}
 use lib.Seq.{sets}
-use borrow.Author.Tests.{lt-ltb, ltb-true}
+use Rattle.std.specs.declared.option.Option.TheVariants.{Some, None}
 use Rattle.terms.specs.Figures.{variables, pattern_records, value_records, table_bytes}
 use Rattle.terms.specs.Term.{Term, lam, size, uses, is_eta, shift, Closed}
 use Rattle.terms.specs.Table.{encode}
@@ -24,7 +24,7 @@ use Rattle.terms.proofs.Shift.{size_shift}
 use Rattle.terms.proofs.Locals.{closed_more}
 use Rattle.matching.specs.Lists.{Values}
 use Rattle.matching.specs.Goals.{Sweeps, Goal, Goal.match, Goal.build, Listable}
-use Rattle.matching.specs.Bodies.{copies, body, Some}
+use Rattle.matching.specs.Bodies.{copies, body, Some as Chosen}
 use Rattle.matching.proofs.Bodies.{copies_size, body_uses, body_size, body_closed, body_ground, body_normal, body_eta}
 use Rattle.matching.proofs.Targets.{closed_shift}
 use Rattle.matching.proofs.Choices.{listable_chosen}
@@ -37,7 +37,6 @@ use Rattle.assignments.specs.declared.Entry.{Entry}
 use Rattle.abstractions.specs.Bodies.{BodySource, Body, chosen_in}
 use Rattle.abstractions.proofs.Bodies.{choosing_at, body_exact_at, body_bytes_at, body_number_at}
 use Rattle.agenda.specs.declared.Agenda.{Agenda}
-use Rattle.agenda.specs.declared.Branch.{Branch}
 use Rattle.agenda.specs.declared.StoredGoal.{StoredGoal}
 use Rattle.agenda.specs.Stored.{StoredAt, StoredFits}
 use Rattle.agenda.specs.State.{target_bytes, Target, State, Bounds, Ready, relinking}
@@ -61,13 +60,6 @@ pub record Bodied (P W : List ℕ) (s : Agenda) (r : StoredGoal) (m b : List ℕ
 
 pub record UsesTold (P W : List ℕ) (s : Agenda) (r : StoredGoal) (m : List ℕ) (u : Bool) : Type 0 where
   pub is : (f t e : Term) → BuildSite P W s r f t e → u ≡ uses 0 (body e 0 t (chosen_in m) 0)
-
--- a choice that is made, and none
-pub choice_made : (m : List ℕ) (n i : ℕ) → i < n → ¬ (get_or m i 0 ≡ 0) → AnyChosen m n true
-choice_made m n i h z = record { is = (i, omega arith, omega arith, lt-ltb 0 (get_or m i 0) (omega arith)) }
-
-pub none_made : (m : List ℕ) (n : ℕ) → ((i : ℕ) → i < n → get_or m i 0 ≡ 0) → AnyChosen m n false
-none_made m n h = record { is = λ x. omega (arith, ltb-true 0 (get_or m x.0 0) x.3, h x.0 (omega (arith, x.2))) }
 
 -- two answers to one question
 answers_same : (A : Type 0) (u v : Bool) → Says u A → (v ≡ true) ↔ A → u ≡ v
@@ -175,8 +167,8 @@ module _ (P W : List ℕ) (s : Agenda) (a : List Entry) where
         pub used_chosen : (u : Bool) → AnyChosen m k u → UsesTold P W s r m u
         used_chosen u h = record {
           is = λ f t e v.
-              answers_same (Some (chosen_in m) 0 (copies e 0 t)) u (uses 0 (body e 0 t (chosen_in m) 0))
-              (subst (λ (j : ℕ). Says u (Some (chosen_in m) 0 j)) (copies_counted f t e v) h.is)
+              answers_same (Chosen (chosen_in m) 0 (copies e 0 t)) u (uses 0 (body e 0 t (chosen_in m) 0))
+              (subst (λ (j : ℕ). Says u (Chosen (chosen_in m) 0 j)) (copies_counted f t e v) h.is)
               (body_uses e 0 t (chosen_in m) 0);
         }
 
@@ -194,7 +186,7 @@ module _ (P W : List ℕ) (s : Agenda) (a : List Entry) where
         }
 
         pub unused : (W' : List ℕ) → W' ≡ W → (u : Bool) → UsesTold P W s r m u → u ≡ false
-            → Branched P W s a (ChosenBody m) W' Branch.Failed
+            → Branched P W s a (ChosenBody m) W' None
         unfolding Branched
         unused W' q u h n = none W' q (λ f t e φ v o p. subst T (sym p.1 ∙ sym (h.is f t e v) ∙ n) tt)
 
@@ -246,7 +238,7 @@ module _ (P W : List ℕ) (s : Agenda) (a : List Entry) where
               closed = body_below_lem f t e v pattern_records (omega arith);
             })
 
-        pub eta : (W' : List ℕ) → W' ≡ W → (u : Bool) → Equals b is_eta u → u ≡ true → Branched P W s a (ChosenBody m) W' Branch.Failed
+        pub eta : (W' : List ℕ) → W' ≡ W → (u : Bool) → Equals b is_eta u → u ≡ true → Branched P W s a (ChosenBody m) W' None
         unfolding Branched
         eta W' q u h n = none m W' q (λ f t e φ v o p.
             body_eta φ f e t (chosen_in m) v.target.normal (sym (h (body e 0 t (chosen_in m) 0) (w.is f t e v)) ∙ n) p.0)
@@ -300,6 +292,6 @@ module _ (P W : List ℕ) (s : Agenda) (a : List Entry) (ready : Ready relinking
           pushed_bounds P W s r b X ready.bounds room s' p y.next (facts gs hs l f t e z).site.next);
     }
 
-    pub stored_pushed : Branched P W s a (ChosenBody m) X (Branch.Next s')
+    pub stored_pushed : Branched P W s a (ChosenBody m) X (Some s')
     unfolding Branched
     stored_pushed = subst (λ (u : Agenda). Move relinking P W s a (ChosenBody m) X u a) (sym p.agenda) move

@@ -8,6 +8,8 @@ use Prim.Native.Nat.{ℕ, suc, ◌-◌, ◌<◌, ◌≤◌}
 use native.Mathlib.Omega.{arith}
 use borrow.Author.Tests.{lt-ltb}
 use lib.ListN.{get_or}
+use Rattle.std.specs.declared.option.Option.{Option}
+use Rattle.std.specs.declared.option.Option.TheVariants.{Some, None}
 use Rattle.terms.specs.Figures.{pattern_records, value_records}
 use Rattle.terms.specs.Term.{Term, lam, size, uses}
 use Rattle.terms.specs.Listing.{Line}
@@ -22,7 +24,6 @@ use Rattle.assignments.specs.declared.Entry.{Entry}
 use Rattle.abstractions.specs.Bodies.{Counting, CopiesCounted, chosen_in}
 use Rattle.abstractions.proofs.Bodies.{counting_at, counted_at}
 use Rattle.agenda.specs.declared.Agenda.{Agenda}
-use Rattle.agenda.specs.declared.Branch.{Branch}
 use Rattle.agenda.specs.declared.StoredGoal.{StoredGoal}
 use Rattle.agenda.specs.declared.Plan.{Plan}
 use Rattle.agenda.specs.Stored.{StoredAt}
@@ -75,14 +76,14 @@ module _ (P W : List ℕ) (s : Agenda) (a : List Entry) (ready : Ready relinking
         let q = forced_body φ v f t e (build_site P W s a r gs us l f t e y z) in
         (λ p. (p.0, (q.0 p.1.0, p.1.1), p.2), λ p. (p.0, (q.1 p.1.0, p.1.1), p.2))) hs
 
-    module _ (X : List ℕ) (c : Branch) (g : Branched P W s a (ChosenBody m) X c) where
-      pub forced_body_failed : c ≡ Branch.Failed → Planned P W s a X Plan.Failed
+    module _ (X : List ℕ) (c : Option Agenda) (g : Branched P W s a (ChosenBody m) X c) where
+      pub forced_body_failed : c ≡ None → Planned P W s a X Plan.Failed
       unfolding Planned Branched
       forced_body_failed n =
           let d : Failed relinking P W s a (ChosenBody m) X = subst (Branched P W s a (ChosenBody m) X) n g in
           record { none = λ gs hs l z φ v p. d.none gs hs l z φ v ((question gs hs l z φ v).0 p); kept = d.kept }
 
-      pub forced_body_next : (s' : Agenda) → c ≡ Branch.Next s' → Planned P W s a X (Plan.Next s')
+      pub forced_body_next : (s' : Agenda) → c ≡ Some s' → Planned P W s a X (Plan.Next s')
       unfolding Planned Branched
       forced_body_next s' n =
           let d : Move relinking P W s a (ChosenBody m) X s' a = subst (Branched P W s a (ChosenBody m) X) n g in

@@ -2,7 +2,7 @@
 -- goal behind them are stored one after another, which keeps what is below the top. Assumes nothing.
 use mathlib.Core.Path.{◌≡◌, refl, sym, ap, ◌∙◌, subst}
 use mathlib.Core.List.{List, [], ◌∷◌}
-use Prim.Native.Nat.{ℕ, ◌+◌, ◌-◌, ◌*◌, ◌%◌, ◌<◌, ◌≤◌}
+use Prim.Native.Nat.{ℕ, ◌+◌, ◌*◌, ◌%◌, ◌<◌, ◌≤◌}
 use native.Mathlib.Omega.{arith}
 use lib.ListN.{length}
 use lib.Seq.{sets}
@@ -23,8 +23,7 @@ use Rattle.agenda.specs.Stored.{stored_bytes, StoredFits, stored_match}
 use Rattle.agenda.specs.State.{goal_bytes, record_weight, weight, relinking, next_at, target_start}
 use Rattle.agenda.specs.State.{WrittenTarget, Easy, Deferred, Chain, State, Bounds}
 use Rattle.agenda.specs.Moves.{progress}
-use Rattle.agenda.proofs.Frame.{Kept, target_kept, chain_kept, holds_kept, kept_sets, kept_then, length_stored, goal_stored}
-use Rattle.agenda.proofs.Frame.{chain_match}
+use Rattle.agenda.proofs.Frame.{Kept, target_kept, chain_kept, holds_kept, kept_sets, kept_then, length_stored, goal_stored, chain_match}
 use Rattle.agenda.proofs.Targets.{NewTarget, written_target}
 use Rattle.builds.specs.Builds.{Pushes, Suitable, StoredPushed, after_stored, target_end}
 
@@ -76,7 +75,8 @@ module _ (W : List ℕ) (s : Agenda) (r : StoredGoal) (b : List ℕ) (x : Pushes
         same_length = length_stored (stored_bytes i) Z X (target_end s b) q ∙ n.same_length;
         target = λ t k w c.
             let v = subst (λ (u : Term). NewTarget W Z s.top (lam u)) (pushed_body t w) n in
-            target_kept Z X (target_end s b) goal_kept (target_end s b + goal_bytes) (omega arith) k (target_start s) (target_start s) (lam t)
+            target_kept Z X (target_end s b) goal_kept (target_end s b + goal_bytes) (omega arith) k (target_start s) (target_start s)
+            (lam t)
             (record {
               part = v.part;
               below = omega (arith, ap length w, encode_length t);

@@ -7,19 +7,18 @@ use Prim.Native.Nat.{ℕ, ◌+◌, ◌≤◌}
 use native.Mathlib.Omega.{arith}
 use lib.Dec.{T}
 use lib.ListN.{length, get_or}
+use Rattle.std.specs.Prelude.{is_some}
+use Rattle.std.specs.declared.option.Option.{Option}
+use Rattle.std.specs.declared.option.Option.TheVariants.{Some, None}
 use Rattle.terms.specs.Figures.{table_bytes}
 use Rattle.terms.specs.Term.{Term, lam, uses, substitute}
 use Rattle.terms.proofs.Table.{kind, lam_inj}
 use Rattle.records.specs.Parts.{slice, Part, Whole}
 use Rattle.records.specs.Tests.{Asks, Walked}
 use Rattle.records.specs.declared.Ask.TheVariants.{Other}
-use Rattle.records.specs.declared.Walk.{Walk}
-use Rattle.records.specs.declared.Walk.TheVariants.{Upto, No}
 use Rattle.records.proofs.Parts.{kind_at, abstraction}
 use Rattle.records.proofs.Slices.{part_slice, body_slice, slice_length}
 use Rattle.instances.specs.declared.Places.{Places}
-use Rattle.instances.specs.declared.Pairing.{Pairing}
-use Rattle.instances.specs.declared.Pairing.TheVariants as pairing
 use Rattle.instances.specs.Instances.{Substitutes, Substituted}
 use Rattle.instances.proofs.Instances.{walk_reached, refused}
 use Rattle.builds.specs.Builds.{Solving, Solved}
@@ -49,38 +48,39 @@ module _ (h e t : List ℕ) where
     value : (x : Term) → Part h 0 x → SolutionValue x
     value x p = let u = abstraction h 0 x p k in record { b = u.b; is = u.is; part = part_slice h 4 u.b u.body }
 
-    module _ (w : Walk) (g : Walked (slice h 4) 0 (Asks Other 0) w) where
-      pub solved_unused : (n : ℕ) → w ≡ Upto n → Solved h e t false
-      unfolding Walked
-      solved_unused n q = record {
-        is = λ x y z p _ _ s.
-            let u = value x p in
-            let m = (subst (Walked (slice h 4) 0 (Asks Other 0)) q g).1 u.b u.part in
-            let i : s.0 ≡ u.b = lam_inj s.0 u.b (sym s.1 ∙ u.is) in
-            subst T (sym s.3 ∙ ap (uses 0) i ∙ m) tt;
-      }
+    -- the body uses the local exactly if the walk over it doesn't come to its end
+    pub solved_unused : (w : Option ℕ) (c : Bool) → c ≡ is_some w → c ≡ true → Walked (slice h 4) 0 (Asks Other 0) w → Solved h e t false
+    unfolding Walked
+    solved_unused (Some n) c v q g = record {
+      is = λ x y z p _ _ s.
+          let u = value x p in
+          let m = g.1 u.b u.part in
+          let i : s.0 ≡ u.b = lam_inj s.0 u.b (sym s.1 ∙ u.is) in
+          subst T (sym s.3 ∙ ap (uses 0) i ∙ m) tt;
+    }
+    solved_unused None c v q g = let z : T false = subst T (sym q ∙ v) tt in absurd z
 
-      used : w ≡ No → (b : Term) → Part (slice h 4) 0 b → uses 0 b ≡ true
-      unfolding Walked
-      used q b p = either (uses 0 b) (subst (Walked (slice h 4) 0 (Asks Other 0)) q g b p)
-        where
-          either : (c : Bool) → ¬ (c ≡ false) → c ≡ true
-          either true n = refl
-          either false n = absurd (n refl)
+    used : (w : Option ℕ) (c : Bool) → c ≡ is_some w → c ≡ false → Walked (slice h 4) 0 (Asks Other 0) w → (b : Term)
+        → Part (slice h 4) 0 b → uses 0 b ≡ true
+    unfolding Walked
+    used (Some n) c v q g b p = let z : T false = subst T (sym v ∙ q) tt in absurd z
+    used None c v q g b p = either (uses 0 b) (g b p)
+      where
+        either : (c : Bool) → ¬ (c ≡ false) → c ≡ true
+        either true n = refl
+        either false n = absurd (n refl)
 
-      module _ (q : w ≡ No) (r : Pairing) (f : Substituted (slice h 4) 0 e t r) where
-        pub solved_yes : (n : Places) → r ≡ pairing.Upto n → Solved h e t true
-        solved_yes n o = record {
-          is = λ x y z p i j.
-              let u = value x p in
-              let m = (walk_reached (slice h 4) 0 e t n r o f).replaced u.b y z u.part i j in
-              (u.b, u.is, sym m, used q u.b u.part);
-        }
-
-        pub solved_no : r ≡ pairing.No → Solved h e t false
-        solved_no o = record {
-          is = λ x y z p i j s.
-              let u = value x p in
-              let m : s.0 ≡ u.b = lam_inj s.0 u.b (sym s.1 ∙ u.is) in
-              refused (slice h 4) 0 e t r o f u.b y z u.part i j (sym s.2 ∙ ap (substitute 0 y) m);
-        }
+    pub solved_says : (w : Option ℕ) (c : Bool) → c ≡ is_some w → c ≡ false → Walked (slice h 4) 0 (Asks Other 0) w → (r : Option Places)
+        → Substituted (slice h 4) 0 e t r → Solved h e t (is_some r)
+    solved_says w c v q g (Some n) f = record {
+      is = λ x y z p i j.
+          let u = value x p in
+          let m = (walk_reached (slice h 4) 0 e t n f).replaced u.b y z u.part i j in
+          (u.b, u.is, sym m, used w c v q g u.b u.part);
+    }
+    solved_says w c v q g None f = record {
+      is = λ x y z p i j s.
+          let u = value x p in
+          let m : s.0 ≡ u.b = lam_inj s.0 u.b (sym s.1 ∙ u.is) in
+          refused (slice h 4) 0 e t f u.b y z u.part i j (sym s.2 ∙ ap (substitute 0 y) m);
+    }

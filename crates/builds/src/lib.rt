@@ -15,10 +15,9 @@ ghost use Rattle.builds.specs.Choices.{ChosenBody, Planned};
 ghost use Rattle.agenda.specs.Moves.{Branched};
 ghost use Rattle.builds.specs.Builds.{Builds, AnyChosen, Pushes, StoredPushed, Solving, Solved};
 
-use agenda::{Agenda, Branch, HEIGHT_BYTES, Plan, StoredGoal, TARGET_BYTES};
+use agenda::{Agenda, HEIGHT_BYTES, Plan, StoredGoal, TARGET_BYTES};
 use assignments::Entry;
-use instances::Pairing;
-use records::{Ask, Kind, RECORD, VALUE_RECORDS, VARIABLES, Walk};
+use records::{Ask, Kind, RECORD, VALUE_RECORDS, VARIABLES};
 
 // Writes the abstraction over the body as a target with its heights from the top on, and the goal that the part of `goal` sweeps to it;
 // `goal` itself is dropped.
@@ -45,14 +44,7 @@ fn any_chosen(chosen: &[u8], n: usize) -> bool
     requires { n ≤ length chosen.now }
     ensures { AnyChosen chosen.now n result }
 {
-    let mut i = 0;
-    while i < n {
-        if chosen[i] != 0 {
-            return true;
-        }
-        i += 1;
-    }
-    false
+    chosen[..n].iter().any(|choice| *choice != 0)
 }
 
 // The goal with the body of the chosen copies: what its head then has to sweep to is written at the top. No head sweeps to an abstraction
@@ -63,7 +55,7 @@ pub fn body(
     agenda: Agenda,
     entries: [Entry; VARIABLES],
     chosen: [u8; VALUE_RECORDS],
-) -> Branch
+) -> Option<Agenda>
     requires { Ready relinking pattern.now work.old agenda entries × Builds work.old agenda }
     ensures { Branched pattern.now work.old agenda entries (ChosenBody chosen) work.new result }
 {
@@ -82,12 +74,12 @@ pub fn body(
     );
     let n = built.end;
     if !any_chosen(&chosen, built.k) {
-        return Branch::Failed;
+        return None;
     }
     if records::is_eta(&b[0..n]) {
-        return Branch::Failed;
+        return None;
     }
-    Branch::Next(push_abstraction(work, agenda, goal, &b[0..n]))
+    Some(push_abstraction(work, agenda, goal, &b[0..n]))
 }
 
 // Whether `head` is an abstraction that uses its local and comes to the target with the argument put in.
@@ -99,15 +91,10 @@ pub fn is_solved(head: &[u8], argument: &[u8], target: &[u8]) -> bool
         return false;
     }
     let body = &head[RECORD..];
-    let unused = records::ask_part(body, Ask::Other, 0);
-    if let Walk::Upto(_) = unused {
+    if records::ask_part(body, Ask::Other, 0).is_some() {
         return false;
     }
-    let pairing = instances::is_substituted(body, 0, argument, target);
-    match pairing {
-        Pairing::Upto(_) => true,
-        Pairing::No => false,
-    }
+    instances::is_substituted(body, 0, argument, target).is_some()
 }
 
 // What the goal comes to. A swept head uses no local that the head doesn't use: where the argument uses such a one no body keeps a copy of
@@ -121,11 +108,10 @@ pub fn plan(pattern: &[u8], work: &mut [u8], agenda: Agenda, entries: [Entry; VA
     let argument = goal.argument;
     if agenda::locals::lacks_local(&pattern[part..], &work[argument..]) {
         let every = [1u8; VALUE_RECORDS];
-        let branch = body(pattern, work, agenda, entries, every);
-        match branch {
-            Branch::Failed => return Plan::Failed,
-            Branch::Next(next) => return Plan::Next(next),
-        }
+        return match body(pattern, work, agenda, entries, every) {
+            Some(next) => Plan::Next(next),
+            None => Plan::Failed,
+        };
     }
     let target = goal.target;
     let counted = abstractions::copies(&work[target..], 0, &work[argument..]);

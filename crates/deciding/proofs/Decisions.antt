@@ -12,6 +12,7 @@ use mathlib.Core.Logic.{◌↔◌}
 use Prim.Native.Nat.{ℕ, suc, ◌+◌, ◌-◌, ◌*◌, ◌/◌, ◌%◌, ◌<◌, ◌≤◌}
 use native.Mathlib.Omega.{arith}
 use lib.ListN.{length, get_or, take, drop}
+use Rattle.std.specs.Bool.{MatchBool}
 use Rattle.terms.specs.Figures.{variables, pattern_records, table_bytes}
 use Rattle.terms.specs.Term.{Term, size, Below}
 use Rattle.terms.specs.Sweep.{sweep, fill}
@@ -42,7 +43,7 @@ use Rattle.agenda.specs.declared.Decision.{Decision}
 use Rattle.agenda.specs.declared.StoredGoal.{StoredGoal}
 use Rattle.agenda.specs.Stored.{StoredAt}
 use Rattle.agenda.specs.State.{goal_bytes, GoalAt, State, Sat, Bounds, Ready, Target, Easy, Deferred, Chain, weights, relinking}
-use Rattle.agenda.specs.Moves.{Move, Moved, Failed, Decided}
+use Rattle.agenda.specs.Moves.{Move, Moved, Decided}
 use Rattle.builds.specs.Builds.{Solving, Solved}
 use Rattle.deciding.specs.Deciding.{HasEntries, OpenAt, AllAssigned, Comparing, FormCompared}
 use Rattle.agenda.proofs.Frame.{Kept, chain_kept, holds_kept}
@@ -60,14 +61,19 @@ module _ (l : List ℕ) (k : ℕ) (h : 4 * k + 4 ≤ length l) where
         (mentions_occurs l (number_at l (4 * k)) x.tree x.bytes (mention e)),
   )
 
-  pub open_here : (a : List Entry) → OpenAt l a k → Tells l (AllAssigned a) false
+  open_here : (a : List Entry) → OpenAt l a k → Tells l (AllAssigned a) false
   open_here a o t b all = all (number_at l (4 * k)) (mentions_occurs l (number_at l (4 * k)) t b (mention o.kind)) o.is
 
-pub none_open : (l : List ℕ) (a : List Entry) (n k : ℕ) → n ≡ length l / 4 → n ≤ k → ((j : ℕ) → j < k → ¬ OpenAt l a j)
-    → Tells l (AllAssigned a) true
-none_open l a n k e h f t b i o z =
+none_open : (l : List ℕ) (a : List Entry) → ((j : ℕ) → j < length l / 4 → ¬ OpenAt l a j) → Tells l (AllAssigned a) true
+none_open l a f t b i o z =
     let m = occurs_mentions l i t b o in
     f m.index (omega (arith, m.within)) (record { kind = m.is.kind; is = ap (λ (j : ℕ). get_or a j Open) m.is.number ∙ z })
+
+pub assigned_told : (l : List ℕ) (a : List Entry) (r : Bool)
+    → MatchBool r ((k : ℕ) → k < length l / 4 → ¬ OpenAt l a k) ((k : ℕ) × (k < length l / 4) × OpenAt l a k)
+    → Tells l (AllAssigned a) r
+assigned_told l a true h = none_open l a h
+assigned_told l a false h = open_here l h.0 (omega (arith, h.1)) a h.2
 
 pub entry_open_at : (l : List ℕ) (a : List Entry) (k i : ℕ) → get_or l (4 * k) 0 ≡ 4 → i ≡ number_at l (4 * k)
     → get_or a i Open ≡ Open → OpenAt l a k

@@ -8,6 +8,8 @@ use Prim.Native.Nat.{ℕ, suc, ◌-◌, ◌*◌, ◌<◌, ◌≤◌}
 use native.Mathlib.Omega.{arith}
 use lib.ListN.{length, get_or, take, drop}
 use lib.Seq.{sets, length-sets, length-take-le}
+use Rattle.std.specs.declared.option.Option.{Option}
+use Rattle.std.specs.declared.option.Option.TheVariants.{Some}
 use Rattle.terms.specs.Figures.{variables, pattern_records, table_bytes}
 use Rattle.terms.specs.Term.{Term, con, var, size, Below}
 use Rattle.terms.specs.Sweep.{sweep, fill}
@@ -26,8 +28,6 @@ use Rattle.matching.proofs.Cuts.{fits_abstraction}
 use Rattle.records.specs.Parts.{slice, Part, Ends, Tree}
 use Rattle.records.specs.Tests.{Says, Tells, Asks, Walked}
 use Rattle.records.specs.declared.Ask.TheVariants.{Bound}
-use Rattle.records.specs.declared.Walk.{Walk}
-use Rattle.records.specs.declared.Walk.TheVariants.{Upto}
 use Rattle.records.proofs.Parts.{part_bytes, whole, at_start, kind_at}
 use Rattle.records.proofs.Slices.{part_slice, slice_length}
 use Rattle.assignments.specs.declared.Entry.{Entry}
@@ -74,7 +74,7 @@ module _ (l W : List ℕ) (a : List Entry) (x : SkeletonSource l W a) where
     is_skeleton = λ t p φ v g. tt;
   }
 
-  module _ (w : Walk) (k : Walked l 0 (Asks Bound pattern_records) w) (end : ℕ) (e : w ≡ Upto end) where
+  module _ (w : Option ℕ) (k : Walked l 0 (Asks Bound pattern_records) w) (end : ℕ) (e : w ≡ Some end) where
     walked_upto : Ends l 0 end × ((t : Term) → Part l 0 t → Asks Bound pattern_records t)
     unfolding Walked
     walked_upto = subst (Walked l 0 (Asks Bound pattern_records)) e k

@@ -24,17 +24,22 @@ ghost use Rattle.deciding.specs.Deciding.{HasEntries, OpenAt, AllAssigned, Compa
 
 use agenda::{Agenda, Decision, Skeleton, StoredGoal};
 use assignments::Entry;
-use records::{Ask, Kind, PATTERN_RECORDS, RECORD, VARIABLES, Walk};
+use records::{Ask, Kind, PATTERN_RECORDS, RECORD, VARIABLES};
 use sweeping::SWEPT_BYTES;
 
 // The skeleton of the part that `part` begins with. The locals of a part are few, so that those of its skeleton have numbers that a record
 // holds; `walk` says so with the part's length, and if it weren't so, the skeleton would be a hole.
-pub fn skeleton_of(part: &[u8], walk: Walk, work: &[u8], entries: [Entry; VARIABLES]) -> Skeleton
+pub fn skeleton_of(
+    part: &[u8],
+    walk: Option<usize>,
+    work: &[u8],
+    entries: [Entry; VARIABLES],
+) -> Skeleton
     requires { SkeletonSource part.now work.now entries × Walked part.now 0 (Asks Bound pattern_records) walk }
     ensures { PartSkeleton part.now work.now entries result.bytes result.length }
 {
     let mut bytes = [0u8; SWEPT_BYTES];
-    let Walk::Upto(n) = walk else {
+    let Some(n) = walk else {
         records::put_record(&mut bytes, 0, Kind::VARIABLE, 0);
         return Skeleton {
             bytes,
@@ -93,15 +98,7 @@ pub fn is_assigned(part: &[u8], entries: [Entry; VARIABLES]) -> bool
     requires { HasEntries part.now }
     ensures { Tells part.now (AllAssigned entries) result }
 {
-    let n = part.len() / RECORD;
-    let mut k = 0;
-    while k < n {
-        if is_open(part, k, entries) {
-            return false;
-        }
-        k += 1;
-    }
-    true
+    (0..part.len() / RECORD).all(|k| !is_open(part, k, entries))
 }
 
 // Whether the swept part meets the goal: it is the target, or it solves the goal to build.

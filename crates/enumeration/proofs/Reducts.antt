@@ -4,6 +4,9 @@ use mathlib.Core.Path.{◌≡◌, sym, ◌∙◌, subst}
 use mathlib.Core.List.{List}
 use Prim.Native.Nat.{ℕ, ◌*◌, ◌≤◌}
 use lib.ListN.{length}
+use Rattle.std.specs.declared.result.Result.{Result}
+use Rattle.std.specs.declared.result.Result.TheVariants.{Ok, Err}
+use Rattle.refusals.specs.declared.Refusal.{Refusal}
 use Rattle.terms.specs.Figures.{variables, pattern_records}
 use Rattle.terms.specs.Term.{Term}
 use Rattle.terms.specs.Table.{encode}
@@ -13,7 +16,6 @@ use Rattle.matching.specs.Reducts.{reduct}
 use Rattle.matching.proofs.Reducts.{reduct_full}
 use Rattle.records.specs.Checks.{Pattern}
 use Rattle.reducts.proofs.Reducts.{reduct_pattern}
-use Rattle.enumeration.specs.declared.ListAnswer.{ListAnswer}
 use Rattle.enumeration.specs.Written.{ListingOf, Enumerated}
 use Rattle.enumeration.specs.Steps.{ListTables}
 
@@ -38,9 +40,9 @@ module _ (p q : List ℕ) (a : Pattern p) (e : q ≡ encode (reduct a.tree)) whe
         (encode_one f.pattern_term (reduct a.tree) (sym f.pattern_table.0 ∙ e)) f.full);
   }
 
-  pub enumerated : (t l s : List ℕ) (r : ListAnswer) (m n : List ℕ) → Enumerated q t l s r m n → Enumerated p t l s r m n
+  pub enumerated : (t l s : List ℕ) (r : Result ℕ Refusal) (m n : List ℕ) → Enumerated q t l s r m n → Enumerated p t l s r m n
   unfolding Enumerated
-  enumerated t l s (ListAnswer.Lines k) m n x = record {
+  enumerated t l s (Ok k) m n x = record {
     lines = x.lines;
     listing_of = listing_of t x.lines x.listing_of;
     room = x.room;
@@ -48,5 +50,5 @@ module _ (p q : List ℕ) (a : Pattern p) (e : q ≡ encode (reduct a.tree)) whe
     line_bytes = x.line_bytes;
     value_bytes = x.value_bytes;
   }
-  enumerated t l s (ListAnswer.Refused c) m n x =
+  enumerated t l s (Err c) m n x =
       (record { lines = x.0.lines; listing_of = listing_of t x.0.lines x.0.listing_of; cause = x.0.cause }, x.1, x.2)

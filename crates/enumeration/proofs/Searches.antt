@@ -7,6 +7,8 @@ use Prim.Native.Nat.{ℕ, ◌+◌, ◌-◌, ◌*◌, ◌≤◌, ◌<◌}
 use native.Mathlib.Omega.{arith}
 use lib.ListN.{length, take, drop}
 use lib.Seq.{sets, sets-eq, drop_at, take_at}
+use Rattle.std.specs.declared.result.Result.{Result}
+use Rattle.std.specs.declared.result.Result.TheVariants.{Ok, Err}
 use Rattle.terms.specs.Figures.{variables}
 use Rattle.terms.specs.Term.{Term, Occurs}
 use Rattle.terms.specs.Listing.{In, Line, Full}
@@ -29,7 +31,6 @@ use Rattle.listing.proofs.Stores.{stores_count, stores_records, stores_lengths, 
 use Rattle.search.specs.Collected.{Tallied, Collected}
 use Rattle.refusals.specs.declared.Refusal.{Refusal}
 use Rattle.refusals.specs.Judged.{number}
-use Rattle.enumeration.specs.declared.ListAnswer.{ListAnswer}
 use Rattle.enumeration.specs.Written.{lent_lines, lent_records, ListingOf, WrittenLines, NoRoom, Enumerated}
 use Rattle.enumeration.specs.Steps.{ListTables, Copyable, Copied, CopiedIf}
 
@@ -102,7 +103,7 @@ module _ (p t : List ℕ) (a : Pattern p) (b : Recipe t) where
     order_records : values_records order ≡ values_records found
     order_records = lists_records variables (λ i. Occurs i x) (Sweeps x y) order found (lists_of order ordered) listed
 
-    pub no_lines : (l s : List ℕ) → limit ≡ lent_lines l → limit < n.lines → Enumerated p t l s (ListAnswer.Refused Refusal.LineRoom) l s
+    pub no_lines : (l s : List ℕ) → limit ≡ lent_lines l → limit < n.lines → Enumerated p t l s (Err Refusal.LineRoom) l s
     unfolding Enumerated
     no_lines l s e h =
         (record { lines = order; listing_of = ordered; cause = inl (omega (arith, tallied.over h, order_length), refl) }, refl, refl)
@@ -118,7 +119,7 @@ module _ (p t : List ℕ) (a : Pattern p) (b : Recipe t) where
         suffice : ¬ (lent_lines l < length order)
         suffice k = omega (arith, lines_are, order_length)
 
-        no_records : lent_records s < n.records → Enumerated p t l s (ListAnswer.Refused Refusal.ValueRoom) l s
+        no_records : lent_records s < n.records → Enumerated p t l s (Err Refusal.ValueRoom) l s
         unfolding Enumerated
         no_records k = (
           record { lines = order; listing_of = ordered; cause = inr (suffice, inl (omega (arith, records_are, order_records), refl)) },
@@ -197,10 +198,10 @@ module _ (p t : List ℕ) (a : Pattern p) (b : Recipe t) where
       pub answered :
           (l s : List ℕ) → limit ≤ lent_lines l → 4 * variables * n.lines ≤ length m₀
           → (n.records ≤ lent_records s → 4 * n.records ≤ length q₀)
-          → (a : ListAnswer) (m' q' : List ℕ) → CopiedIf n m q l s a m' q' → Enumerated p t l s a m' q'
+          → (a : Result ℕ Refusal) (m' q' : List ℕ) → CopiedIf n m q l s a m' q' → Enumerated p t l s a m' q'
       unfolding CopiedIf Enumerated
-      answered l s e i j (ListAnswer.Lines k) m' q' z = written_copied l s (fits_room l s e z.1) i (j z.1) k z.0 m' q' z.2
-      answered l s e i j (ListAnswer.Refused c) m' q' z =
+      answered l s e i j (Ok k) m' q' z = written_copied l s (fits_room l s e z.1) i (j z.1) k z.0 m' q' z.2
+      answered l s e i j (Err c) m' q' z =
           (subst (λ (d : Refusal). NoRoom p t l s (number d)) (sym z.0) (no_records l s e z.1).0, z.2, z.3)
 
 -- copying the tables of lines
@@ -273,12 +274,12 @@ module _ (n : Tally) (m q l s w : List ℕ) (x : Copyable n m q l s w) (i j : �
 
   pub copied_lines :
       n.records ≤ lent_records s → (l' s' : List ℕ) → Arranged l₁ s₁ n.lines n.records l' s'
-      → CopiedIf n m q l s (ListAnswer.Lines n.lines) l' s'
+      → CopiedIf n m q l s (Ok n.lines) l' s'
   unfolding CopiedIf
   copied_lines h l' s' z = (refl, h, copied l' s' z)
 
 pub copied_none : (n : Tally) (m q l s : List ℕ) → lent_records s < n.records
-    → CopiedIf n m q l s (ListAnswer.Refused Refusal.ValueRoom) l s
+    → CopiedIf n m q l s (Err Refusal.ValueRoom) l s
 unfolding CopiedIf
 copied_none n m q l s h = (refl, h, refl, refl)
 

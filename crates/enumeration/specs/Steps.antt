@@ -5,6 +5,8 @@
 --   Copyable n m q l s w       the tables m and q begin with those of n's lines, which have room in the tables l and s
 --   Copied ..                  those lines, in order, stand in the tables l and s
 --   CopiedIf ..                so they do, or their values have no room
+use Rattle.std.specs.declared.result.Result.{Result}
+use Rattle.std.specs.declared.result.Result.TheVariants.{Ok, Err}
 use Rattle.std.specs.Prelude.{◌≡◌, List, ℕ, ◌*◌, ◌≤◌, ◌<◌, length}
 use Rattle.terms.specs.Figures.{variables, table_bytes}
 use Rattle.terms.specs.Listing.{Line}
@@ -15,7 +17,6 @@ use Rattle.listing.specs.declared.Tally.{Tally}
 use Rattle.listing.specs.Outcome.{Tables}
 use Rattle.arranging.specs.Arranged.{InLineOrder}
 use Rattle.refusals.specs.declared.Refusal.{Refusal}
-use Rattle.enumeration.specs.declared.ListAnswer.{ListAnswer}
 use Rattle.enumeration.specs.Written.{lent_records}
 
 abbrev pub short_lines : ℕ
@@ -49,6 +50,6 @@ pub record Copied (n : Tally) (m q l s l' s' : List ℕ) : Type 0 where
   pub copied : (ls : List Line) → Tables m q ls → Distinct ls → n.lines ≡ length ls → n.records ≡ values_records ls
       → InLineOrder l s ls l' s'
 
-unfoldable pub CopiedIf : Tally → List ℕ → List ℕ → List ℕ → List ℕ → ListAnswer → List ℕ → List ℕ → Type 0
-CopiedIf n m q l s (ListAnswer.Lines k) l' s' = (k ≡ n.lines) × (n.records ≤ lent_records s) × Copied n m q l s l' s'
-CopiedIf n m q l s (ListAnswer.Refused c) l' s' = (c ≡ Refusal.ValueRoom) × (lent_records s < n.records) × (l' ≡ l) × (s' ≡ s)
+unfoldable pub CopiedIf : Tally → List ℕ → List ℕ → List ℕ → List ℕ → Result ℕ Refusal → List ℕ → List ℕ → Type 0
+CopiedIf n m q l s (Ok k) l' s' = (k ≡ n.lines) × (n.records ≤ lent_records s) × Copied n m q l s l' s'
+CopiedIf n m q l s (Err c) l' s' = (c ≡ Refusal.ValueRoom) × (lent_records s < n.records) × (l' ≡ l) × (s' ≡ s)

@@ -3,6 +3,9 @@
 --   ListingOf p r ls             ls is a full listing of the pattern of the table p and the recipe of the table r
 --   WrittenLines, NoRoom         a full listing is written, or doesn't fit
 --   Enumerated ..                one of the two, by the answer
+use Rattle.std.specs.declared.result.Result.{Result}
+use Rattle.std.specs.declared.result.Result.TheVariants.{Ok, Err}
+use Rattle.refusals.specs.declared.Refusal.{Refusal}
 use Rattle.std.specs.Prelude.{◌≡◌, List, ℕ, ◌*◌, ◌/◌, length}
 use Rattle.terms.specs.Figures.{variables}
 use Rattle.terms.specs.Term.{Term}
@@ -12,7 +15,6 @@ use Rattle.terms.specs.Layout.{line_table, value_table}
 use Rattle.terms.specs.Refusal.{Refused, Passed, listing_rows}
 use Rattle.refusals.specs.Judged.{number}
 use Rattle.refusals.specs.Lent.{overwritten}
-use Rattle.enumeration.specs.declared.ListAnswer.{ListAnswer}
 
 -- "A line is 32 bytes", a record 4
 abbrev pub lent_lines : List ℕ → ℕ
@@ -45,6 +47,6 @@ pub record NoRoom (p r l s : List ℕ) (k : ℕ) : Type 0 where
   pub listing_of : ListingOf p r lines
   pub cause : Refused (listing_rows (lent_lines l) (lent_records s) lines) k
 
-unfoldable pub Enumerated : List ℕ → List ℕ → List ℕ → List ℕ → ListAnswer → List ℕ → List ℕ → Type 0
-Enumerated p r l s (ListAnswer.Lines n) lines_after values_after = WrittenLines p r l s n lines_after values_after
-Enumerated p r l s (ListAnswer.Refused c) lines_after values_after = NoRoom p r l s (number c) × (lines_after ≡ l) × (values_after ≡ s)
+unfoldable pub Enumerated : List ℕ → List ℕ → List ℕ → List ℕ → Result ℕ Refusal → List ℕ → List ℕ → Type 0
+Enumerated p r l s (Ok n) lines_after values_after = WrittenLines p r l s n lines_after values_after
+Enumerated p r l s (Err c) lines_after values_after = NoRoom p r l s (number c) × (lines_after ≡ l) × (values_after ≡ s)

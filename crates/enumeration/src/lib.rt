@@ -23,14 +23,6 @@ use listing::Tally;
 use records::{LINE, RECORD, TABLE_BYTES};
 use reducts::PATTERN_BYTES;
 use refusals::Refusal;
-use sweeping::Length;
-
-// What list answers: the number of lines, or a refusal.
-#[derive(Clone, Copy)]
-pub enum ListAnswer {
-    Lines(usize),
-    Refused(Refusal),
-}
 
 // The bytes of the lines of a short listing, at most 128, and of their values, at most 8,192 records.
 const SHORT_LINES: usize = 128 * LINE;
@@ -65,7 +57,7 @@ fn copy_lines(
     lines: &mut [u8],
     values: &mut [u8],
     work: &mut [u8],
-) -> ListAnswer
+) -> Result<usize, Refusal>
     requires { found.records ≤ lent_records values.old → Copyable found rows.now terms.now lines.old values.old work.old }
     ensures { CopiedIf found rows.now terms.now lines.old values.old result
         lines.new values.new }
@@ -73,14 +65,14 @@ fn copy_lines(
     let count = found.lines;
     let records = found.records;
     if values.len() / RECORD < records {
-        return ListAnswer::Refused(Refusal::ValueRoom);
+        return Err(Refusal::ValueRoom);
     }
     let m = LINE * count;
     let n = RECORD * records;
     copying::copy_into(&rows[0..m], lines, 0);
     copying::copy_into(&terms[0..n], values, 0);
     arranging::arrange(lines, count, values, records, work);
-    ListAnswer::Lines(count)
+    Ok(count)
 }
 
 // Writes the full listing, or refuses if it has no room. Where the search stops at no limit, its tables hold all that has room in those
@@ -92,7 +84,7 @@ fn enumerate_long(
     lines: &mut [u8],
     values: &mut [u8],
     work: &mut [u8],
-) -> ListAnswer
+) -> Result<usize, Refusal>
     requires { ListTables pattern.now recipe.now lines.old values.old work.old }
     ensures { Enumerated pattern.now recipe.now lines.old values.old result
         lines.new values.new }
@@ -109,7 +101,7 @@ fn enumerate_long(
         work,
     );
     if limit < found.lines {
-        return ListAnswer::Refused(Refusal::LineRoom);
+        return Err(Refusal::LineRoom);
     }
     copy_lines(found, &long_lines, &long_values, lines, values, work)
 }
@@ -144,7 +136,7 @@ fn enumerate_short(
     lines: &mut [u8],
     values: &mut [u8],
     work: &mut [u8],
-) -> ListAnswer
+) -> Result<usize, Refusal>
     requires { ListTables pattern.now recipe.now lines.old values.old work.old }
     ensures { Enumerated pattern.now recipe.now lines.old values.old result
         lines.new values.new }
@@ -175,14 +167,13 @@ pub fn enumerate(
     lines: &mut [u8],
     values: &mut [u8],
     work: &mut [u8],
-) -> ListAnswer
+) -> Result<usize, Refusal>
     requires { ListTables pattern.now recipe.now lines.old values.old work.old }
     ensures { Enumerated pattern.now recipe.now lines.old values.old result
         lines.new values.new }
 {
     let mut reduct = [0u8; PATTERN_BYTES];
-    let length = reducts::reduce(pattern, &mut reduct);
-    let Length::Records(n) = length else {
+    let Some(n) = reducts::reduce(pattern, &mut reduct) else {
         return enumerate_short(pattern, recipe, lines, values, work);
     };
     enumerate_short(&reduct[0..n * RECORD], recipe, lines, values, work)

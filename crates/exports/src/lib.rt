@@ -6,23 +6,20 @@
 // on these tables, that -9 is given exactly if list's 9 is due, and that the tables and the work area are left as the operation leaves
 // them. It rests on `matcher`, `rewriting`, `book` and `shelf`; the static library is built from it.
 //
-// The answers are stated by `list_code`, `check_code`, `sweep_code`, `rewrite_code`, `book_code`, `put_code`, `take_out_code`, `read_code` and
-// `count_code`; no two answers of an operation have one number, or, of the book, one number and one number of pairs (`proofs/Codes`), so
-// that these say which it is; and no two numbers meet a promise on the same tables (`proofs/Determined`). The crate stands by itself
-// because a crate is a library or a static library, and not both: `rt lib` in its folder builds the archive.
+// The answers are stated by `count_code`, `check_code`, `change_code` and `book_code`; no two answers of an operation have one number, or,
+// of the book, one number and one number of pairs (`proofs/Codes`), so that these say which it is; and no two numbers meet a promise on the
+// same tables (`proofs/Determined`). The crate stands by itself because a crate is a library or a static library, and not both: `rt lib` in
+// its folder builds the archive.
 
 #![tactic(auto)]
 
 ghost use Rattle.std.specs.Prelude.{◌≡◌};
 ghost use Rattle.refusals.specs.Lent.{cleared};
-ghost use Rattle.exports.specs.Answers.{refusal_code, ListedAs, NineAs, CheckedAs, SweptAs, RewrittenAs, BookedAs};
+ghost use Rattle.exports.specs.Answers.{Counts, refusal_code, count_code, check_code, change_code};
+ghost use Rattle.exports.specs.Answers.{ListedAs, NineAs, CheckedAs, SweptAs, RewrittenAs, BookedAs};
 ghost use Rattle.exports.specs.Answers.{PutAs, TakenOutAs, ReadOutAs, CountedAs};
 
-use book::BookAnswer;
-use enumeration::ListAnswer;
 use refusals::Refusal;
-use rewriting::{CheckAnswer, RewriteAnswer, SweepAnswer};
-use shelf::{CountAnswer, PutAnswer, ReadAnswer, TakeOutAnswer};
 
 // Minus the documents' number of a refusal.
 fn refusal_code(refusal: Refusal) -> i64
@@ -30,6 +27,38 @@ fn refusal_code(refusal: Refusal) -> i64
 {
     let number = refusals::number_of(refusal) as i64;
     -number
+}
+
+// The number of an answer that counts lines, records or changes.
+fn count_code(answer: Result<usize, Refusal>) -> i64
+    requires { Counts answer }
+    ensures { result ≡ count_code answer }
+{
+    match answer {
+        Ok(n) => n as i64,
+        Err(refusal) => refusal_code(refusal),
+    }
+}
+
+// The number of an answer that is yes or no.
+fn check_code(answer: Result<bool, Refusal>) -> i64
+    ensures { result ≡ check_code answer }
+{
+    match answer {
+        Ok(true) => 1,
+        Ok(false) => 0,
+        Err(refusal) => refusal_code(refusal),
+    }
+}
+
+// The number of an answer that says no more than that a shelf was changed.
+fn change_code(answer: Result<(), Refusal>) -> i64
+    ensures { result ≡ change_code answer }
+{
+    match answer {
+        Ok(()) => 1,
+        Err(refusal) => refusal_code(refusal),
+    }
 }
 
 #[unsafe(no_mangle)]
@@ -46,11 +75,7 @@ pub extern "C" fn onestep_list(
         work.old result }
     ensures area { work.new ≡ cleared work.old }
 {
-    let answer = matcher::list(pattern, recipe, lines, values, work);
-    match answer {
-        ListAnswer::Lines(n) => n as i64,
-        ListAnswer::Refused(c) => refusal_code(c),
-    }
+    count_code(matcher::list(pattern, recipe, lines, values, work))
 }
 
 #[unsafe(no_mangle)]
@@ -65,12 +90,7 @@ pub extern "C" fn onestep_check(
         work.old result }
     ensures area { work.new ≡ cleared work.old }
 {
-    let answer = rewriting::check(pattern, recipe, line, values, work);
-    match answer {
-        CheckAnswer::Yes => 1,
-        CheckAnswer::No => 0,
-        CheckAnswer::Refused(c) => refusal_code(c),
-    }
+    check_code(rewriting::check(pattern, recipe, line, values, work))
 }
 
 #[unsafe(no_mangle)]
@@ -85,11 +105,7 @@ pub extern "C" fn onestep_sweep(
         result out.new }
     ensures area { work.new ≡ cleared work.old }
 {
-    let answer = rewriting::sweep(pattern, line, values, out, work);
-    match answer {
-        SweepAnswer::Records(n) => n as i64,
-        SweepAnswer::Refused(c) => refusal_code(c),
-    }
+    count_code(rewriting::sweep(pattern, line, values, out, work))
 }
 
 #[unsafe(no_mangle)]
@@ -106,11 +122,7 @@ pub extern "C" fn onestep_rewrite(
         values.now out.old work.old result out.new }
     ensures area { work.new ≡ cleared work.old }
 {
-    let answer = rewriting::rewrite(left, right, recipe, line, values, out, work);
-    match answer {
-        RewriteAnswer::Records(n) => n as i64,
-        RewriteAnswer::Refused(c) => refusal_code(c),
-    }
+    count_code(rewriting::rewrite(left, right, recipe, line, values, out, work))
 }
 
 #[unsafe(no_mangle)]
@@ -125,13 +137,12 @@ pub extern "C" fn onestep_book(
         out.new pairs.new }
     ensures area { work.new ≡ cleared work.old }
 {
-    let answer = book::apply(book, recipe, out, work);
-    match answer {
-        BookAnswer::Records(n, c) => {
-            *pairs = c as u64;
-            n as i64
+    match book::apply(book, recipe, out, work) {
+        Ok(new) => {
+            *pairs = new.pairs as u64;
+            new.records as i64
         }
-        BookAnswer::Refused(c) => refusal_code(c),
+        Err(refusal) => refusal_code(refusal),
     }
 }
 
@@ -145,22 +156,14 @@ pub extern "C" fn onestep_shelf_put(
     ensures { PutAs buoy recipe.now directory.old table.old result directory.new
         table.new }
 {
-    let answer = shelf::put(buoy, recipe, directory, table);
-    match answer {
-        PutAnswer::Yes => 1,
-        PutAnswer::Refused(c) => refusal_code(c),
-    }
+    change_code(shelf::put(buoy, recipe, directory, table))
 }
 
 #[unsafe(no_mangle)]
 pub extern "C" fn onestep_shelf_take_out(buoy: usize, directory: &mut [u8], table: &mut [u8]) -> i64
     ensures { TakenOutAs buoy directory.old table.old result directory.new table.new }
 {
-    let answer = shelf::take_out(buoy, directory, table);
-    match answer {
-        TakeOutAnswer::Yes => 1,
-        TakeOutAnswer::Refused(c) => refusal_code(c),
-    }
+    change_code(shelf::take_out(buoy, directory, table))
 }
 
 #[unsafe(no_mangle)]
@@ -172,20 +175,12 @@ pub extern "C" fn onestep_shelf_read(
 ) -> i64
     ensures { ReadOutAs buoy directory.now table.now out.old result out.new }
 {
-    let answer = shelf::read(buoy, directory, table, out);
-    match answer {
-        ReadAnswer::Records(n) => n as i64,
-        ReadAnswer::Refused(c) => refusal_code(c),
-    }
+    count_code(shelf::read(buoy, directory, table, out))
 }
 
 #[unsafe(no_mangle)]
 pub extern "C" fn onestep_shelf_count(directory: &[u8]) -> i64
     ensures { CountedAs directory.now result }
 {
-    let answer = shelf::count(directory);
-    match answer {
-        CountAnswer::Count(n) => n as i64,
-        CountAnswer::Refused(c) => refusal_code(c),
-    }
+    count_code(shelf::count(directory))
 }

@@ -4,20 +4,20 @@ use mathlib.Core.Path.{◌≡◌, refl, sym, ap, ◌∙◌, subst}
 use mathlib.Core.Bool.{Bool, true, false}
 use mathlib.Core.List.{List}
 use mathlib.Core.Logic.{inl, inr}
-use Prim.Native.Nat.{ℕ, ◌+◌, ◌*◌, ◌/◌, ◌≤◌, ◌<◌}
+use Prim.Native.Nat.{ℕ, ◌+◌, ◌*◌, ◌<◌}
 use native.Mathlib.Omega.{arith}
 use lib.ListN.{length, drop, length-take}
-use Rattle.terms.specs.Figures.{pattern_records, place_bytes, most_places, table_bytes}
-use Rattle.terms.specs.Refusal.{Passed, recipe_rows}
+use Rattle.std.specs.declared.result.Result.TheVariants.{Ok, Err}
+use Rattle.terms.specs.Figures.{place_bytes, most_places, table_bytes}
+use Rattle.terms.specs.Refusal.{recipe_rows}
 use Rattle.terms.proofs.Substitute.{size_pos}
 use Rattle.terms.proofs.Table.{encode_length}
 use Rattle.terms.proofs.Refusal.{refused_passed}
 use Rattle.records.specs.Tests.{Says}
 use Rattle.records.specs.Checks.{Pattern, Recipe}
 use Rattle.refusals.specs.declared.Refusal.{Refusal}
-use Rattle.refusals.specs.declared.Verdict.{Verdict}
 use Rattle.refusals.specs.Judged.{number, Judged}
-use Rattle.refusals.proofs.Judging.{verdict_refused, verdict_passed, right_known}
+use Rattle.refusals.proofs.Judging.{known, passed, refused}
 use Rattle.rules.specs.Rules.{left_count, left_table, is_empty}
 use Rattle.rules.specs.Steps.{Rule}
 use Rattle.rules.proofs.Places.{empty_left}
@@ -28,11 +28,11 @@ use Rattle.fit_table.specs.Steps.{RuleReady}
 
 -- a table's length
 module _ (f : List ℕ) where
-  pub fit_bad : ¬ (length f ≡ fit_bytes) → Judged (fit_rows f) (length f ≡ fit_bytes) (Verdict.Refused Refusal.Tables)
+  pub fit_bad : ¬ (length f ≡ fit_bytes) → Judged (fit_rows f) (length f ≡ fit_bytes) (Err Refusal.Tables)
   unfolding Judged
   fit_bad h = inl (h, refl)
 
-  pub fit_good : length f ≡ fit_bytes → Judged (fit_rows f) (length f ≡ fit_bytes) Verdict.Right
+  pub fit_good : length f ≡ fit_bytes → Judged (fit_rows f) (length f ≡ fit_bytes) (Ok tt)
   unfolding Judged
   fit_good e = ((λ n. n e, tt), e)
 
@@ -61,24 +61,27 @@ module _ (k r w : List ℕ) (x : RuleReady k r w) (i : ℕ) (h : i < most_places
 
       module _ (a : Bool) (s : Says a (HasMatch l r)) where
         pub rule_yes : a ≡ true → Marks 1 (RuleFits k i r)
-        rule_yes p = inl (refl, (rule_here.left.0, (x.passed, subst (λ (y : List ℕ). HasMatch y r) g (subst (λ (z : Bool). Says z (HasMatch l r)) p s))))
+        rule_yes p = inl (
+          refl,
+          (rule_here.left.0, (x.passed, subst (λ (y : List ℕ). HasMatch y r) g (subst (λ (z : Bool). Says z (HasMatch l r)) p s))),
+        )
 
         pub rule_no : a ≡ false → Marks 0 (RuleFits k i r)
         rule_no p =
             inr (refl, λ y. subst (λ (z : Bool). Says z (HasMatch l r)) p s (subst (λ (z : List ℕ). HasMatch z r) (sym g) y.1.1))
 
 -- what a buoy has
-module _ (p r w : List ℕ) (x : Pattern p) (n : length w ≡ table_bytes) (v : Verdict) (j : Judged (recipe_rows r) (Recipe r) v) where
-  pub held_none : (c : Refusal) → v ≡ Verdict.Refused c → Marks 0 (Fits p r)
-  held_none c e = inr (refl, λ y. refused_passed (recipe_rows r) (number c) (verdict_refused (recipe_rows r) (Recipe r) v j c e) y.0)
+module _ (p r w : List ℕ) (x : Pattern p) (n : length w ≡ table_bytes) where
+  pub held_none : (c : Refusal) → Judged (recipe_rows r) (Recipe r) (Err c) → Marks 0 (Fits p r)
+  held_none c j = inr (refl, λ y. refused_passed (recipe_rows r) (number c) (refused (recipe_rows r) (Recipe r) c j) y.0)
 
-  module _ (e : v ≡ Verdict.Right) where
+  module _ (j : Judged (recipe_rows r) (Recipe r) (Ok tt)) where
     pub held_searchable : Searchable p r w
-    held_searchable = record { pattern = x; recipe = right_known (recipe_rows r) (Recipe r) v j e; area = n }
+    held_searchable = record { pattern = x; recipe = known (recipe_rows r) (Recipe r) j; area = n }
 
     module _ (a : Bool) (s : Says a (HasMatch p r)) where
       pub held_yes : a ≡ true → Marks 1 (Fits p r)
-      held_yes q = inl (refl, (verdict_passed (recipe_rows r) (Recipe r) v j e, subst (λ (z : Bool). Says z (HasMatch p r)) q s))
+      held_yes q = inl (refl, (passed (recipe_rows r) (Recipe r) j, subst (λ (z : Bool). Says z (HasMatch p r)) q s))
 
       pub held_no : a ≡ false → Marks 0 (Fits p r)
       held_no q = inr (refl, λ y. subst (λ (z : Bool). Says z (HasMatch p r)) q s y.1)

@@ -1,14 +1,17 @@
--- A row or a column of the fit table, written entry by entry. An entry is known by its buoy and its place, so that one store changes one
--- entry. Assumes nothing.
+-- A row or a column of the fit table, written entry by entry, and a row written at once. An entry is known by its buoy and its place, so
+-- that one store changes one entry. Assumes nothing.
 --   RowBelow b n W f g      the entries of buoy b at the places below n are written
 --   ColumnBelow i n W f g   the entries of place i of the buoys below n are written
-use mathlib.Core.Path.{◌≡◌, refl, sym, ap, ◌∙◌}
+use mathlib.Core.Path.{◌≡◌, refl, ap, ◌∙◌}
 use mathlib.Core.List.{List}
 use mathlib.Core.Logic.{◌⊎◌, inl, inr, ⊎_elim}
 use Prim.Native.Nat.{ℕ, ◌+◌, ◌*◌, ◌≤◌, ◌<◌}
-use native.Mathlib.Decide.{ℕ_discrete}
+use native.Mathlib.Decide.{ℕ_discrete, dec_lt}
 use native.Mathlib.Omega.{arith}
-use lib.ListN.{length, get_or, set, length-set}
+use lib.ListN.{length, get_or, set, replicate, length-set, length-replicate}
+use borrow.Author.Rules.{rules}
+use borrow.Rule.Slice.PartMut.{put_mid}
+use Rattle.std.proofs.lemmas.List.{places, get_or-replicate}
 use lib.Seq.{get_or-set_same, get_or-set_other}
 use Rattle.terms.specs.Figures.{most_places, buoys}
 use Rattle.fit_table.specs.FitTable.{fit_bytes, entry_at, Marks, Written, RowWritten, ColumnWritten}
@@ -82,6 +85,44 @@ module _ (b : ℕ) (W : ℕ → Type 0) (f : List ℕ) where
   pub row_done : (i : ℕ) (g : List ℕ) → RowBelow b i W f g → most_places ≤ i → RowWritten b W f g
   row_done i g x h =
       all_written (λ c j. (c ≡ b) × (j < i)) (λ c j. c ≡ b) (λ c j. W j) f g (λ c j hc hj o. (o, omega arith)) (λ c j o. o.0) x.written
+
+-- a row that is written at once, as one part of the table
+module _ (f g : List ℕ) (a n : ℕ) (h : a + n ≤ length f) (e : length g ≡ n) where
+  part_length : length (put_mid a n f g) ≡ length f
+  part_length = search (rules, places)
+
+  part_within : (i : ℕ) → i < n → get_or (put_mid a n f g) (a + i) 0 ≡ get_or g i 0
+  part_within i l = grind (arith, places)
+
+  part_before : (k : ℕ) → k < a → get_or (put_mid a n f g) k 0 ≡ get_or f k 0
+  part_before k l = grind (arith, places)
+
+  part_behind : (k : ℕ) → a + n ≤ k → get_or (put_mid a n f g) k 0 ≡ get_or f k 0
+  part_behind k l = grind (arith, places)
+
+pub row_cleared : (b n : ℕ) (f g : List ℕ) → length f ≡ fit_bytes → b < buoys → n ≡ most_places → g ≡ replicate n 0
+    → RowWritten b (λ i. ⊥) f (put_mid (most_places * b) n f g)
+row_cleared b n f g e h m z = record {
+  size = part_length f g (most_places * b) n w k;
+  entries = λ c j hc hj o. inr (zero_at c j hj o, λ x. x);
+  others = λ c j hc hj o. same c j hj o (dec_lt c b);
+}
+  where
+    k : length g ≡ n
+    k = ap length z ∙ length-replicate n 0
+
+    w : most_places * b + n ≤ length f
+    w = omega arith
+
+    zero_at : (c j : ℕ) → j < most_places → c ≡ b → get_or (put_mid (most_places * b) n f g) (entry_at c j) 0 ≡ 0
+    zero_at c j hj o =
+        let j_in : j < n = omega arith in
+        rw o (part_within f g (most_places * b) n w k j j_in ∙ ap (λ (l : List ℕ). get_or l j 0) z ∙ get_or-replicate n j 0 0 j_in)
+
+    same : (c j : ℕ) → j < most_places → ¬ (c ≡ b) → Dec (c < b)
+        → get_or (put_mid (most_places * b) n f g) (entry_at c j) 0 ≡ get_or f (entry_at c j) 0
+    same c j hj o (yes l) = part_before f g (most_places * b) n w k (entry_at c j) (omega arith)
+    same c j hj o (no l) = part_behind f g (most_places * b) n w k (entry_at c j) (omega arith)
 
 -- a column
 pub record ColumnBelow (i n : ℕ) (W : ℕ → Type 0) (f g : List ℕ) : Type 0 where

@@ -16,19 +16,19 @@ ghost use Rattle.fit_table.specs.FitTable.{fit_bytes, fit_rows, Fits, RuleFits, 
 ghost use Rattle.fit_table.specs.Steps.{RuleReady, RowReady, ColumnReady};
 
 use records::{BUOYS, MOST_PLACES};
-use refusals::{Refusal, Verdict};
+use refusals::Refusal;
 
 // The bytes of a fit table.
 pub const FIT_BYTES: usize = MOST_PLACES * BUOYS;
 
 // A fit table: 8.
-pub fn judge_fit_table(fit: &[u8]) -> Verdict
+pub fn judge_fit_table(fit: &[u8]) -> Result<(), Refusal>
     ensures { Judged (fit_rows fit.now) (length fit.now ≡ fit_bytes) result }
 {
     if fit.len() != FIT_BYTES {
-        return Verdict::Refused(Refusal::Tables);
+        return Err(Refusal::Tables);
     }
-    Verdict::Right
+    Ok(())
 }
 
 // The entry of the rule at a place and a recipe.
@@ -50,15 +50,15 @@ fn held_entry(left: &[u8], held: &[u8], work: &mut [u8]) -> u8
     requires { Pattern left.now × (length work.old ≡ table_bytes) }
     ensures { Marks result (Fits left.now held.now) }
 {
-    let verdict = refusals::judge_recipe(held);
-    match verdict {
-        Verdict::Refused(_c) => return 0,
-        Verdict::Right => {}
+    match refusals::judge_recipe(held) {
+        Err(_) => 0,
+        Ok(()) => {
+            if fitting::has_match(left, held, work) {
+                return 1;
+            }
+            0
+        }
     }
-    if fitting::has_match(left, held, work) {
-        return 1;
-    }
-    0
 }
 
 // Writes the row of a buoy that has a recipe.
@@ -66,10 +66,8 @@ pub fn write_row(fit: &mut [u8], buoy: usize, book: &[u8], recipe: &[u8], work: 
     requires { RowReady fit.old buoy book.now recipe.now work.old }
     ensures { RowWritten buoy (λ i. RuleFits book.now i recipe.now) fit.old fit.new }
 {
-    let mut i = 0;
-    while i < MOST_PLACES {
+    for i in 0..MOST_PLACES {
         fit[MOST_PLACES * buoy + i] = rule_entry(book, i, recipe, work);
-        i += 1;
     }
 }
 
@@ -78,11 +76,8 @@ pub fn clear_row(fit: &mut [u8], buoy: usize)
     requires { (length fit.old ≡ fit_bytes) × (buoy < buoys) }
     ensures { RowWritten buoy (λ i. ⊥) fit.old fit.new }
 {
-    let mut i = 0;
-    while i < MOST_PLACES {
-        fit[MOST_PLACES * buoy + i] = 0;
-        i += 1;
-    }
+    let at = MOST_PLACES * buoy;
+    fit[at..at + MOST_PLACES].fill(0);
 }
 
 // Writes the column of a place that has a rule with this left side.
@@ -98,11 +93,9 @@ pub fn write_column(
     ensures { ColumnWritten place (λ b. Fits left.now (recipe_of b directory.now table.now))
         fit.old fit.new }
 {
-    let mut b = 0;
-    while b < BUOYS {
+    for b in 0..BUOYS {
         let held = storage::recipe_of(b, directory, table);
         fit[MOST_PLACES * b + place] = held_entry(left, held, work);
-        b += 1;
     }
 }
 
@@ -111,9 +104,7 @@ pub fn clear_column(fit: &mut [u8], place: usize)
     requires { (length fit.old ≡ fit_bytes) × (place < most_places) }
     ensures { ColumnWritten place (λ b. ⊥) fit.old fit.new }
 {
-    let mut b = 0;
-    while b < BUOYS {
+    for b in 0..BUOYS {
         fit[MOST_PLACES * b + place] = 0;
-        b += 1;
     }
 }

@@ -10,6 +10,8 @@ use native.Mathlib.Omega.{arith}
 use lib.Dec.{ltb}
 use lib.ListN.{length, take, drop}
 use borrow.Author.Tests.{ltb-true, ltb-false}
+use Rattle.std.specs.declared.option.Option.{Option}
+use Rattle.std.specs.declared.option.Option.TheVariants.{Some}
 use Rattle.terms.specs.Figures.{variables}
 use Rattle.terms.specs.Term.{Term}
 use Rattle.terms.specs.Sweep.{sweep}
@@ -28,8 +30,6 @@ use Rattle.records.specs.Checks.{Pattern, Recipe}
 use Rattle.listing.specs.declared.Tally.{Tally}
 use Rattle.listing.specs.Outcome.{Outcome, none_found, outcome}
 use Rattle.listing.proofs.Stores.{stores_count}
-use Rattle.sweeping.specs.declared.Length.{Length}
-use Rattle.sweeping.specs.declared.Length.TheVariants.{Records}
 use Rattle.reducts.specs.Reduced.{pattern_bytes, Reduces}
 use Rattle.reducts.proofs.Reducts.{reduct_pattern, reduct_table}
 use Rattle.search.specs.Collected.{Tallied, Collected}
@@ -104,7 +104,7 @@ module _ (p t : List ℕ) (a : Pattern p) (b : Recipe t) where
             )
 
 -- the reduct has the pattern's matches
-module _ (p : List ℕ) (a : Pattern p) (before after : List ℕ) (r : Length) (n : ℕ) (w : Reduces p before r after) (e : r ≡ Records n)
+module _ (p : List ℕ) (a : Pattern p) (before after : List ℕ) (r : Option ℕ) (n : ℕ) (w : Reduces p before r after) (e : r ≡ Some n)
     (h : length before ≡ pattern_bytes) where
   abbrev q : List ℕ
   q = take (n * 4 - 0) (drop 0 after)

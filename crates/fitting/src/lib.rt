@@ -17,7 +17,6 @@ ghost use Rattle.fitting.specs.Steps.{Searchable, Excluded};
 
 use records::RECORD;
 use reducts::PATTERN_BYTES;
-use sweeping::Length;
 
 // Whether the heads of the pattern and the recipe exclude a match.
 #[tactic(auto, using(crate::proofs::Heads::excluded))]
@@ -52,8 +51,7 @@ pub fn has_match(pattern: &[u8], recipe: &[u8], work: &mut [u8]) -> bool
         return false;
     }
     let mut reduct = [0u8; PATTERN_BYTES];
-    let length = reducts::reduce(pattern, &mut reduct);
-    let Length::Records(n) = length else {
+    let Some(n) = reducts::reduce(pattern, &mut reduct) else {
         return find_line(pattern, recipe, work);
     };
     find_line(&reduct[0..n * RECORD], recipe, work)

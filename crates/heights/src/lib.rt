@@ -89,11 +89,8 @@ pub fn heights_into(s: &[u8], out: &mut [u8; VALUE_RECORDS])
     let mut row = [0u8; VALUE_RECORDS];
     let mut first = VALUE_RECORDS;
     let mut next = 0;
-    let mut i = s.len() / RECORD;
-    while 0 < i {
-        i -= 1;
-        let at = RECORD * i;
-        let front = height_at(s, at, next, &row, first);
+    for i in (0..s.len() / RECORD).rev() {
+        let front = height_at(s, RECORD * i, next, &row, first);
         first = front.first;
         next = front.height;
         row[first] = next;

@@ -19,8 +19,7 @@ module _ (cs : List Call) (ns : List ℕ) (b n : ℕ) (within : b < length ns)
   one_more : (k : ℕ) → k < length ns → total (take (suc k) (set ns b n)) ≡ total (take k (set ns b n)) + get_or (set ns b n) k 0
   one_more k h =
       ap (λ (j : ℕ). total (take j (set ns b n))) (sym (add-one k))
-      ∙ sym (total_more (set ns b n) k (suc k) (total (take k (set ns b n))) (get_or (set ns b n) k 0)
-      (omega (arith, length-set ns b n)) (omega arith) refl refl)
+      ∙ sym (total_more (set ns b n) k (total (take k (set ns b n))) (get_or (set ns b n) k 0) (omega (arith, length-set ns b n)) refl refl)
 
   others_own : others b cs (suc b) ≡ others b cs b
   others_own =

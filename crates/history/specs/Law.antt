@@ -11,23 +11,22 @@
 --   Step c d t d' t'    the contract of c's operation, lent the directory d and the record table t and leaving d' and t'
 --   Run cs d t          the calls cs were made one after the other from a new shelf, and left the directory d and the record table t
 --   Law                 each call of a run is answered right
-use Rattle.std.specs.Prelude.{◌≡◌, cond, List, [], ◌∷◌, ◌++◌, ◌⊎◌, ℕ, zero, suc, ◌+◌, ◌*◌, ◌/◌, ◌≤◌, ◌<◌, min, eqb, length, replicate}
+use Rattle.std.specs.Prelude.{⊤, ◌≡◌, cond, List, [], ◌∷◌, ◌++◌, ◌⊎◌, ℕ, zero, suc, ◌+◌, ◌*◌, ◌/◌, ◌≤◌, ◌<◌, min, eqb, length, replicate}
+use Rattle.std.specs.declared.result.Result.{Result}
+use Rattle.std.specs.declared.result.Result.TheVariants.{Ok, Err}
+use Rattle.refusals.specs.declared.Refusal.{Refusal}
 use Rattle.terms.specs.Figures.{buoys, shelf_records, ceiling}
 use Rattle.terms.specs.Refusal.{Row, Refused, Passed, recipe_rows, output_table_rows}
 use Rattle.refusals.specs.Judged.{number}
 use Rattle.refusals.specs.Lent.{overwritten}
 use Rattle.storage.specs.Storage.{directory_bytes}
-use Rattle.shelf.specs.declared.PutAnswer.{PutAnswer}
-use Rattle.shelf.specs.declared.TakeOutAnswer.{TakeOutAnswer}
-use Rattle.shelf.specs.declared.ReadAnswer.{ReadAnswer}
-use Rattle.shelf.specs.declared.CountAnswer.{CountAnswer}
 use Rattle.shelf.specs.Operations.{Put, TakenOut, ReadOut, Counted}
 
 pub data Call : Type 0 where
-  put : ℕ → List ℕ → PutAnswer → Call
-  take_out : ℕ → TakeOutAnswer → Call
-  read : ℕ → List ℕ → ReadAnswer → List ℕ → Call
-  count : CountAnswer → Call
+  put : ℕ → List ℕ → Result ⊤ Refusal → Call
+  take_out : ℕ → Result ⊤ Refusal → Call
+  read : ℕ → List ℕ → Result ℕ Refusal → List ℕ → Call
+  count : Result ℕ Refusal → Call
 
 pub record State : Type 0 where
   pub recipes : ℕ → List ℕ
@@ -42,10 +41,10 @@ changed b r s = record { recipes = λ k. cond (eqb b k) r (s.recipes k); changes
 
 -- one call more; "A count of puts and take-outs done": one that is refused, or that reads or counts, changes nothing
 abbrev pub next : Call → State → State
-next (put b r PutAnswer.Yes) s = changed b r s
-next (put b r (PutAnswer.Refused c)) s = s
-next (take_out b TakeOutAnswer.Yes) s = changed b [] s
-next (take_out b (TakeOutAnswer.Refused c)) s = s
+next (put b r (Ok tt)) s = changed b r s
+next (put b r (Err c)) s = s
+next (take_out b (Ok tt)) s = changed b [] s
+next (take_out b (Err c)) s = s
 next (read b o a o') s = s
 next (count a) s = s
 
@@ -74,15 +73,15 @@ abbrev pub read_causes : List Call → ℕ → List ℕ → List Row
 read_causes cs b o = take_out_causes cs b ++ (output_table_rows o ++ ((13, length o < length (latest b cs)) ∷ []))
 
 unfoldable pub Right : List Call → Call → Type 0
-Right cs (put b r PutAnswer.Yes) = Passed (put_causes cs b r)
-Right cs (put b r (PutAnswer.Refused c)) = Refused (put_causes cs b r) (number c)
-Right cs (take_out b TakeOutAnswer.Yes) = Passed (take_out_causes cs b)
-Right cs (take_out b (TakeOutAnswer.Refused c)) = Refused (take_out_causes cs b) (number c)
-Right cs (read b o (ReadAnswer.Records n) o') =
+Right cs (put b r (Ok tt)) = Passed (put_causes cs b r)
+Right cs (put b r (Err c)) = Refused (put_causes cs b r) (number c)
+Right cs (take_out b (Ok tt)) = Passed (take_out_causes cs b)
+Right cs (take_out b (Err c)) = Refused (take_out_causes cs b) (number c)
+Right cs (read b o (Ok n) o') =
     Passed (read_causes cs b o) × (length (latest b cs) ≡ 4 * n) × (o' ≡ overwritten (latest b cs) o)
-Right cs (read b o (ReadAnswer.Refused c) o') = Refused (read_causes cs b o) (number c) × (o' ≡ o)
-Right cs (count (CountAnswer.Count n)) = n ≡ min (after cs).changes ceiling
-Right cs (count (CountAnswer.Refused c)) = ⊥
+Right cs (read b o (Err c) o') = Refused (read_causes cs b o) (number c) × (o' ≡ o)
+Right cs (count (Ok n)) = n ≡ min (after cs).changes ceiling
+Right cs (count (Err c)) = ⊥
 
 pub record New (d t : List ℕ) : Type 0 where
   pub directory : d ≡ replicate directory_bytes 0

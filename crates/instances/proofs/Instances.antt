@@ -1,28 +1,30 @@
 -- A part compared with another that has a term put for a local: what each kind of first record gives. By the kind of the first part, which
 -- the second shares unless the local stands there; what was put there is the argument shifted. Assumes nothing.
-use mathlib.Core.Path.{◌≡◌, refl, sym, ap, ap₂, ◌∙◌, subst}
+use mathlib.Core.Path.{◌≡◌, refl, sym, ap, ap₂, ◌∙◌}
+use mathlib.Core.Bool.{Bool, true, false}
 use mathlib.Core.List.{List}
 use Prim.Native.Nat.{ℕ, suc, ◌+◌, ◌≤◌, ◌<◌}
 use native.Mathlib.Omega.{arith}
 use native.Mathlib.Numerals.{add-one}
 use native.Mathlib.Decide.{dec_lt}
+use lib.Dec.{eqb}
 use lib.ListN.{length, get_or}
+use borrow.Author.Tests.{eqb-true, eqb-false}
+use Rattle.std.specs.Bool.{then_some}
+use Rattle.std.specs.declared.option.Option.{Option}
+use Rattle.std.specs.declared.option.Option.TheVariants.{Some, None}
 use Rattle.terms.specs.Figures.{table_bytes}
 use Rattle.terms.specs.Term.{Term, app, lam, loc, con, var, unshift, substitute}
 use Rattle.terms.proofs.Table.{kind, number_of, app_inj, lam_inj}
 use Rattle.terms.proofs.Substitute.{substitute_here, substitute_low, substitute_high}
-use Rattle.records.specs.declared.Walk.{Walk}
-use Rattle.records.specs.declared.Walk.TheVariants as walk
 use Rattle.records.specs.Record.{number_at}
 use Rattle.records.specs.Parts.{slice, Part, Whole, Ends}
 use Rattle.records.proofs.Parts.{whole, kind_at, number_at_lem}
 use Rattle.records.proofs.Slices.{slice_length}
 use Rattle.substitution.proofs.Writers.{Other, local_at}
 use Rattle.instances.specs.declared.Places.{Places}
-use Rattle.instances.specs.declared.Pairing.{Pairing}
-use Rattle.instances.specs.declared.Pairing.TheVariants.{Upto, No}
 use Rattle.shifting.specs.Tests.{Shifted, PartsCompared}
-use Rattle.instances.specs.Instances.{NearBoth, both_further, Substitutes, Replaced, Substituted}
+use Rattle.instances.specs.Instances.{behind, Substitutes, Replaced, Substituted}
 use Rattle.shifting.proofs.Slices.{application_slices, abstraction_slices, slices_argument, slices_app, slices_lam, slices_leaf}
 use Rattle.shifting.proofs.Tests.{same_first, compared_ends, compared_yes, compared_no}
 use Rattle.shifting.proofs.Lowering.{unshifted_low, unshifted_high}
@@ -50,13 +52,10 @@ local_substitute n k y h = go (dec_lt n k)
     go (yes l) = substitute_low n k y l ∙ unshifted_low n k 1 l
     go (no l) = substitute_high n k y (omega arith) ∙ unshifted_high n k 1 (omega arith)
 
--- a walk that came to both ends, begun further on
-module _ (n m : ℕ) (p : Places) (w : Pairing) (e : w ≡ Upto p) where
-  pub near_both : NearBoth n m w → (n + p.first ≤ table_bytes) × (m + p.second ≤ table_bytes)
-  near_both x = let y : NearBoth n m (Upto p) = subst (NearBoth n m) e x in y
-
-  pub both_further_upto : Upto (record { first = n + p.first; second = m + p.second }) ≡ both_further n m w
-  both_further_upto = sym (ap (both_further n m) e)
+-- a walk over two parts that began further on
+abbrev pub walk_behind : ℕ → ℕ → Option Places → Option Places
+walk_behind n m (Some p) = Some (behind n m p)
+walk_behind n m None = None
 
 -- what a walk came to
 pub record WalkReached (b : List ℕ) (k : ℕ) (e t : List ℕ) (p : Places) : Type 0 where
@@ -64,30 +63,26 @@ pub record WalkReached (b : List ℕ) (k : ℕ) (e t : List ℕ) (p : Places) : 
   pub target_ends : Ends t 0 p.second
   pub replaced : (x y z : Term) → Part b 0 x → Part e 0 y → Part t 0 z → Replaced k x y z
 
-pub walk_reached : (b : List ℕ) (k : ℕ) (e t : List ℕ) (p : Places) (r : Pairing) → r ≡ Upto p → Substituted b k e t r
-    → WalkReached b k e t p
+pub walk_reached : (b : List ℕ) (k : ℕ) (e t : List ℕ) (p : Places) → Substituted b k e t (Some p) → WalkReached b k e t p
 unfolding Substituted
-walk_reached b k e t p r i q =
-    let m : Substituted b k e t (Upto p) = subst (Substituted b k e t) i q in
-    record { body_ends = m.0; target_ends = m.1; replaced = m.2 }
+walk_reached b k e t p m = record { body_ends = m.0; target_ends = m.1; replaced = m.2 }
 
-pub refused : (b : List ℕ) (k : ℕ) (e t : List ℕ) (r : Pairing) → r ≡ No → Substituted b k e t r → (x y z : Term) → Part b 0 x
-    → Part e 0 y → Part t 0 z → ¬ Replaced k x y z
+pub refused : (b : List ℕ) (k : ℕ) (e t : List ℕ) → Substituted b k e t None → (x y z : Term) → Part b 0 x → Part e 0 y → Part t 0 z
+    → ¬ Replaced k x y z
 unfolding Substituted
-refused b k e t r i q = let m : Substituted b k e t No = subst (Substituted b k e t) i q in m
+refused b k e t m = m
 
--- a walk further on in two parts comes to bytes that a number can say
-pub substituted_near : (b : List ℕ) (k : ℕ) (e t : List ℕ) (n m j : ℕ) (r : Pairing) → Substitutes b k e t
-    → Substituted (slice b n) j e (slice t m) r → NearBoth n m r
+-- a walk further on in two parts ends within a table
+pub substituted_near : (b : List ℕ) (k : ℕ) (e t : List ℕ) (n m j : ℕ) (p : Places) → Substitutes b k e t
+    → Substituted (slice b n) j e (slice t m) (Some p) → (n + p.first ≤ table_bytes) × (m + p.second ≤ table_bytes)
 unfolding Substituted
-substituted_near b k e t n m j (Upto p) x q = (
+substituted_near b k e t n m j p x q = (
   omega (arith, x.shallow, q.0.more, q.0.within, slice_length b n),
   omega (arith, x.most, q.1.more, q.1.within, slice_length t m),
 )
-substituted_near b k e t n m j No x q = tt
 
 module _ (b : List ℕ) (k : ℕ) (e t : List ℕ) where
-  pub substituted_kinds : ¬ (get_or b 0 0 ≡ 2) → ¬ (get_or b 0 0 ≡ get_or t 0 0) → Substituted b k e t No
+  pub substituted_kinds : ¬ (get_or b 0 0 ≡ 2) → ¬ (get_or b 0 0 ≡ get_or t 0 0) → Substituted b k e t None
   unfolding Substituted
   substituted_kinds m n = λ x y z p q s i.
       n (kind_at b 0 x p ∙ sym (kind_substitute k y x (λ j. m (kind_at b 0 x p ∙ j))) ∙ ap kind (sym i) ∙ sym (kind_at t 0 z s))
@@ -101,30 +96,30 @@ module _ (b : List ℕ) (k : ℕ) (e t : List ℕ) where
     ends_local a = slices_leaf b (λ q. omega arith) (λ q. omega arith) a
 
     module _ (h : n ≡ k) where
-      pub substituted_copy : (j : ℕ) (r : Walk) → Whole b 0 → r ≡ walk.Upto j → PartsCompared t e (Shifted k 0) r
-          → Substituted b k e t (Upto (record { first = 4; second = j }))
+      pub substituted_copy : (j : ℕ) → Whole b 0 → PartsCompared t e (Shifted k 0) (Some j)
+          → Substituted b k e t (Some (record { first = 4; second = j }))
       unfolding Substituted
-      substituted_copy j r a u q = (
+      substituted_copy j a q = (
         ends_local a,
-        compared_ends t e (Shifted k 0) j r u q,
-        λ x y z p s v. compared_yes t e (Shifted k 0) r q z y v s j u ∙ sym (ap (substitute k y) (at_local x p) ∙ substitute_here k y n h),
+        compared_ends t e (Shifted k 0) j q,
+        λ x y z p s v. compared_yes t e (Shifted k 0) z y v s j q ∙ sym (ap (substitute k y) (at_local x p) ∙ substitute_here k y n h),
       )
 
-      pub substituted_copy_no : (r : Walk) → r ≡ walk.No → PartsCompared t e (Shifted k 0) r → Substituted b k e t No
+      pub substituted_copy_no : PartsCompared t e (Shifted k 0) None → Substituted b k e t None
       unfolding Substituted
-      substituted_copy_no r u q = λ x y z p s v g.
-          compared_no t e (Shifted k 0) r q z y v s u (g ∙ ap (substitute k y) (at_local x p) ∙ substitute_here k y n h)
+      substituted_copy_no q = λ x y z p s v g.
+          compared_no t e (Shifted k 0) z y v s q (g ∙ ap (substitute k y) (at_local x p) ∙ substitute_here k y n h)
 
     module _ (h : ¬ (n ≡ k)) (m : ℕ) (f : loc m ≡ unshift 1 k (loc n)) where
       other_local : (x y : Term) → Part b 0 x → substitute k y x ≡ loc m
       other_local x y p = ap (substitute k y) (at_local x p) ∙ local_substitute n k y h ∙ sym f
 
-      pub substituted_local_kind : ¬ (get_or t 0 0 ≡ 2) → Substituted b k e t No
+      pub substituted_local_kind : ¬ (get_or t 0 0 ≡ 2) → Substituted b k e t None
       unfolding Substituted
       substituted_local_kind o = λ x y z p s v g. o (kind_at t 0 z v ∙ ap kind (g ∙ other_local x y p))
 
-      pub substituted_local : (j : ℕ) → Whole b 0 → Whole t 0 → get_or t 0 0 ≡ 2 → j ≡ number_at t 0 → j ≡ m
-          → Substituted b k e t (Upto (record { first = 4; second = 4 }))
+      substituted_local : (j : ℕ) → Whole b 0 → Whole t 0 → get_or t 0 0 ≡ 2 → j ≡ number_at t 0 → j ≡ m
+          → Substituted b k e t (Some (record { first = 4; second = 4 }))
       unfolding Substituted
       substituted_local j a c o u q = (
         ends_local a,
@@ -132,9 +127,17 @@ module _ (b : List ℕ) (k : ℕ) (e t : List ℕ) where
         λ x y z p s v. local_at t 0 j z v o u ∙ ap loc q ∙ sym (other_local x y p),
       )
 
-      pub substituted_local_no : (j : ℕ) → get_or t 0 0 ≡ 2 → j ≡ number_at t 0 → ¬ (j ≡ m) → Substituted b k e t No
+      substituted_local_no : (j : ℕ) → get_or t 0 0 ≡ 2 → j ≡ number_at t 0 → ¬ (j ≡ m) → Substituted b k e t None
       unfolding Substituted
       substituted_local_no j o u q = λ x y z p s v g. q (ap number_of (sym (local_at t 0 j z v o u) ∙ g ∙ other_local x y p))
+
+      pub substituted_local_says : (j : ℕ) → Whole b 0 → Whole t 0 → get_or t 0 0 ≡ 2 → j ≡ number_at t 0
+          → Substituted b k e t (then_some (eqb j m) (record { first = 4; second = 4 }))
+      substituted_local_says j a c o u = go (eqb j m) refl
+        where
+          go : (x : Bool) → eqb j m ≡ x → Substituted b k e t (then_some x (record { first = 4; second = 4 }))
+          go true q = substituted_local j a c o u (eqb-true j m q)
+          go false q = substituted_local_no j o u (eqb-false j m q)
 
   module _ (c : get_or b 0 0 ≡ get_or t 0 0) where
     module _ (w : get_or b 0 0 ≡ 0) where
@@ -150,9 +153,9 @@ module _ (b : List ℕ) (k : ℕ) (e t : List ℕ) where
             shallow = omega (arith, x.shallow, slice_length b 4);
           }
 
-      module _ (p : Places) (r : Pairing) (i : r ≡ Upto p) (q : Substituted (slice b 4) k e (slice t 4) r) where
+      module _ (p : Places) (q : Substituted (slice b 4) k e (slice t 4) (Some p)) where
         come : WalkReached (slice b 4) k e (slice t 4) p
-        come = walk_reached (slice b 4) k e (slice t 4) p r i q
+        come = walk_reached (slice b 4) k e (slice t 4) p q
 
         pub substitutes_argument : Substitutes b k e t → Substitutes (slice b (4 + p.first)) k e (slice t (4 + p.second))
         substitutes_argument x =
@@ -174,39 +177,35 @@ module _ (b : List ℕ) (k : ℕ) (e t : List ℕ) where
               omega (arith, y.target.least, slice_length t (4 + p.second)),
             )
 
-        pub substituted_app : (o a : Pairing) → a ≡ both_further (4 + p.first) (4 + p.second) o
-            → Substituted (slice b (4 + p.first)) k e (slice t (4 + p.second)) o → Substituted b k e t a
+        pub substituted_app : (o : Option Places) → Substituted (slice b (4 + p.first)) k e (slice t (4 + p.second)) o
+            → Substituted b k e t (walk_behind (4 + p.first) (4 + p.second) o)
         unfolding Substituted
-        substituted_app o a d s = subst (Substituted b k e t) (sym d) (go o s)
-          where
-            go : (o : Pairing) → Substituted (slice b (4 + p.first)) k e (slice t (4 + p.second)) o
-                → Substituted b k e t (both_further (4 + p.first) (4 + p.second) o)
-            go (Upto j) m = (
-              slices_app b p.first j.first w come.body_ends m.0,
-              slices_app t p.second j.second (sym c ∙ w) come.target_ends m.1,
-              λ x y z f s g.
-                  let u = application_slices b x f w in
-                  let v = application_slices t z g (sym c ∙ w) in
-                  v.is
-                  ∙ ap₂ app (come.replaced u.f y v.f u.head s v.head)
-                  (m.2 u.a y v.a (slices_argument b p.first x come.body_ends u) s
-                  (slices_argument t p.second z come.target_ends v))
-                  ∙ ap (substitute k y) (sym u.is),
-            )
-            go No m = λ x y z f s g h.
-                let u = application_slices b x f w in
-                let v = application_slices t z g (sym c ∙ w) in
-                m u.a y v.a (slices_argument b p.first x come.body_ends u) s
-                (slices_argument t p.second z come.target_ends v)
-                (app_inj v.f v.a (substitute k y u.f) (substitute k y u.a)
-                (sym v.is ∙ h ∙ ap (substitute k y) u.is)).1
+        substituted_app (Some j) m = (
+          slices_app b p.first j.first w come.body_ends m.0,
+          slices_app t p.second j.second (sym c ∙ w) come.target_ends m.1,
+          λ x y z f s g.
+              let u = application_slices b x f w in
+              let v = application_slices t z g (sym c ∙ w) in
+              v.is
+              ∙ ap₂ app (come.replaced u.f y v.f u.head s v.head)
+              (m.2 u.a y v.a (slices_argument b p.first x come.body_ends u) s
+              (slices_argument t p.second z come.target_ends v))
+              ∙ ap (substitute k y) (sym u.is),
+        )
+        substituted_app None m = λ x y z f s g h.
+            let u = application_slices b x f w in
+            let v = application_slices t z g (sym c ∙ w) in
+            m u.a y v.a (slices_argument b p.first x come.body_ends u) s
+            (slices_argument t p.second z come.target_ends v)
+            (app_inj v.f v.a (substitute k y u.f) (substitute k y u.a)
+            (sym v.is ∙ h ∙ ap (substitute k y) u.is)).1
 
-      pub substituted_stop : (r : Pairing) → r ≡ No → Substituted (slice b 4) k e (slice t 4) r → Substituted b k e t No
+      pub substituted_stop : Substituted (slice b 4) k e (slice t 4) None → Substituted b k e t None
       unfolding Substituted
-      substituted_stop r i q = λ x y z f s g h.
+      substituted_stop q = λ x y z f s g h.
           let u = application_slices b x f w in
           let v = application_slices t z g (sym c ∙ w) in
-          refused (slice b 4) k e (slice t 4) r i q u.f y v.f u.head s v.head
+          refused (slice b 4) k e (slice t 4) q u.f y v.f u.head s v.head
           (app_inj v.f v.a (substitute k y u.f) (substitute k y u.a) (sym v.is ∙ h ∙ ap (substitute k y) u.is)).0
 
     module _ (w : get_or b 0 0 ≡ 1) where
@@ -222,33 +221,29 @@ module _ (b : List ℕ) (k : ℕ) (e t : List ℕ) where
             shallow = omega (arith, x.shallow, x.body.least, slice_length b 4);
           }
 
-      pub substituted_lam : (o a : Pairing) → a ≡ both_further 4 4 o → Substituted (slice b 4) (k + 1) e (slice t 4) o
-          → Substituted b k e t a
+      pub substituted_lam : (o : Option Places) → Substituted (slice b 4) (k + 1) e (slice t 4) o → Substituted b k e t (walk_behind 4 4 o)
       unfolding Substituted
-      substituted_lam o a d s = subst (Substituted b k e t) (sym d) (go o s)
-        where
-          go : (o : Pairing) → Substituted (slice b 4) (k + 1) e (slice t 4) o → Substituted b k e t (both_further 4 4 o)
-          go (Upto j) q = (
-            slices_lam b j.first w q.0,
-            slices_lam t j.second (sym c ∙ w) q.1,
-            λ x y z f s g.
-                let u = abstraction_slices b x f w in
-                let v = abstraction_slices t z g (sym c ∙ w) in
-                v.is ∙ ap lam (q.2 u.b y v.b u.body s v.body ∙ ap (λ (i : ℕ). substitute i y u.b) (add-one k))
-                ∙ ap (substitute k y) (sym u.is),
-          )
-          go No q = λ x y z f s g h.
-              let u = abstraction_slices b x f w in
-              let v = abstraction_slices t z g (sym c ∙ w) in
-              q u.b y v.b u.body s v.body
-              (lam_inj v.b (substitute (suc k) y u.b) (sym v.is ∙ h ∙ ap (substitute k y) u.is)
-              ∙ ap (λ (i : ℕ). substitute i y u.b) (sym (add-one k)))
+      substituted_lam (Some j) q = (
+        slices_lam b j.first w q.0,
+        slices_lam t j.second (sym c ∙ w) q.1,
+        λ x y z f s g.
+            let u = abstraction_slices b x f w in
+            let v = abstraction_slices t z g (sym c ∙ w) in
+            v.is ∙ ap lam (q.2 u.b y v.b u.body s v.body ∙ ap (λ (i : ℕ). substitute i y u.b) (add-one k))
+            ∙ ap (substitute k y) (sym u.is),
+      )
+      substituted_lam None q = λ x y z f s g h.
+          let u = abstraction_slices b x f w in
+          let v = abstraction_slices t z g (sym c ∙ w) in
+          q u.b y v.b u.body s v.body
+          (lam_inj v.b (substitute (suc k) y u.b) (sym v.is ∙ h ∙ ap (substitute k y) u.is)
+          ∙ ap (λ (i : ℕ). substitute i y u.b) (sym (add-one k)))
 
     module _ (n m : ℕ) (i : n ≡ number_at b 0) (j : m ≡ number_at t 0) (o : Other b 0) where
       above : (x : Term) → Part b 0 x → 2 < kind x
       above x p = omega (arith, kind_at b 0 x p, o.no_application, o.no_abstraction, o.no_local)
 
-      pub substituted_other : Whole b 0 → Whole t 0 → n ≡ m → Substituted b k e t (Upto (record { first = 4; second = 4 }))
+      substituted_other : Whole b 0 → Whole t 0 → n ≡ m → Substituted b k e t (Some (record { first = 4; second = 4 }))
       unfolding Substituted
       substituted_other a d h = (
         slices_leaf b o.no_application o.no_abstraction a,
@@ -259,7 +254,15 @@ module _ (b : List ℕ) (k : ℕ) (e t : List ℕ) where
             sym (same_first x z (above x p) f g) ∙ sym (other_substitute k y x (above x p)),
       )
 
-      pub substituted_other_no : ¬ (n ≡ m) → Substituted b k e t No
+      substituted_other_no : ¬ (n ≡ m) → Substituted b k e t None
       unfolding Substituted
       substituted_other_no h = λ x y z p s v g.
           h (i ∙ number_at_lem b 0 x p ∙ ap number_of (sym (g ∙ other_substitute k y x (above x p))) ∙ sym (number_at_lem t 0 z v) ∙ sym j)
+
+      pub substituted_other_says : Whole b 0 → Whole t 0
+          → Substituted b k e t (then_some (eqb n m) (record { first = 4; second = 4 }))
+      substituted_other_says a d = go (eqb n m) refl
+        where
+          go : (x : Bool) → eqb n m ≡ x → Substituted b k e t (then_some x (record { first = 4; second = 4 }))
+          go true q = substituted_other a d (eqb-true n m q)
+          go false q = substituted_other_no (eqb-false n m q)

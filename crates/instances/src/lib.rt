@@ -6,11 +6,12 @@
 
 #![tactic(auto)]
 
-ghost use Rattle.std.specs.Prelude.{◌≡◌, get_or};
+ghost use Rattle.std.specs.Prelude.{◌≡◌, ◌+◌, ◌≤◌, get_or};
+ghost use Rattle.terms.specs.Figures.{table_bytes};
 ghost use Rattle.terms.specs.Table.{local_kind};
-ghost use Rattle.instances.specs.Instances.{both_further, NearBoth, Substitutes, Substituted};
+ghost use Rattle.instances.specs.Instances.{behind, Substitutes, Substituted};
 
-use records::{Kind, RECORD, Walk};
+use records::{Kind, RECORD};
 
 // How many bytes two parts take.
 #[derive(Clone, Copy)]
@@ -19,59 +20,48 @@ pub struct Places {
     pub second: usize,
 }
 
-// How a walk over two parts ends: behind both, or where they differ.
-#[derive(Clone, Copy)]
-pub enum Pairing {
-    Upto(Places),
-    No,
-}
+impl Places {
+    // One record of each.
+    pub const RECORDS: Places = Places {
+        first: RECORD,
+        second: RECORD,
+    };
 
-// What a walk over two parts answers that began n bytes further on in the first and m in the second, told from here.
-pub fn both_further(pairing: Pairing, n: usize, m: usize) -> Pairing
-    requires { NearBoth n m pairing }
-    ensures { result ≡ both_further n m pairing }
-{
-    match pairing {
-        Pairing::Upto(p) => Pairing::Upto(Places {
-            first: n + p.first,
-            second: m + p.second,
-        }),
-        Pairing::No => Pairing::No,
+    // As many bytes, behind n of the first part and m of the second.
+    pub fn behind(self, n: usize, m: usize) -> Places
+        requires { (n + self.first ≤ table_bytes) × (m + self.second ≤ table_bytes) }
+        ensures { result ≡ behind n m self }
+    {
+        Places {
+            first: n + self.first,
+            second: m + self.second,
+        }
     }
 }
 
 // Whether the part that t begins with is the local that b begins with, with the part that e begins with put for local k.
-fn is_substituted_local(b: &[u8], k: usize, e: &[u8], t: &[u8]) -> Pairing
+fn is_substituted_local(b: &[u8], k: usize, e: &[u8], t: &[u8]) -> Option<Places>
     requires { Substitutes b.now k e.now t.now × (get_or b.now 0 0 ≡ local_kind) }
     ensures { Substituted b.now k e.now t.now result }
 {
     let n = records::number_at(b, 0);
     if n == k {
-        let copy = shifting::is_shifted(t, e, 0, k);
-        let Walk::Upto(h) = copy else {
-            return Pairing::No;
-        };
-        return Pairing::Upto(Places {
+        let second = shifting::is_shifted(t, e, 0, k)?;
+        return Some(Places {
             first: RECORD,
-            second: h,
+            second,
         });
     }
     let m = shifting::unshifted(n, k, 1);
     if t[0] != Kind::LOCAL.code {
-        return Pairing::No;
+        return None;
     }
-    if records::number_at(t, 0) == m {
-        return Pairing::Upto(Places {
-            first: RECORD,
-            second: RECORD,
-        });
-    }
-    Pairing::No
+    (records::number_at(t, 0) == m).then_some(Places::RECORDS)
 }
 
 // Whether the part that t begins with is the part that b begins with, with the part that e begins with put for local k. It goes over the
 // first two together, and over the argument at each use of the local.
-pub fn is_substituted(b: &[u8], k: usize, e: &[u8], t: &[u8]) -> Pairing
+pub fn is_substituted(b: &[u8], k: usize, e: &[u8], t: &[u8]) -> Option<Places>
     requires { Substitutes b.now k e.now t.now }
     ensures { Substituted b.now k e.now t.now result }
 {
@@ -80,26 +70,18 @@ pub fn is_substituted(b: &[u8], k: usize, e: &[u8], t: &[u8]) -> Pairing
         return is_substituted_local(b, k, e, t);
     }
     if kind != t[0] {
-        return Pairing::No;
+        return None;
     }
     if kind == Kind::APPLICATION.code {
-        let head = is_substituted(&b[RECORD..], k, e, &t[RECORD..]);
-        let Pairing::Upto(p) = head else {
-            return Pairing::No;
-        };
-        let n = RECORD + p.first;
-        let m = RECORD + p.second;
-        return both_further(is_substituted(&b[n..], k, e, &t[m..]), n, m);
+        let head = is_substituted(&b[RECORD..], k, e, &t[RECORD..])?;
+        let n = RECORD + head.first;
+        let m = RECORD + head.second;
+        let argument = is_substituted(&b[n..], k, e, &t[m..])?;
+        return Some(argument.behind(n, m));
     }
     if kind == Kind::ABSTRACTION.code {
-        let body = is_substituted(&b[RECORD..], k + 1, e, &t[RECORD..]);
-        return both_further(body, RECORD, RECORD);
+        let body = is_substituted(&b[RECORD..], k + 1, e, &t[RECORD..])?;
+        return Some(body.behind(RECORD, RECORD));
     }
-    if records::number_at(b, 0) == records::number_at(t, 0) {
-        return Pairing::Upto(Places {
-            first: RECORD,
-            second: RECORD,
-        });
-    }
-    Pairing::No
+    (records::number_at(b, 0) == records::number_at(t, 0)).then_some(Places::RECORDS)
 }

@@ -11,6 +11,8 @@ use lib.Dec.{eqb}
 use lib.ListN.{length, get_or, take, drop}
 use lib.Seq.{sets, length-sets}
 use borrow.Author.Tests.{eq-eqb, ne_eqb}
+use Rattle.std.specs.declared.option.Option.{Option}
+use Rattle.std.specs.declared.option.Option.TheVariants.{Some, None}
 use Rattle.terms.specs.Figures.{numbers, pattern_records, swept_records}
 use Rattle.terms.specs.Term.{Term, app, lam, loc, con, size, shift, Closed}
 use Rattle.terms.specs.Sweep.{contract}
@@ -19,26 +21,18 @@ use Rattle.terms.proofs.Shift.{size_shift}
 use Rattle.terms.proofs.Table.{encode_length}
 use Rattle.terms.proofs.Substitute.{size_pos}
 use Rattle.matching.specs.Repeated.{join, both, below, at_constants}
-use Rattle.matching.proofs.Repeated.{constants_other, join_kinds, join_leaf, size_join, closed_contract}
-use Rattle.matching.proofs.Repeated.{size_contract}
+use Rattle.matching.proofs.Repeated.{constants_other, join_kinds, join_leaf, size_join, closed_contract, size_contract}
 use Rattle.records.specs.Record.{number_at}
 use Rattle.records.specs.Parts.{slice, Part, Ends}
-use Rattle.records.specs.Tests.{Near, further}
-use Rattle.records.specs.declared.Walk.{Walk}
-use Rattle.records.specs.declared.Walk.TheVariants.{Upto, No}
 use Rattle.records.proofs.Parts.{whole, kind_at, number_at_lem, application, abstraction, Application}
 use Rattle.records.proofs.Parts.{argument_part, ends_app, ends_lam, ends_leaf, constant_at}
-use Rattle.records.proofs.Slices.{part_slice, head_slice, body_slice, slice_ends, slice_length}
+use Rattle.records.proofs.Slices.{further, part_slice, head_slice, body_slice, slice_ends, slice_length}
 use Rattle.substitution.specs.Writers.{NumbersFit, Source, Single, Wrote}
 use Rattle.sweeping.specs.Swept.{swept_bytes, WrittenForm, SweptBody, ContractsAbstraction}
-use Rattle.sweeping.specs.declared.Length.{Length}
-use Rattle.sweeping.specs.declared.Length.TheVariants.{Records, TooLong}
 use Rattle.copying.proofs.Stores.{written_then, stored}
 use Rattle.substitution.proofs.Writers.{source}
 use Rattle.sweeping.proofs.Contraction.{table_length}
 use Rattle.joins.specs.declared.pairs.Pairs.{Pairs}
-use Rattle.joins.specs.declared.pairs.Found.{Found}
-use Rattle.joins.specs.declared.pairs.Found.TheVariants.{Local, Nothing}
 use Rattle.joins.specs.Pairs.{pairs_of, Locates}
 use Rattle.joins.specs.Joins.{Joins, Alike, Joint, JoinAnswered, Joined, Encloses, Enclosed}
 use Rattle.joins.proofs.Spines.{pairs_length, located_nothing}
@@ -47,33 +41,33 @@ pub count_length : (P : List ℕ) (q : Pairs) → length (pairs_of P q) ≡ q.co
 count_length P q = pairs_length P q.first q.second q.count
 
 -- a joined term was written
-joined_upto : {P : List ℕ} {q : Pairs} {F S : List ℕ} {d h o : ℕ} {out after : List ℕ} {r : Walk} → r ≡ Upto h
-    → Joined P q F S d out o after r → JoinAnswered P q F S d out o after (Upto h)
+joined_upto : {P : List ℕ} {q : Pairs} {F S : List ℕ} {d h o : ℕ} {out after : List ℕ} {r : Option ℕ} → r ≡ Some h
+    → Joined P q F S d out o after r → JoinAnswered P q F S d out o after (Some h)
 joined_upto {P} {q} {F} {S} {d} {h} {o} {out} {after} e x = subst (JoinAnswered P q F S d out o after) e x.answers
 
-pub joined_ends : {P : List ℕ} {q : Pairs} {F S : List ℕ} {d h o : ℕ} {out after : List ℕ} {r : Walk} → r ≡ Upto h
+pub joined_ends : {P : List ℕ} {q : Pairs} {F S : List ℕ} {d h o : ℕ} {out after : List ℕ} {r : Option ℕ} → r ≡ Some h
     → Joined P q F S d out o after r → Ends F 0 h
 unfolding JoinAnswered
 joined_ends e x = (joined_upto e x).0
 
 pub joined_joint :
-    {P : List ℕ} {q : Pairs} {F S : List ℕ} {d h o : ℕ} {out after : List ℕ} {r : Walk} → r ≡ Upto h → Joined P q F S d out o after r
+    {P : List ℕ} {q : Pairs} {F S : List ℕ} {d h o : ℕ} {out after : List ℕ} {r : Option ℕ} → r ≡ Some h → Joined P q F S d out o after r
     → (a b : Term) → Part F 0 a → Part S 0 b
     → Joint P q d a b out o after
 unfolding JoinAnswered
 joined_joint e x = (joined_upto e x).1
 
 pub joined_no :
-    {P : List ℕ} {q : Pairs} {F S : List ℕ} {d o : ℕ} {out after : List ℕ} {r : Walk} → r ≡ No → Joined P q F S d out o after r
+    {P : List ℕ} {q : Pairs} {F S : List ℕ} {d o : ℕ} {out after : List ℕ} {r : Option ℕ} → r ≡ None → Joined P q F S d out o after r
     → (a b : Term) → Part F 0 a → Part S 0 b
     → join d (pairs_of P q) a b ≡ none
 unfolding JoinAnswered
 joined_no {P} {q} {F} {S} {d} {o} {out} {after} e x =
-    let y : JoinAnswered P q F S d out o after No = subst (JoinAnswered P q F S d out o after) e x.answers in
+    let y : JoinAnswered P q F S d out o after None = subst (JoinAnswered P q F S d out o after) e x.answers in
     y
 
 -- the parts of two applications whose heads are joined: where the first's head ends, the second's does as far on
-module _ (P : List ℕ) (q : Pairs) (F S : List ℕ) (d h o : ℕ) (out after : List ℕ) (r : Walk) (e : r ≡ Upto h)
+module _ (P : List ℕ) (q : Pairs) (F S : List ℕ) (d h o : ℕ) (out after : List ℕ) (r : Option ℕ) (e : r ≡ Some h)
     (x : Joined P q (slice F 4) (slice S 4) d out o after r) (a b : Term) (v : Application F 0 a) where
   first_argument : Part (slice F (4 + h)) 0 v.a
   first_argument = part_slice F (4 + h) v.a (argument_part F 0 (4 + h) a (slice_ends F 4 h (joined_ends e x)) v)
@@ -125,7 +119,7 @@ module _ {P : List ℕ} {q : Pairs} {F S : List ℕ} {d : ℕ} where
         }
 
     pub joins_argument :
-        {h j : ℕ} {out after : List ℕ} {r : Walk} → get_or F 0 0 ≡ 0 → r ≡ Upto h → Joined P q (slice F 4) (slice S 4) d out j after r
+        {h j : ℕ} {out after : List ℕ} {r : Option ℕ} → get_or F 0 0 ≡ 0 → r ≡ Some h → Joined P q (slice F 4) (slice S 4) d out j after r
         → Joins P q (slice F (4 + h)) (slice S (4 + h)) d rest (o + (4 + h))
     joins_argument {h} {j} {out} {after} {r} z e y =
         let v = application F 0 x.tree x.part z in
@@ -152,7 +146,7 @@ module _ {P : List ℕ} {q : Pairs} {F S : List ℕ} {d : ℕ} where
 
     -- where the heads end, in what is read and in what is written
     pub joined_passed :
-        {h j : ℕ} {out after : List ℕ} {r : Walk} → get_or F 0 0 ≡ 0 → r ≡ Upto h → Joined P q (slice F 4) (slice S 4) d out j after r
+        {h j : ℕ} {out after : List ℕ} {r : Option ℕ} → get_or F 0 0 ≡ 0 → r ≡ Some h → Joined P q (slice F 4) (slice S 4) d out j after r
         → (4 + h ≤ length F) × (4 + h ≤ length S) × (o + (4 + h) ≤ room)
     joined_passed {h} z e y =
         let w = joins_argument z e y in (
@@ -182,23 +176,22 @@ module _ {P : List ℕ} {q : Pairs} {F S : List ℕ} {d : ℕ} where
           most = omega (arith, x.most);
         }
 
-  -- a walk over the arguments, or over the bodies, comes to a byte that a number can say, as the first target ends there
+  -- a walk over the arguments, or over the bodies, ends within the first target
   module _ {room o : ℕ} (x : Joins P q F S d room o) where
     pub near_argument :
-        {h i j : ℕ} {out p after : List ℕ} {r : Walk} (s : Walk) → get_or F 0 0 ≡ 0 → r ≡ Upto h
-        → Joined P q (slice F 4) (slice S 4) d out i p r → Joined P q (slice F (4 + h)) (slice S (4 + h)) d p j after s → Near (4 + h) s
+        {h i j n : ℕ} {out p after : List ℕ} {r : Option ℕ} → get_or F 0 0 ≡ 0 → r ≡ Some h
+        → Joined P q (slice F 4) (slice S 4) d out i p r → Joined P q (slice F (4 + h)) (slice S (4 + h)) d p j after (Some n)
+        → 4 + h + n ≤ 4 * numbers
     unfolding JoinAnswered
-    near_argument {h} (Upto n) z e y w =
+    near_argument {h} {n = n} z e y w =
         let f = ends_app F 0 (4 + h) (4 + h + n) z (slice_ends F 4 h (joined_ends e y)) (slice_ends F (4 + h) n w.answers.0) in
         omega (arith, f.exact x.tree x.part, x.shallow)
-    near_argument No z e y w = tt
 
-    pub near_body : {j : ℕ} {out after : List ℕ} (r : Walk) → get_or F 0 0 ≡ 1 → Joined P q (slice F 4) (slice S 4) (d + 1) out j after r
-        → Near 4 r
+    pub near_body : {j n : ℕ} {out after : List ℕ} → get_or F 0 0 ≡ 1 → Joined P q (slice F 4) (slice S 4) (d + 1) out j after (Some n)
+        → 4 + n ≤ 4 * numbers
     unfolding JoinAnswered
-    near_body (Upto n) z y =
+    near_body {n = n} z y =
         omega (arith, (ends_lam F 0 (4 + n) z (slice_ends F 4 n y.answers.0)).exact x.tree x.part, x.shallow)
-    near_body No z y = tt
 
   pub joins_source : {room o : ℕ} → Joins P q F S d room o → Source (shift q.count) F 0 d room o
   joins_source {room} {o} x =
@@ -207,21 +200,21 @@ module _ {P : List ℕ} {q : Pairs} {F S : List ℕ} {d : ℕ} where
 
   -- what was written
   module _ {out : List ℕ} {o : ℕ} where
-    pub joined_kinds : ¬ (get_or F 0 0 ≡ get_or S 0 0) → Joined P q F S d out o out No
+    pub joined_kinds : ¬ (get_or F 0 0 ≡ get_or S 0 0) → Joined P q F S d out o out None
     unfolding JoinAnswered
     joined_kinds n = record { answers = λ a b y z. join_kinds d (pairs_of P q) a b (λ e. n (kind_at F 0 a y ∙ e ∙ sym (kind_at S 0 b z))) }
 
-    module _ {p m : List ℕ} {r : Walk} (k : get_or F 0 0 ≡ get_or S 0 0) (z : get_or F 0 0 ≡ 0) (e : p ≡ sets out o (record_bytes 0 0 [])) where
+    module _ {p m : List ℕ} {r : Option ℕ} (k : get_or F 0 0 ≡ get_or S 0 0) (z : get_or F 0 0 ≡ 0)
+        (e : p ≡ sets out o (record_bytes 0 0 [])) where
       pub joined_application :
-          {h : ℕ} {after : List ℕ} {s a : Walk} → r ≡ Upto h → Joined P q (slice F 4) (slice S 4) d p (o + 4) m r
-          → Joined P q (slice F (4 + h)) (slice S (4 + h)) d m (o + (4 + h)) after s → a ≡ further (4 + h) s
-          → Joined P q F S d out o after a
+          {h : ℕ} {after : List ℕ} (s : Option ℕ) → r ≡ Some h → Joined P q (slice F 4) (slice S 4) d p (o + 4) m r
+          → Joined P q (slice F (4 + h)) (slice S (4 + h)) d m (o + (4 + h)) after s → Joined P q F S d out o after (further (4 + h) s)
       unfolding JoinAnswered
-      joined_application {h} {after} {s} f x y u = subst (Joined P q F S d out o after) (sym u) (go s y)
+      joined_application {h} {after} s f x y = go s y
         where
-          go : (s : Walk) → Joined P q (slice F (4 + h)) (slice S (4 + h)) d m (o + (4 + h)) after s
+          go : (s : Option ℕ) → Joined P q (slice F (4 + h)) (slice S (4 + h)) d m (o + (4 + h)) after s
               → Joined P q F S d out o after (further (4 + h) s)
-          go (Upto i) y = record {
+          go (Some i) y = record {
             answers = (
               ends_app F 0 (4 + h) (4 + h + i) z (slice_ends F 4 h (joined_ends f x)) (slice_ends F (4 + h) i y.answers.0),
               λ a b j l.
@@ -241,7 +234,7 @@ module _ {P : List ℕ} {q : Pairs} {F S : List ℕ} {d : ℕ} where
                   },
             );
           }
-          go No y = record {
+          go None y = record {
             answers = λ a b j l.
                 let v = application F 0 a j z in
                 let w = application S 0 b l (sym k ∙ z) in
@@ -251,7 +244,7 @@ module _ {P : List ℕ} {q : Pairs} {F S : List ℕ} {d : ℕ} where
                 (second_argument P q F S d h (o + 4) p m r f x a b v w));
           }
 
-      pub joined_stop : r ≡ No → Joined P q (slice F 4) (slice S 4) d p (o + 4) m r → Joined P q F S d out o m No
+      pub joined_stop : r ≡ None → Joined P q (slice F 4) (slice S 4) d p (o + 4) m r → Joined P q F S d out o m None
       unfolding JoinAnswered
       joined_stop f x = record {
         answers = λ a b j l.
@@ -263,17 +256,16 @@ module _ {P : List ℕ} {q : Pairs} {F S : List ℕ} {d : ℕ} where
       }
 
     pub joined_abstraction :
-        {p m : List ℕ} {r a : Walk} → get_or F 0 0 ≡ get_or S 0 0 → get_or F 0 0 ≡ 1 → p ≡ sets out o (record_bytes 1 0 [])
-        → Joined P q (slice F 4) (slice S 4) (d + 1) p (o + 4) m r → a ≡ further 4 r
-        → Joined P q F S d out o m a
+        {p m : List ℕ} (r : Option ℕ) → get_or F 0 0 ≡ get_or S 0 0 → get_or F 0 0 ≡ 1 → p ≡ sets out o (record_bytes 1 0 [])
+        → Joined P q (slice F 4) (slice S 4) (d + 1) p (o + 4) m r → Joined P q F S d out o m (further 4 r)
     unfolding JoinAnswered
-    joined_abstraction {p} {m} {r} k z e x u = subst (Joined P q F S d out o m) (sym u) (go r x)
+    joined_abstraction {p} {m} r k z e x = go r x
       where
         under : (a b : Term) → join d (pairs_of P q) (lam a) (lam b) ≡ below (join (d + 1) (pairs_of P q) a b)
         under a b = ap (λ (i : ℕ). below (join i (pairs_of P q) a b)) (sym (add-one d))
 
-        go : (r : Walk) → Joined P q (slice F 4) (slice S 4) (d + 1) p (o + 4) m r → Joined P q F S d out o m (further 4 r)
-        go (Upto h) x = record {
+        go : (r : Option ℕ) → Joined P q (slice F 4) (slice S 4) (d + 1) p (o + 4) m r → Joined P q F S d out o m (further 4 r)
+        go (Some h) x = record {
           answers = (
             ends_lam F 0 (4 + h) z (slice_ends F 4 h x.answers.0),
             λ a b j l.
@@ -287,7 +279,7 @@ module _ {P : List ℕ} {q : Pairs} {F S : List ℕ} {d : ℕ} where
                 },
           );
         }
-        go No x = record {
+        go None x = record {
           answers = λ a b j l.
               let v = abstraction F 0 a j z in
               let w = abstraction S 0 b l (sym k ∙ z) in
@@ -296,7 +288,7 @@ module _ {P : List ℕ} {q : Pairs} {F S : List ℕ} {d : ℕ} where
         }
 
     -- single records
-    pub joined_differ : {m n : ℕ} → m ≡ number_at F 0 → n ≡ number_at S 0 → Alike P q F S d → ¬ (m ≡ n) → Joined P q F S d out o out No
+    pub joined_differ : {m n : ℕ} → m ≡ number_at F 0 → n ≡ number_at S 0 → Alike P q F S d → ¬ (m ≡ n) → Joined P q F S d out o out None
     unfolding JoinAnswered
     joined_differ e f x h = record {
       answers = λ a b j l.
@@ -307,7 +299,7 @@ module _ {P : List ℕ} {q : Pairs} {F S : List ℕ} {d : ℕ} where
     pub joined_same :
         {m n room next end : ℕ} {after : List ℕ} → m ≡ number_at F 0 → n ≡ number_at S 0 → Joins P q F S d room o → Single F 0
         → Alike P q F S d → m ≡ n
-        → Wrote (shift q.count) F 0 d out o after next end → Joined P q F S d out o after (Upto 4)
+        → Wrote (shift q.count) F 0 d out o after next end → Joined P q F S d out o after (Some 4)
     unfolding JoinAnswered
     joined_same e f x s y h w = record {
       answers = (
@@ -321,12 +313,12 @@ module _ {P : List ℕ} {q : Pairs} {F S : List ℕ} {d : ℕ} where
     }
 
     pub joined_pair :
-        {m n room k : ℕ} {r : Found} {after : List ℕ} → m ≡ number_at F 0 → n ≡ number_at S 0 → get_or F 0 0 ≡ 3 → get_or S 0 0 ≡ 3
+        {m n room k : ℕ} {r : Option ℕ} {after : List ℕ} → m ≡ number_at F 0 → n ≡ number_at S 0 → get_or F 0 0 ≡ 3 → get_or S 0 0 ≡ 3
         → Joins P q F S d room o
-        → Locates (pairs_of P q) m n d r → r ≡ Local k → after ≡ sets out o (record_bytes 2 k []) → Joined P q F S d out o after (Upto 4)
+        → Locates (pairs_of P q) m n d r → r ≡ Some k → after ≡ sets out o (record_bytes 2 k []) → Joined P q F S d out o after (Some 4)
     unfolding JoinAnswered Locates
     joined_pair {m} {n} {room} {k} e f z y x w i v =
-        let s : Locates (pairs_of P q) m n d (Local k) = subst (Locates (pairs_of P q) m n d) i w in
+        let s : Locates (pairs_of P q) m n d (Some k) = subst (Locates (pairs_of P q) m n d) i w in
         record {
           answers = (
             ends_leaf F 0 (λ c. omega arith) (λ c. omega arith) (whole F 0 x.tree x.part),
@@ -335,8 +327,9 @@ module _ {P : List ℕ} {q : Pairs} {F S : List ℕ} {d : ℕ} where
         }
 
   pub alike_constants :
-      {m n : ℕ} {r : Found} → m ≡ number_at F 0 → n ≡ number_at S 0 → get_or F 0 0 ≡ 3 → get_or S 0 0 ≡ 3 → Locates (pairs_of P q) m n d r
-      → r ≡ Nothing → Alike P q F S d
+      {m n : ℕ} {r : Option ℕ} → m ≡ number_at F 0 → n ≡ number_at S 0 → get_or F 0 0 ≡ 3 → get_or S 0 0 ≡ 3
+      → Locates (pairs_of P q) m n d r
+      → r ≡ None → Alike P q F S d
   alike_constants {m} {n} {r} e f z y w i = record {
     is = λ a b j l.
         at_constants_lem d (pairs_of P q) F S m n e f z y a b j l
@@ -354,10 +347,10 @@ module _ {P : List ℕ} {q : Pairs} {F S : List ℕ} {d : ℕ} where
         ∙ ap₂ (λ (m n : ℕ). cond (eqb m n) (some (shift q.count d a)) none) (sym (number_at_lem F 0 a j)) (sym (number_at_lem S 0 b l));
   }
 
-pub local_fits : (ps : List (ℕ × ℕ)) (m n d k : ℕ) (r : Found) → Locates ps m n d r → r ≡ Local k → d + pattern_records + 1 ≤ numbers
+pub local_fits : (ps : List (ℕ × ℕ)) (m n d k : ℕ) (r : Option ℕ) → Locates ps m n d r → r ≡ Some k → d + pattern_records + 1 ≤ numbers
     → k < numbers
 unfolding Locates
-local_fits ps m n d k r x e h = let y : Locates ps m n d (Local k) = subst (Locates ps m n d) e x in omega (arith, y.1)
+local_fits ps m n d k r x e h = let y : Locates ps m n d (Some k) = subst (Locates ps m n d) e x in omega (arith, y.1)
 
 -- no abstraction is left
 pub enclosed_none : {b out after : List ℕ} {n o : ℕ} → n ≡ 0 → after ≡ sets out o b → Enclosed b n out o after (o + length b)
@@ -384,17 +377,17 @@ module _ {b : List ℕ} {n room o : ℕ} (x : Encloses b n room o) (s : ¬ (n �
     closed = contracted_closed;
   }
 
-  module _ (out p : List ℕ) (r : Length) (y : ContractsAbstraction b out r p) (l : length out ≡ swept_bytes) where
-    pub never_long : r ≡ TooLong → ⊥
+  module _ (out p : List ℕ) (r : Option ℕ) (y : ContractsAbstraction b out r p) (l : length out ≡ swept_bytes) where
+    pub never_long : r ≡ None → ⊥
     unfolding WrittenForm
     never_long e =
-        let w : WrittenForm (contract (lam x.body)) out TooLong p =
-        subst (λ (i : Length). WrittenForm (contract (lam x.body)) out i p) e (y x.body x.bytes) in
+        let w : WrittenForm (contract (lam x.body)) out None p =
+        subst (λ (i : Option ℕ). WrittenForm (contract (lam x.body)) out i p) e (y x.body x.bytes) in
         omega (arith, w.0, size_contract x.body, table_length b x.body x.bytes, x.most, s)
 
-    module _ (m : ℕ) (e : r ≡ Records m) where
-      result : (t : Term) → b ≡ encode t → WrittenForm (contract (lam t)) out (Records m) p
-      result t f = subst (λ (i : Length). WrittenForm (contract (lam t)) out i p) e (y t f)
+    module _ (m : ℕ) (e : r ≡ Some m) where
+      result : (t : Term) → b ≡ encode t → WrittenForm (contract (lam t)) out (Some m) p
+      result t f = subst (λ (i : Option ℕ). WrittenForm (contract (lam t)) out i p) e (y t f)
 
       contracted : (t : Term) → b ≡ encode t → take (m * 4 - 0) (drop 0 p) ≡ encode (contract (lam t))
       unfolding WrittenForm

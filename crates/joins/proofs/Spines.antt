@@ -11,19 +11,16 @@ use native.Mathlib.Numerals.{add-one}
 use lib.Dec.{T, eqb}
 use lib.ListN.{length, get_or}
 use borrow.Author.Tests.{eq-eqb, ne_eqb}
+use Rattle.std.specs.declared.option.Option.{Option}
+use Rattle.std.specs.declared.option.Option.TheVariants.{Some, None}
 use Rattle.terms.specs.Figures.{pattern_records}
 use Rattle.terms.specs.Term.{app, var}
 use Rattle.terms.specs.Listing.{In}
 use Rattle.matching.specs.Repeated.{spine, firsts, seconds, at_constants}
 use Rattle.records.specs.Record.{number_at}
 use Rattle.records.specs.Parts.{Part, Whole, Ends}
-use Rattle.records.proofs.Parts.{application, argument_part, whole_argument, ends_app, ends_leaf}
+use Rattle.records.proofs.Parts.{application, argument_part, whole_argument, ends_app, ends_leaf, constant_at, variable_at}
 use Rattle.joins.specs.declared.pairs.Pairs.{Pairs}
-use Rattle.joins.specs.declared.pairs.Spines.{Spines}
-use Rattle.joins.specs.declared.pairs.Spines.TheVariants.{Apart, Other}
-use Rattle.joins.specs.declared.pairs.Found.{Found}
-use Rattle.joins.specs.declared.pairs.Found.TheVariants.{Local, Nothing}
-use Rattle.records.proofs.Parts.{constant_at, variable_at}
 use Rattle.joins.specs.Pairs.{pairs_at, pairs_of, Reads, Locates, Adding, Added, Adds, Repeated, Repeats}
 
 -- the list of pairs
@@ -60,7 +57,7 @@ module _ (P : List ℕ) (q : Pairs) (m n d : ℕ) where
   pub passed_pair :
       (k : ℕ) (b : Bool) → Reads P q → PairPassed P q m n d k → 0 < k
       → b ≡ (eqb m (number_at P (q.first + 4 * k)) && eqb n (number_at P (q.second + 4 * k))) → b ≡ true
-      → Locates (pairs_of P q) m n d (Local (d + (q.count - k)))
+      → Locates (pairs_of P q) m n d (Some (d + (q.count - k)))
   unfolding Locates
   passed_pair zero b r x h e t = absurd (omega arith)
   passed_pair (suc k) b r x h e t =
@@ -92,44 +89,45 @@ module _ (P : List ℕ) (q : Pairs) (m n d : ℕ) where
           absurd (subst T f tt)
       go (inr i) = i
 
-  pub pairs_passed : (k : ℕ) → PairPassed P q m n d k → k ≤ 0 → Locates (pairs_of P q) m n d Nothing
+  pub pairs_passed : (k : ℕ) → PairPassed P q m n d k → k ≤ 0 → Locates (pairs_of P q) m n d None
   unfolding Locates
   pairs_passed zero x h = x.among
   pairs_passed (suc k) x h = absurd (omega arith)
 
-pub located_nothing : (ps : List (ℕ × ℕ)) (m n d : ℕ) (r : Found) → Locates ps m n d r → r ≡ Nothing → ¬ In (m, n) ps
+pub located_nothing : (ps : List (ℕ × ℕ)) (m n d : ℕ) (r : Option ℕ) → Locates ps m n d r → r ≡ None → ¬ In (m, n) ps
 unfolding Locates
-located_nothing ps m n d r x e = let y : Locates ps m n d Nothing = subst (Locates ps m n d) e x in y
+located_nothing ps m n d r x e = let y : Locates ps m n d None = subst (Locates ps m n d) e x in y
 
 -- one pair more
 module _ (P : List ℕ) (q : Pairs) where
-  pub adds_nothing : Adds P q Other
+  pub adds_nothing : Adds P q None
   unfolding Adds
   adds_nothing = tt
 
   pub adds_pair :
-      (m n : ℕ) (r : Found) → get_or P (q.first + 4 * (q.count + 1)) 0 ≡ 3 → get_or P (q.second + 4 * (q.count + 1)) 0 ≡ 3
+      (m n : ℕ) (r : Option ℕ) → get_or P (q.first + 4 * (q.count + 1)) 0 ≡ 3 → get_or P (q.second + 4 * (q.count + 1)) 0 ≡ 3
       → m ≡ number_at P (q.first + 4 * (q.count + 1))
-      → n ≡ number_at P (q.second + 4 * (q.count + 1)) → ¬ (m ≡ n) → Locates (pairs_of P q) m n 0 r → r ≡ Nothing
-      → Adds P q (Apart (record { first = q.first; second = q.second; count = q.count + 1 }))
+      → n ≡ number_at P (q.second + 4 * (q.count + 1)) → ¬ (m ≡ n) → Locates (pairs_of P q) m n 0 r → r ≡ None
+      → Adds P q (Some (record { first = q.first; second = q.second; count = q.count + 1 }))
   unfolding Adds
   adds_pair m n r k l e f h x t = record {
     is = refl;
     first = k;
     second = l;
     differ = λ z. h (e ∙ z ∙ sym f);
-    other = λ z. located_nothing (pairs_of P q) m n 0 r x t (subst (λ i. In i (pairs_of P q)) (ap₂ (λ (i j : ℕ). (i, j)) (sym e) (sym f)) z);
+    other = λ z. located_nothing (pairs_of P q) m n 0 r x t
+        (subst (λ i. In i (pairs_of P q)) (ap₂ (λ (i j : ℕ). (i, j)) (sym e) (sym f)) z);
   }
 
 -- the parts at two places
 module _ (P : List ℕ) (x y : ℕ) where
-  pub repeats_other : Repeats P x y Other
+  pub repeats_other : Repeats P x y None
   unfolding Repeats
   repeats_other = tt
 
   pub repeats_variable :
       (m n : ℕ) → Whole P x → Whole P y → get_or P x 0 ≡ get_or P y 0 → get_or P x 0 ≡ 4 → m ≡ number_at P x → n ≡ number_at P y → m ≡ n
-      → Repeats P x y (Apart (record { first = x; second = y; count = 0 }))
+      → Repeats P x y (Some (record { first = x; second = y; count = 0 }))
   unfolding Repeats
   repeats_variable m n u v s k e f h = record {
     number = m;
@@ -141,11 +139,12 @@ module _ (P : List ℕ) (x y : ℕ) where
     apart = tt;
   }
 
-  module _ (u : Whole P x) (v : Whole P y) (s : get_or P x 0 ≡ get_or P y 0) (k : get_or P x 0 ≡ 0) (r : Spines) (q : Pairs) (e : r ≡ Apart q)
+  module _ (u : Whole P x) (v : Whole P y) (s : get_or P x 0 ≡ get_or P y 0) (k : get_or P x 0 ≡ 0) (r : Option Pairs) (q : Pairs)
+      (e : r ≡ Some q)
       (w : Repeats P (x + 4) (y + 4) r) where
     heads : Repeated P (x + 4) (y + 4) q
     unfolding Repeats
-    heads = let z : Repeats P (x + 4) (y + 4) (Apart q) = subst (Repeats P (x + 4) (y + 4)) e w in z
+    heads = let z : Repeats P (x + 4) (y + 4) (Some q) = subst (Repeats P (x + 4) (y + 4)) e w in z
 
     pub repeats_adding : length P ≤ 4 * pattern_records → Adding P q
     repeats_adding h = record {
@@ -193,7 +192,7 @@ module _ (P : List ℕ) (x y : ℕ) where
             ≡ (number_at P (q.first + 4 * (q.count + 1)), number_at P (q.second + 4 * (q.count + 1))) ∷ pairs_of P q
         more = pairs_more P q.first q.second q.count
 
-    pub repeats_application : (o : Spines) → Adds P q o → Repeats P x y o
+    pub repeats_application : (o : Option Pairs) → Adds P q o → Repeats P x y o
     unfolding Repeats Adds longer
-    repeats_application (Apart o) a = subst (Repeated P x y) (sym a.is) (added o a)
-    repeats_application Other a = tt
+    repeats_application (Some o) a = subst (Repeated P x y) (sym a.is) (added o a)
+    repeats_application None a = tt

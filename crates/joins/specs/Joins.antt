@@ -10,6 +10,8 @@
 --   Encloses b n room o           a body with the table b can be enclosed in n abstractions, with room for that from byte o on, before byte
 --                                 `room`
 --   Enclosed b n out o after r    what they come to was written into out from byte o on, up to byte r
+use Rattle.std.specs.declared.option.Option.{Option}
+use Rattle.std.specs.declared.option.Option.TheVariants.{Some, None}
 use Rattle.std.specs.Prelude.{◌≡◌, cond, List, ℕ, ◌+◌, ◌*◌, ◌≤◌, eqb, length}
 use Rattle.std.proofs.Math.Option.{some, none}
 use Rattle.std.proofs.lemmas.List.Edits.{sets}
@@ -19,8 +21,6 @@ use Rattle.terms.specs.Table.{encode}
 use Rattle.matching.specs.Repeated.{join, enclose}
 use Rattle.records.specs.Record.{number_at}
 use Rattle.records.specs.Parts.{Part, Whole, Ends}
-use Rattle.records.specs.declared.Walk.{Walk}
-use Rattle.records.specs.declared.Walk.TheVariants.{Upto, No}
 use Rattle.substitution.specs.Writers.{NumbersFit}
 use Rattle.joins.specs.declared.pairs.Pairs.{Pairs}
 use Rattle.joins.specs.Pairs.{pairs_of, Reads}
@@ -48,11 +48,11 @@ pub record Joint (P : List ℕ) (q : Pairs) (d : ℕ) (a b : Term) (out : List �
   pub is : join d (pairs_of P q) a b ≡ some body
   pub bytes : after ≡ sets out o (encode body)
 
-unfoldable pub JoinAnswered : List ℕ → Pairs → List ℕ → List ℕ → ℕ → List ℕ → ℕ → List ℕ → Walk → Type 0
-JoinAnswered P q F S d out o after (Upto h) = Ends F 0 h × ((a b : Term) → Part F 0 a → Part S 0 b → Joint P q d a b out o after)
-JoinAnswered P q F S d out o after No = (a b : Term) → Part F 0 a → Part S 0 b → join d (pairs_of P q) a b ≡ none
+unfoldable pub JoinAnswered : List ℕ → Pairs → List ℕ → List ℕ → ℕ → List ℕ → ℕ → List ℕ → Option ℕ → Type 0
+JoinAnswered P q F S d out o after (Some h) = Ends F 0 h × ((a b : Term) → Part F 0 a → Part S 0 b → Joint P q d a b out o after)
+JoinAnswered P q F S d out o after None = (a b : Term) → Part F 0 a → Part S 0 b → join d (pairs_of P q) a b ≡ none
 
-pub record Joined (P : List ℕ) (q : Pairs) (F S : List ℕ) (d : ℕ) (out : List ℕ) (o : ℕ) (after : List ℕ) (r : Walk) : Type 0 where
+pub record Joined (P : List ℕ) (q : Pairs) (F S : List ℕ) (d : ℕ) (out : List ℕ) (o : ℕ) (after : List ℕ) (r : Option ℕ) : Type 0 where
   pub answers : JoinAnswered P q F S d out o after r
 
 pub record Encloses (b : List ℕ) (n room o : ℕ) : Type 0 where

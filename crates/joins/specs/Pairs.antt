@@ -8,6 +8,8 @@
 --   Adds P q r           if r has pairs, that holds of them
 --   Repeated P x y q     the terms at bytes x and y apply one variable to the first and to the second constants of q, which are apart
 --   Repeats P x y r      if r has pairs, that holds of them
+use Rattle.std.specs.declared.option.Option.{Option}
+use Rattle.std.specs.declared.option.Option.TheVariants.{Some, None}
 use Rattle.std.specs.Prelude.{◌≡◌, List, [], ◌∷◌, ℕ, zero, suc, ◌+◌, ◌*◌, ◌≤◌, length, get_or}
 use Rattle.std.proofs.Math.Option.{some}
 use Rattle.terms.specs.Figures.{pattern_records}
@@ -18,10 +20,6 @@ use Rattle.matching.specs.Repeated.{spine, firsts, seconds, PairsApart as AreApa
 use Rattle.records.specs.Record.{number_at}
 use Rattle.records.specs.Parts.{Part, Whole, Ends}
 use Rattle.joins.specs.declared.pairs.Pairs.{Pairs}
-use Rattle.joins.specs.declared.pairs.Spines.{Spines}
-use Rattle.joins.specs.declared.pairs.Spines.TheVariants.{Apart, Other}
-use Rattle.joins.specs.declared.pairs.Found.{Found}
-use Rattle.joins.specs.declared.pairs.Found.TheVariants.{Local, Nothing}
 
 abbrev pub pairs_at : List ℕ → ℕ → ℕ → ℕ → List (ℕ × ℕ)
 pairs_at P v w zero = []
@@ -35,9 +33,9 @@ pub record Reads (P : List ℕ) (q : Pairs) : Type 0 where
   pub second : q.second + 4 * (q.count + 1) ≤ length P
   pub short : length P ≤ 4 * pattern_records
 
-unfoldable pub Locates : List (ℕ × ℕ) → ℕ → ℕ → ℕ → Found → Type 0
-Locates ps m n d (Local k) = (at_constants d ps m n ≡ some (loc k)) × (k ≤ d + pattern_records)
-Locates ps m n d Nothing = ¬ In (m, n) ps
+unfoldable pub Locates : List (ℕ × ℕ) → ℕ → ℕ → ℕ → Option ℕ → Type 0
+Locates ps m n d (Some k) = (at_constants d ps m n ≡ some (loc k)) × (k ≤ d + pattern_records)
+Locates ps m n d None = ¬ In (m, n) ps
 
 pub record Adding (P : List ℕ) (q : Pairs) : Type 0 where
   pub first : Whole P (q.first + 4 * (q.count + 1))
@@ -51,9 +49,9 @@ pub record Added (P : List ℕ) (q r : Pairs) : Type 0 where
   pub differ : ¬ (number_at P (q.first + 4 * (q.count + 1)) ≡ number_at P (q.second + 4 * (q.count + 1)))
   pub other : ¬ In (number_at P (q.first + 4 * (q.count + 1)), number_at P (q.second + 4 * (q.count + 1))) (pairs_of P q)
 
-unfoldable pub Adds : List ℕ → Pairs → Spines → Type 0
-Adds P q (Apart r) = Added P q r
-Adds P q Other = Unit {0}
+unfoldable pub Adds : List ℕ → Pairs → Option Pairs → Type 0
+Adds P q (Some r) = Added P q r
+Adds P q None = Unit {0}
 
 pub record Repeated (P : List ℕ) (x y : ℕ) (q : Pairs) : Type 0 where
   pub number : ℕ
@@ -64,6 +62,6 @@ pub record Repeated (P : List ℕ) (x y : ℕ) (q : Pairs) : Type 0 where
   pub second_ends : Ends P y (q.second + 4 * (q.count + 1))
   pub apart : AreApart (pairs_of P q)
 
-unfoldable pub Repeats : List ℕ → ℕ → ℕ → Spines → Type 0
-Repeats P x y (Apart q) = Repeated P x y q
-Repeats P x y Other = Unit {0}
+unfoldable pub Repeats : List ℕ → ℕ → ℕ → Option Pairs → Type 0
+Repeats P x y (Some q) = Repeated P x y q
+Repeats P x y None = Unit {0}

@@ -5,9 +5,9 @@ ghost use Rattle.terms.specs.Table.{constant_kind};
 ghost use Rattle.substitution.specs.Writers.{Single};
 ghost use Rattle.joins.specs.Joins.{Joins, Alike, Joined, Encloses, Enclosed};
 
-use crate::pairs::{Found, Pairs};
-use records::{Kind, RECORD, Walk};
-use sweeping::{Length, SWEPT_BYTES};
+use crate::pairs::Pairs;
+use records::{Kind, RECORD};
+use sweeping::SWEPT_BYTES;
 
 // Writes the record that both targets begin with, if it has the same number in each. Locals above the d binders make room for those of the
 // pairs.
@@ -19,17 +19,17 @@ fn same_leaf_into(
     d: usize,
     out: &mut [u8],
     o: usize,
-) -> Walk
+) -> Option<usize>
     requires { Joins pattern.now q first.now second.now d (length out.old) o × Single first.now 0
         × Alike pattern.now q first.now second.now d }
     ensures { Joined pattern.now q first.now second.now d out.old o
         out.new result }
 {
     if records::number_at(first, 0) != records::number_at(second, 0) {
-        return Walk::No;
+        return None;
     }
     substitution::shift_leaf_into(first, q.count, d, out, o);
-    Walk::Upto(RECORD)
+    Some(RECORD)
 }
 
 // Writes the local that stands for the constants that the targets begin with, or the constant that both are.
@@ -41,7 +41,7 @@ fn join_constants_into(
     d: usize,
     out: &mut [u8],
     o: usize,
-) -> Walk
+) -> Option<usize>
     requires { Joins pattern.now q first.now second.now d (length out.old) o × (get_or first.now 0 0 ≡ constant_kind)
         × (get_or second.now 0 0 ≡ constant_kind) }
     ensures { Joined pattern.now q first.now second.now d out.old o
@@ -49,13 +49,12 @@ fn join_constants_into(
 {
     let m = records::number_at(first, 0);
     let n = records::number_at(second, 0);
-    let found = crate::pairs::find_pair(pattern, q, m, n, d);
-    match found {
-        Found::Local(k) => {
+    match crate::pairs::find_pair(pattern, q, m, n, d) {
+        Some(k) => {
             records::put_record(out, o, Kind::LOCAL, k);
-            Walk::Upto(RECORD)
+            Some(RECORD)
         }
-        Found::Nothing => same_leaf_into(pattern, q, first, second, d, out, o),
+        None => same_leaf_into(pattern, q, first, second, d, out, o),
     }
 }
 
@@ -70,14 +69,14 @@ pub fn join_into(
     d: usize,
     out: &mut [u8],
     o: usize,
-) -> Walk
+) -> Option<usize>
     requires { Joins pattern.now q first.now second.now d (length out.old) o }
     ensures { Joined pattern.now q first.now second.now d out.old o
         out.new result }
 {
     let kind = first[0];
     if kind != second[0] {
-        return Walk::No;
+        return None;
     }
     if kind == Kind::APPLICATION.code {
         records::put_record(out, o, Kind::APPLICATION, 0);
@@ -89,11 +88,8 @@ pub fn join_into(
             d,
             out,
             o + RECORD,
-        );
-        let Walk::Upto(h) = head else {
-            return Walk::No;
-        };
-        let next = RECORD + h;
+        )?;
+        let next = RECORD + head;
         let argument = join_into(
             pattern,
             q,
@@ -102,8 +98,8 @@ pub fn join_into(
             d,
             out,
             o + next,
-        );
-        return records::further(argument, next);
+        )?;
+        return Some(next + argument);
     }
     if kind == Kind::ABSTRACTION.code {
         records::put_record(out, o, Kind::ABSTRACTION, 0);
@@ -115,8 +111,8 @@ pub fn join_into(
             d + 1,
             out,
             o + RECORD,
-        );
-        return records::further(body, RECORD);
+        )?;
+        return Some(RECORD + body);
     }
     if kind == Kind::CONSTANT.code {
         return join_constants_into(pattern, q, first, second, d, out, o);
@@ -124,7 +120,8 @@ pub fn join_into(
     same_leaf_into(pattern, q, first, second, d, out, o)
 }
 
-// Writes what n abstractions over the body come to from byte o on, and gives where that ends.
+// Writes what n abstractions over the body come to from byte o on, and gives where that ends. It calls itself, since each abstraction is
+// contracted into a table of its own; a loop would copy that back each time.
 pub fn enclose_into(body: &[u8], n: usize, work: &mut [u8], o: usize) -> usize
     requires { Encloses body.now n (length work.old) o }
     ensures { Enclosed body.now n work.old o work.new result }
@@ -136,7 +133,7 @@ pub fn enclose_into(body: &[u8], n: usize, work: &mut [u8], o: usize) -> usize
     let mut out = [0u8; SWEPT_BYTES];
     let length = sweeping::contract_abstraction(body, &mut out);
     // never so: there are too few records
-    let Length::Records(m) = length else {
+    let Some(m) = length else {
         return o;
     };
     let m = m * RECORD;

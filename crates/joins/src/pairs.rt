@@ -18,20 +18,6 @@ pub struct Pairs {
     pub count: usize,
 }
 
-// What two parts of the pattern are: one variable applied to pairs of constants, which differ, or anything else.
-#[derive(Clone, Copy)]
-pub enum Spines {
-    Apart(Pairs),
-    Other,
-}
-
-// The local that stands for two constants, or that they are none of the pairs.
-#[derive(Clone, Copy)]
-pub enum Found {
-    Local(usize),
-    Nothing,
-}
-
 // Whether m and n are the numbers of the records at bytes i and j.
 fn is_pair(pattern: &[u8], i: usize, j: usize, m: usize, n: usize) -> bool
     requires { (i + 4 ≤ length pattern.now) × (j + 4 ≤ length pattern.now) }
@@ -44,72 +30,66 @@ fn is_pair(pattern: &[u8], i: usize, j: usize, m: usize, n: usize) -> bool
 }
 
 // The local that stands for the constants m and n below d binders. The last pair stands for the innermost one.
-pub fn find_pair(pattern: &[u8], q: Pairs, m: usize, n: usize, d: usize) -> Found
+pub fn find_pair(pattern: &[u8], q: Pairs, m: usize, n: usize, d: usize) -> Option<usize>
     requires { Reads pattern.now q × (d + pattern_records ≤ numbers) }
     ensures { Locates (pairs_of pattern.now q) m n d result }
 {
-    let mut k = q.count;
-    while 0 < k {
+    for k in (1..=q.count).rev() {
         if is_pair(pattern, q.first + RECORD * k, q.second + RECORD * k, m, n) {
-            return Found::Local(d + (q.count - k));
+            return Some(d + (q.count - k));
         }
-        k -= 1;
     }
-    Found::Nothing
+    None
 }
 
 // Adds the two records behind the pairs q, if they are constants, and make another pair.
-fn add_pair(pattern: &[u8], q: Pairs) -> Spines
+fn add_pair(pattern: &[u8], q: Pairs) -> Option<Pairs>
     requires { Adding pattern.now q }
     ensures { Adds pattern.now q result }
 {
     let i = q.first + RECORD * (q.count + 1);
     let j = q.second + RECORD * (q.count + 1);
     if pattern[i] != Kind::CONSTANT.code {
-        return Spines::Other;
+        return None;
     }
     if pattern[j] != Kind::CONSTANT.code {
-        return Spines::Other;
+        return None;
     }
     let m = records::number_at(pattern, i);
     let n = records::number_at(pattern, j);
     if m == n {
-        return Spines::Other;
+        return None;
     }
-    let found = find_pair(pattern, q, m, n, 0);
-    match found {
-        Found::Local(_) => Spines::Other,
-        Found::Nothing => Spines::Apart(Pairs {
-            first: q.first,
-            second: q.second,
-            count: q.count + 1,
-        }),
+    if find_pair(pattern, q, m, n, 0).is_some() {
+        return None;
     }
+    Some(Pairs {
+        first: q.first,
+        second: q.second,
+        count: q.count + 1,
+    })
 }
 
 // What the parts at bytes x and y are. The constants of an application stand one behind another, as each is one record.
-pub fn spines_at(pattern: &[u8], x: usize, y: usize) -> Spines
+pub fn spines_at(pattern: &[u8], x: usize, y: usize) -> Option<Pairs>
     requires { Whole pattern.now x × Whole pattern.now y × (length pattern.now ≤ 4 * pattern_records) }
     ensures { Repeats pattern.now x y result }
 {
     let kind = pattern[x];
     if kind != pattern[y] {
-        return Spines::Other;
+        return None;
     }
     if kind == Kind::APPLICATION.code {
-        let heads = spines_at(pattern, x + RECORD, y + RECORD);
-        let Spines::Apart(q) = heads else {
-            return Spines::Other;
-        };
+        let q = spines_at(pattern, x + RECORD, y + RECORD)?;
         return add_pair(pattern, q);
     }
     if kind != Kind::VARIABLE.code {
-        return Spines::Other;
+        return None;
     }
     if records::number_at(pattern, x) != records::number_at(pattern, y) {
-        return Spines::Other;
+        return None;
     }
-    Spines::Apart(Pairs {
+    Some(Pairs {
         first: x,
         second: y,
         count: 0,

@@ -19,9 +19,8 @@ use Rattle.assignments.specs.declared.Span.{Span}
 use Rattle.assignments.specs.declared.Entry.{Entry}
 use Rattle.assignments.specs.declared.Entry.TheVariants.{Open, Assigned}
 use Rattle.copying.proofs.Stores.{written_then}
-use Rattle.listing.specs.Writers.{entry_records, entry_bytes, entry_values, SpanStands, EntryStands, LineStands, count_of, entries_records}
-use Rattle.listing.specs.Writers.{WriteEntry}
-use Rattle.listing.specs.Writers.{EntryWritten, WriteLine, WroteLine}
+use Rattle.listing.specs.Writers.{entry_records, entry_bytes, entry_values, SpanStands, EntryStands, LineStands, entries_records}
+use Rattle.listing.specs.Writers.{WriteEntry, EntryWritten, WriteLine, WroteLine}
 
 -- a line is its first entry and the others
 pub line_entry : (k : ℕ) (o : Option Term) (l : Line) → line_bytes k (o ∷ l) ≡ entry_bytes k o ++ line_bytes (k + entry_records o) l
@@ -251,13 +250,6 @@ module _ (s : List ℕ) (a : List Entry) (lines : List ℕ) (at : ℕ) (values :
     writing_done h = x.whole now then next (wrote_none s a i now (at + 4 * i) then next (omega (arith, x.left.entries)))
 
 -- the records that entries say
-pub total_next : (a : List Entry) (i : ℕ) → i < length a
-    → entries_records (drop i a) ≡ count_of (get_or a i Open) + entries_records (drop (i + 1) a)
-total_next a i h = ap entries_records (entries_next a i h)
-
-pub total_none : (a : List Entry) (i : ℕ) → length a ≤ i → entries_records (drop i a) ≡ 0
-total_none a i h = ap entries_records (drop_of_length-le a h)
-
 pub total_line : (s : List ℕ) (a : List Entry) (l : Line) → LineStands s a l → entries_records a ≡ line_value_records l
 unfolding LineStands EntryStands
 total_line s [] [] x = refl

@@ -74,11 +74,8 @@ pub fn write_line(
         values.new result }
 {
     let mut next = first;
-    let mut i = 0;
-    while i < VARIABLES {
-        let entry = entries[i];
-        next = write_entry(source, entry, lines, at + RECORD * i, values, next);
-        i += 1;
+    for (i, entry) in entries.iter().enumerate() {
+        next = write_entry(source, *entry, lines, at + RECORD * i, values, next);
     }
     next
 }
@@ -98,12 +95,9 @@ fn records_of(entries: [Entry; VARIABLES]) -> usize
     requires { entries_records entries ≤ words }
     ensures { result ≡ entries_records entries }
 {
-    let mut n: usize = 0;
-    let mut i = 0;
-    while i < VARIABLES {
-        let e = entries[i];
-        n += count_of(e);
-        i += 1;
+    let mut n = 0;
+    for entry in &entries {
+        n += count_of(*entry);
     }
     n
 }

@@ -9,18 +9,19 @@ use Prim.Native.Nat.{ℕ, ◌*◌, ◌-◌, ◌≤◌}
 use native.Mathlib.Omega.{arith}
 use lib.Dec.{lit≤}
 use lib.ListN.{replicate}
+use Rattle.std.specs.declared.result.Result.{Result}
+use Rattle.std.specs.declared.result.Result.TheVariants.{Ok}
+use Rattle.refusals.specs.declared.Refusal.{Refusal}
 use Rattle.terms.specs.Figures.{variables, recipe_records}
 use Rattle.terms.specs.Term.{Term, app, lam, con, var}
 use Rattle.terms.specs.Table.{encode, IsTable}
 use Rattle.terms.specs.Listing.{Line, Full}
-use Rattle.terms.specs.Refusal.{Passed, list_table_rows}
-use Rattle.terms.specs.Refusal.{pattern_rows, recipe_rows}
+use Rattle.terms.specs.Refusal.{Passed, list_table_rows, pattern_rows, recipe_rows}
 use Rattle.terms.proofs.Refusal.{passed_both}
 use Rattle.matching.specs.Cases.{Case.lists, line_from, identity}
 use Rattle.matching.proofs.Cases.{cases_hold}
 use Rattle.refusals.specs.Lent.{overwritten}
 use Rattle.refusals.proofs.Passing.{pattern_passed, normal_passed}
-use Rattle.enumeration.specs.declared.ListAnswer.{ListAnswer}
 use Rattle.enumeration.specs.Written.{lent_lines, lent_records}
 use Rattle.matcher.specs.Operations.{Listed}
 use Rattle.matcher.proofs.Determined.{listed_one}
@@ -66,7 +67,7 @@ sides_passed =
     (normal_passed case_recipe recipe_records recipe_table (lit≤ tt) refl tt)
 
 module _ (l s w : List ℕ) (h : Passed (list_table_rows l s w)) (two : 2 ≤ lent_lines l) (five : 5 ≤ lent_records s) where
-  case_listed : Listed p r l s w (ListAnswer.Lines 2) (overwritten case_lines l) (overwritten value_bytes s)
+  case_listed : Listed p r l s w (Ok 2) (overwritten case_lines l) (overwritten value_bytes s)
   unfolding Listed
   case_listed = (
     passed_both (list_table_rows l s w) (pattern_rows p ++ recipe_rows r) h sides_passed,
@@ -86,8 +87,8 @@ module _ (l s w : List ℕ) (h : Passed (list_table_rows l s w)) (two : 2 ≤ le
     },
   )
 
-  pub case_1 : (a : ListAnswer) (m x : List ℕ) → Listed p r l s w a m x
-      → (a ≡ ListAnswer.Lines 2) × (m ≡ overwritten case_lines l) × (x ≡ overwritten value_bytes s)
+  pub case_1 : (a : Result ℕ Refusal) (m x : List ℕ) → Listed p r l s w a m x
+      → (a ≡ Ok 2) × (m ≡ overwritten case_lines l) × (x ≡ overwritten value_bytes s)
   case_1 a m x f =
-      listed_one p r l s w a (ListAnswer.Lines 2) m (overwritten case_lines l) x (overwritten value_bytes s) f
+      listed_one p r l s w a (Ok 2) m (overwritten case_lines l) x (overwritten value_bytes s) f
       case_listed

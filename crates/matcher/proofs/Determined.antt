@@ -6,6 +6,8 @@ use mathlib.Core.List.{List, [], ◌∷◌}
 use mathlib.Core.Logic.{◌⊎◌, inl, inr}
 use Prim.Native.Nat.{ℕ, ◌*◌}
 use lib.ListN.{length, replicate}
+use Rattle.std.specs.declared.result.Result.{Result}
+use Rattle.std.specs.declared.result.Result.TheVariants.{Ok, Err}
 use Rattle.terms.specs.Figures.{variables}
 use Rattle.terms.specs.Term.{Term, Occurs}
 use Rattle.terms.specs.Table.{IsTable}
@@ -20,7 +22,6 @@ use Rattle.refusals.specs.declared.Refusal.{Refusal}
 use Rattle.refusals.specs.Judged.{number}
 use Rattle.refusals.specs.Lent.{overwritten}
 use Rattle.refusals.proofs.Numbers.{refusal_one}
-use Rattle.enumeration.specs.declared.ListAnswer.{ListAnswer}
 use Rattle.enumeration.specs.Written.{lent_lines, lent_records, ListingOf, WrittenLines, NoRoom}
 use Rattle.matcher.specs.Operations.{lent_for_list, Listed}
 use Rattle.matcher.proofs.Listed.{listing_one}
@@ -62,15 +63,15 @@ module _ (p r l s w : List ℕ) where
           f.value_bytes ∙ ap (λ (ls : List Line). overwritten (value_table ls) s) e ∙ sym g.value_bytes,
         )
 
-  pub listed_one : (a b : ListAnswer) (m n x y : List ℕ) → Listed p r l s w a m x → Listed p r l s w b n y
+  pub listed_one : (a b : Result ℕ Refusal) (m n x y : List ℕ) → Listed p r l s w a m x → Listed p r l s w b n y
       → (a ≡ b) × (m ≡ n) × (x ≡ y)
   unfolding Listed
-  listed_one (ListAnswer.Lines j) (ListAnswer.Lines k) m n x y f g =
-      let e = written_one j m x f.0 f.1 k n y g.1 in (ap ListAnswer.Lines e.0, e.1, e.2)
-  listed_one (ListAnswer.Lines j) (ListAnswer.Refused d) m n x y f g = absurd (refused_written j m x f.0 f.1 d g.0)
-  listed_one (ListAnswer.Refused c) (ListAnswer.Lines k) m n x y f g = absurd (refused_written k n y g.0 g.1 c f.0)
-  listed_one (ListAnswer.Refused c) (ListAnswer.Refused d) m n x y f g =
-      (ap ListAnswer.Refused (cause_one c d f.0 g.0), f.1 ∙ sym g.1, f.2 ∙ sym g.2)
+  listed_one (Ok j) (Ok k) m n x y f g =
+      let e = written_one j m x f.0 f.1 k n y g.1 in (ap Ok e.0, e.1, e.2)
+  listed_one (Ok j) (Err d) m n x y f g = absurd (refused_written j m x f.0 f.1 d g.0)
+  listed_one (Err c) (Ok k) m n x y f g = absurd (refused_written k n y g.0 g.1 c f.0)
+  listed_one (Err c) (Err d) m n x y f g =
+      (ap Err (cause_one c d f.0 g.0), f.1 ∙ sym g.1, f.2 ∙ sym g.2)
 
   -- "A pattern without variables has one all-zero line or none.", of the count and the bytes; there are no values
   module _ (t : Term) (i : IsTable p t) (h : (v : ℕ) → ¬ Occurs v t) where
@@ -97,7 +98,7 @@ module _ (p r l s w : List ℕ) where
               values_of ls e ∙ ap (λ (b : List ℕ). overwritten b s) (open_value_table variables),
             )
 
-    pub listed_ground : (n : ℕ) (m x : List ℕ) → Listed p r l s w (ListAnswer.Lines n) m x
+    pub listed_ground : (n : ℕ) (m x : List ℕ) → Listed p r l s w (Ok n) m x
         → (((n ≡ 0) × (m ≡ l)) ⊎ ((n ≡ 1) × (m ≡ overwritten (replicate (4 * variables) 0) l))) × (x ≡ s)
     unfolding Listed
     listed_ground n m x f = written_ground n m x f.1

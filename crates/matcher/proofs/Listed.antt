@@ -8,6 +8,10 @@ use Prim.Native.Nat.{ℕ, ◌≤◌, ◌<◌}
 use native.Mathlib.Omega.{arith}
 use lib.Dec.{lit<}
 use lib.ListN.{length}
+use Rattle.std.specs.Prelude.{⊤}
+use Rattle.std.specs.Result.{result_and}
+use Rattle.std.specs.declared.result.Result.{Result}
+use Rattle.std.specs.declared.result.Result.TheVariants.{Ok, Err}
 use Rattle.terms.specs.Figures.{variables, table_bytes}
 use Rattle.terms.specs.Term.{Term, Below}
 use Rattle.terms.specs.Table.{encode, good_records, IsTable}
@@ -17,26 +21,24 @@ use Rattle.terms.proofs.Table.{encode_one, good_below}
 use Rattle.terms.proofs.Refusal.{refused_passed}
 use Rattle.matching.proofs.Listing.{unique}
 use Rattle.records.specs.Checks.{Pattern, Recipe}
-use Rattle.refusals.specs.declared.Verdict.{Verdict}
 use Rattle.refusals.specs.declared.Refusal.{Refusal}
-use Rattle.refusals.specs.Judged.{number, Judged, first_of}
-use Rattle.refusals.proofs.Judging.{judged_more, judged_first}
+use Rattle.refusals.specs.Judged.{number, Judged}
+use Rattle.refusals.proofs.Judging.{passed, refused, judged_more, judged_and}
 use Rattle.refusals.proofs.Numbers.{number_inj}
-use Rattle.enumeration.specs.declared.ListAnswer.{ListAnswer}
 use Rattle.enumeration.specs.Written.{lent_lines, lent_records, ListingOf, NoRoom, Enumerated}
 use Rattle.matcher.specs.Operations.{lent_for_list, Listed, TooMany, NineExactly}
 use Rattle.enumeration.specs.Steps.{ListTables}
 
 -- the tables that list is lent, judged
 pub judged_list :
-    (p t l s w : List ℕ) (a b r : Verdict)
+    (p t l s w : List ℕ) (a b : Result ⊤ Refusal)
     → Judged (list_table_rows l s w) ((length l ≤ table_bytes) × ((length s ≤ table_bytes) × (length w ≡ table_bytes))) a
-    → Judged (pattern_rows p ++ recipe_rows t) (Pattern p × Recipe t) b → r ≡ first_of a b → Judged (lent_for_list p t l s w)
-    (ListTables p t l s w) r
-judged_list p t l s w a b r x y e =
-    judged_more _ _ _ r
+    → Judged (pattern_rows p ++ recipe_rows t) (Pattern p × Recipe t) b
+    → Judged (lent_for_list p t l s w) (ListTables p t l s w) (result_and a b)
+judged_list p t l s w a b x y =
+    judged_more _ _ _ (result_and a b)
     (λ z. record { pattern_checked = z.1.0; recipe_checked = z.1.1; lines_most = z.0.0; values_most = z.0.1.0; area = z.0.1.1 })
-    (judged_first (list_table_rows l s w) (pattern_rows p ++ recipe_rows t) _ _ a b r x y e)
+    (judged_and (list_table_rows l s w) _ (pattern_rows p ++ recipe_rows t) _ a b x y)
 
 -- the numbers of the rows before 9
 abbrev Low : List Row → Type 0
@@ -73,7 +75,7 @@ module _ (p r l s w : List ℕ) where
       (encode_one g.recipe_term y (sym g.recipe_table.0 ∙ f.recipe_table.0)) g.full)
 
   -- 9, exactly
-  nine_many : (m q : List ℕ) → Listed p r l s w (ListAnswer.Refused Refusal.LineRoom) m q → TooMany p r l s w
+  nine_many : (m q : List ℕ) → Listed p r l s w (Err Refusal.LineRoom) m q → TooMany p r l s w
   unfolding Listed
   nine_many m q x = go x.0
     where
@@ -86,42 +88,36 @@ module _ (p r l s w : List ℕ) where
       go (inl c) = absurd (omega (arith, low_refused lent 9 low_lent c))
       go (inr (h, n)) = more h n n.cause
 
-  many_nine : (a : ListAnswer) (m q : List ℕ) → Listed p r l s w a m q → TooMany p r l s w → a ≡ ListAnswer.Refused Refusal.LineRoom
+  many_nine : (a : Result ℕ Refusal) (m q : List ℕ) → Listed p r l s w a m q → TooMany p r l s w → a ≡ Err Refusal.LineRoom
   unfolding Listed
-  many_nine (ListAnswer.Lines n) m q x z = absurd (x.1.room.0 (z.1 x.1.lines x.1.listing_of))
-  many_nine (ListAnswer.Refused c) m q x z = go x.0
+  many_nine (Ok n) m q x z = absurd (x.1.room.0 (z.1 x.1.lines x.1.listing_of))
+  many_nine (Err c) m q x z = go x.0
     where
       more : (n : NoRoom p r l s (number c)) → Refused (listing_rows (lent_lines l) (lent_records s) n.lines) (number c)
-          → ListAnswer.Refused c ≡ ListAnswer.Refused Refusal.LineRoom
-      more n (inl d) = ap ListAnswer.Refused (number_inj c Refusal.LineRoom d.1)
+          → ◌≡◌ {A = Result ℕ Refusal} (Err c) (Err Refusal.LineRoom)
+      more n (inl d) = ap Err (number_inj c Refusal.LineRoom d.1)
       more n (inr d) = absurd (d.0 (z.1 n.lines n.listing_of))
 
-      go : Refused lent (number c) ⊎ (Passed lent × NoRoom p r l s (number c)) → ListAnswer.Refused c ≡ ListAnswer.Refused Refusal.LineRoom
+      go : Refused lent (number c) ⊎ (Passed lent × NoRoom p r l s (number c)) → ◌≡◌ {A = Result ℕ Refusal} (Err c) (Err Refusal.LineRoom)
       go (inl d) = absurd (refused_passed lent (number c) d z.0)
       go (inr (h, n)) = more n n.cause
 
-  listed_nine : (a : ListAnswer) (m q : List ℕ) → Listed p r l s w a m q → NineExactly p r l s w a
+  listed_nine : (a : Result ℕ Refusal) (m q : List ℕ) → Listed p r l s w a m q → NineExactly p r l s w a
   unfolding NineExactly
-  listed_nine a m q x = (λ e. nine_many m q (subst (λ (b : ListAnswer). Listed p r l s w b m q) e x), many_nine a m q x)
+  listed_nine a m q x = (λ e. nine_many m q (subst (λ (b : Result ℕ Refusal). Listed p r l s w b m q) e x), many_nine a m q x)
 
   -- an answer, that 9 is exact, and what else is promised with them
-  pub listed_all : (A : Type 0) (a : ListAnswer) (m q : List ℕ) → Listed p r l s w a m q → A
+  pub listed_all : (A : Type 0) (a : Result ℕ Refusal) (m q : List ℕ) → Listed p r l s w a m q → A
       → Listed p r l s w a m q × (NineExactly p r l s w a × A)
   listed_all A a m q x y = (x, (listed_nine a m q x, y))
 
   -- from the verdict and the search
-  module _ (v : Verdict) (x : Judged lent (ListTables p r l s w) v) where
-    pub listed_lent : (c : Refusal) → v ≡ Verdict.Refused c → Listed p r l s w (ListAnswer.Refused c) l s
-    unfolding Listed Judged
-    listed_lent c e = (inl (subst (Judged lent (ListTables p r l s w)) e x), refl, refl)
+  pub listed_lent : (c : Refusal) → Judged lent (ListTables p r l s w) (Err c) → Listed p r l s w (Err c) l s
+  unfolding Listed
+  listed_lent c x = (inl (refused lent (ListTables p r l s w) c x), refl, refl)
 
-    pub listed_enumerated : v ≡ Verdict.Right → (a : ListAnswer) (m q : List ℕ) → Enumerated p r l s a m q → Listed p r l s w a m q
-    unfolding Listed Judged Enumerated
-    listed_enumerated e a m q y = go a y
-      where
-        passed : Passed lent
-        passed = (subst (Judged lent (ListTables p r l s w)) e x).0
-
-        go : (a : ListAnswer) → Enumerated p r l s a m q → Listed p r l s w a m q
-        go (ListAnswer.Lines n) z = (passed, z)
-        go (ListAnswer.Refused c) z = (inr (passed, z.0), z.1, z.2)
+  pub listed_enumerated : Judged lent (ListTables p r l s w) (Ok tt) → (a : Result ℕ Refusal) (m q : List ℕ)
+      → Enumerated p r l s a m q → Listed p r l s w a m q
+  unfolding Listed Enumerated
+  listed_enumerated x (Ok n) m q z = (passed lent (ListTables p r l s w) x, z)
+  listed_enumerated x (Err c) m q z = (inr (passed lent (ListTables p r l s w) x, z.0), z.1, z.2)

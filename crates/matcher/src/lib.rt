@@ -17,25 +17,24 @@ ghost use Rattle.refusals.specs.Lent.{cleared};
 ghost use Rattle.matcher.specs.Operations.{lent_for_list, Listed, NineExactly};
 ghost use Rattle.enumeration.specs.Steps.{ListTables};
 
-use enumeration::ListAnswer;
 use records::LINE;
-use refusals::Verdict;
+use refusals::Refusal;
 
 // All that list is lent: 8; pattern 1, 2, 3; recipe 4 to 7.
-fn judge_list(pattern: &[u8], recipe: &[u8], lines: &[u8], values: &[u8], work: &[u8]) -> Verdict
+fn judge_list(
+    pattern: &[u8],
+    recipe: &[u8],
+    lines: &[u8],
+    values: &[u8],
+    work: &[u8],
+) -> Result<(), Refusal>
     ensures { Judged
         (lent_for_list pattern.now recipe.now lines.now values.now work.now)
         (ListTables pattern.now recipe.now lines.now values.now work.now) result }
 {
-    let sides = refusals::first(
-        refusals::judge_pattern(pattern),
-        refusals::judge_recipe(recipe),
-    );
-    let tables = refusals::first(
-        refusals::judge_table(lines, LINE),
-        refusals::judge_room(values, work),
-    );
-    refusals::first(tables, sides)
+    let tables = refusals::judge_table(lines, LINE).and(refusals::judge_room(values, work));
+    let sides = refusals::judge_pattern(pattern).and(refusals::judge_recipe(recipe));
+    tables.and(sides)
 }
 
 // Lists the matches of a pattern and a recipe.
@@ -45,22 +44,22 @@ pub fn list(
     lines: &mut [u8],
     values: &mut [u8],
     work: &mut [u8],
-) -> ListAnswer
+) -> Result<usize, Refusal>
     ensures answer { Listed pattern.now recipe.now lines.old values.old
         work.old result lines.new values.new }
     ensures nine { NineExactly pattern.now recipe.now lines.old values.old
         work.old result }
     ensures area { work.new ≡ cleared work.old }
 {
-    let verdict = judge_list(pattern, recipe, lines, values, work);
-    match verdict {
-        Verdict::Refused(c) => {
+    match judge_list(pattern, recipe, lines, values, work) {
+        Err(refusal) => {
             refusals::clear(work);
-            return ListAnswer::Refused(c);
+            Err(refusal)
         }
-        Verdict::Right => {}
+        Ok(()) => {
+            let answer = enumeration::enumerate(pattern, recipe, lines, values, work);
+            refusals::clear(work);
+            answer
+        }
     }
-    let answer = enumeration::enumerate(pattern, recipe, lines, values, work);
-    refusals::clear(work);
-    answer
 }

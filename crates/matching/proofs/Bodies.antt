@@ -310,7 +310,8 @@ body_ground e =
 pub body_normal : (e t : Term) (c : ℕ → Bool) → Normal t → is_eta (body e 0 t c 0) ≡ false → Normal (lam (body e 0 t c 0))
 body_normal e t c h p = (rw p tt, normal_substitute 0 e (body e 0 t c 0) (rw (body_substitute e 0 t c 0) h))
 
-pub body_eta : (φ : ℕ → Term) (f e t : Term) (c : ℕ → Bool) → Normal t → is_eta (body e 0 t c 0) ≡ true → ¬ Sweeps f (lam (body e 0 t c 0)) φ
+pub body_eta : (φ : ℕ → Term) (f e t : Term) (c : ℕ → Bool) → Normal t → is_eta (body e 0 t c 0) ≡ true
+    → ¬ Sweeps f (lam (body e 0 t c 0)) φ
 body_eta φ f e t c h p s =
     let n = lam_normal_of (body e 0 t c 0) e t h (rw s at (contracted_sweep (fill φ f))) (body_substitute e 0 t c 0) in
     rw p at n.0

@@ -89,7 +89,8 @@ found_used d e (app f a) u =
     (λ p. found_argument d (substitute d e f) (substitute d e a) e (found_used d e a p)) (or_true (uses d f) (uses d a) u)
 found_used d e (lam b) u = let r = found_used (suc d) e b u in (suc r.0, omega (arith, r.1), r.2)
 found_used d e (loc n) u =
-    rw (substitute_here d e n (eqb-true n d u)) (0, size_pos (shift d 0 e), subst (λ q. Copy q e) (sym (part_at_first d (shift d 0 e))) refl)
+    rw (substitute_here d e n (eqb-true n d u))
+    (0, size_pos (shift d 0 e), subst (λ q. Copy q e) (sym (part_at_first d (shift d 0 e))) refl)
 found_used d e (con n) u = absurd (subst T (sym u) tt)
 found_used d e (var n) u = absurd (subst T (sym u) tt)
 

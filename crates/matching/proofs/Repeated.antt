@@ -233,7 +233,8 @@ body_target_replace d cs (lam b) = refl
 body_target_replace d cs (loc n) = body_target_other (replace d cs (loc n)) other ∙ replace_innermost d cs (loc n)
   where
     other : is_abstraction (replace d cs (loc n)) ≡ false
-    other = by_ltb (λ s. is_abstraction (cond s (loc n) (pick d cs (n - d))) ≡ false) n d (λ l. refl) (λ l. pick_no_abstraction d cs (n - d))
+    other = by_ltb (λ s. is_abstraction (cond s (loc n) (pick d cs (n - d))) ≡ false) n d (λ l. refl)
+        (λ l. pick_no_abstraction d cs (n - d))
 body_target_replace d cs (con n) = replace_innermost d cs (con n)
 body_target_replace d cs (var n) = replace_innermost d cs (var n)
 

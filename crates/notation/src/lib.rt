@@ -102,10 +102,8 @@ fn put_items(out: &mut [u8], at: usize, item: Item) -> usize
 {
     let times = times_at(item, at);
     let mut end = at;
-    let mut i = 0;
-    while i < times {
+    for _ in 0..times {
         end = put_item(out, end, item.sign, item.number);
-        i += 1;
     }
     end
 }
@@ -166,12 +164,9 @@ pub fn build(text: &[u8], out: &mut [u8]) -> usize
         number: 0,
         times: 1,
     };
-    let mut i = 0;
-    while i < text.len() {
-        let c = text[i];
-        end = put_before(out, end, item, c);
-        item = read(item, c);
-        i += 1;
+    for c in text {
+        end = put_before(out, end, item, *c);
+        item = read(item, *c);
     }
     put_items(out, end, item)
 }
@@ -201,10 +196,8 @@ pub fn bytes_in(field: &[u8], none: usize) -> usize {
         return none;
     }
     let mut number = 0;
-    let mut i = 0;
-    while i < field.len() {
-        number = with_character(number, field[i]);
-        i += 1;
+    for c in field {
+        number = with_character(number, *c);
     }
     number
 }
@@ -224,38 +217,15 @@ pub fn find(text: &[u8], at: usize, sign: u8) -> usize
     requires { at ≤ length text.now }
     ensures { (at ≤ result) × (result ≤ length text.now) }
 {
-    let mut i = at;
-    while i < text.len() {
-        if text[i] == sign {
-            return i;
-        }
-        i += 1;
-    }
-    i
-}
-
-// Where the field after the one from `at` on starts, or the end.
-fn next_field(case: &[u8], at: usize) -> usize
-    requires { at ≤ length case.now }
-    ensures { result ≤ length case.now }
-{
-    let end = find(case, at, b';');
-    if end == case.len() {
-        return end;
-    }
-    end + 1
+    text[at..]
+        .iter()
+        .position(|c| *c == sign)
+        .map_or(text.len(), |i| at + i)
 }
 
 // The k-th field of a case, from 0; empty if it has none.
 pub fn field(case: &[u8], k: usize) -> &[u8] {
-    let mut at = 0;
-    let mut i = 0;
-    while i < k {
-        at = next_field(case, at);
-        i += 1;
-    }
-    let end = find(case, at, b';');
-    &case[at..end]
+    case.split(|c| *c == b';').nth(k).unwrap_or(b"")
 }
 
 // The table that the k-th field writes, built at the start of `room`.
@@ -275,14 +245,7 @@ pub fn say(text: &[u8]) {
 }
 
 pub fn is_all(table: &[u8], b: u8) -> bool {
-    let mut i = 0;
-    while i < table.len() {
-        if table[i] != b {
-            return false;
-        }
-        i += 1;
-    }
-    true
+    table.iter().all(|byte| *byte == b)
 }
 
 // The letter that a field's word starts with, behind a blank.

@@ -9,6 +9,8 @@ use Prim.Native.Nat.{ℕ, ◌+◌, ◌-◌, ◌*◌, ◌%◌, ◌<◌, ◌≤◌
 use native.Mathlib.Omega.{arith}
 use lib.ListN.{length, take, drop}
 use lib.Seq.{sets}
+use Rattle.std.specs.declared.option.Option.{Option}
+use Rattle.std.specs.declared.option.Option.TheVariants.{Some, None}
 use Rattle.terms.specs.Figures.{variables, pattern_records, value_records, table_bytes}
 use Rattle.terms.specs.Term.{Term, var, size, shift, Closed}
 use Rattle.terms.specs.Table.{encode}
@@ -22,8 +24,6 @@ use Rattle.matching.proofs.Targets.{closed_shift}
 use Rattle.matching.proofs.Repeated.{length_firsts, size_spine, suits_spine, size_join, size_enclose}
 use Rattle.matching.proofs.Repeated.{join_closed, enclose_normal, enclose_closed, enclose_ground, goals_forced, goals_none}
 use Rattle.records.specs.Parts.{slice, Part, Whole}
-use Rattle.records.specs.declared.Walk.{Walk}
-use Rattle.records.specs.declared.Walk.TheVariants.{Upto, No}
 use Rattle.records.proofs.Parts.{part_one, whole}
 use Rattle.records.proofs.Slices.{part_slice}
 use Rattle.heights.specs.Heights.{heights}
@@ -34,16 +34,11 @@ use Rattle.agenda.specs.declared.Agenda.{Agenda}
 use Rattle.agenda.specs.declared.StoredGoal.{StoredGoal}
 use Rattle.agenda.specs.declared.Decision.TheVariants as decision
 use Rattle.joins.specs.declared.pairs.Pairs.{Pairs}
-use Rattle.joins.specs.declared.pairs.Spines.{Spines}
-use Rattle.joins.specs.declared.pairs.Spines.TheVariants.{Apart}
 use Rattle.ordering.specs.declared.repeated.Occurrences.{Occurrences}
-use Rattle.ordering.specs.declared.repeated.Search.{Search}
-use Rattle.ordering.specs.declared.repeated.Search.TheVariants.{Found, Nothing}
-use Rattle.agenda.specs.Stored.{stored_bytes, StoredAt, StoredFits}
+use Rattle.agenda.specs.Stored.{stored_bytes, StoredAt, StoredFits, stored_match}
 use Rattle.agenda.specs.State.{target_start, goal_bytes, height_bytes, relinking, pattern_at, origin_at, target_at, next_at, IsMatch}
 use Rattle.agenda.specs.State.{WrittenTarget, Target, Easy, Deferred, Node, Chain, weight, weights, Ready}
 use Rattle.agenda.specs.Moves.{Decided}
-use Rattle.agenda.specs.Stored.{stored_match}
 use Rattle.ordering.specs.Ordering.{Reaches, Reaches.here, Reaches.further, Drops, Dropped}
 use Rattle.joins.specs.Pairs.{pairs_of, Repeated, Repeats}
 use Rattle.joins.specs.Joins.{Joins, Joint, Joined, Encloses, Enclosed}
@@ -82,11 +77,11 @@ module _ {P W : List ℕ} {at : ℕ} {r : StoredGoal} (x : GoalsListed P W at) (
       go (build f t e) n = absurd (n.goal.kind (sym y.argument ∙ k))
 
 module _ (P W : List ℕ) (at : ℕ) where
-  pub finds_nothing : RepeatedFound P W at Nothing
+  pub finds_nothing : RepeatedFound P W at None
   unfolding RepeatedFound
   finds_nothing = tt
 
-  pub later_nothing : (i x : ℕ) → Later P W at i x Nothing
+  pub later_nothing : (i x : ℕ) → Later P W at i x None
   unfolding Later
   later_nothing i x = tt
 
@@ -94,11 +89,11 @@ module _ (P W : List ℕ) (at : ℕ) where
     some_goal : 0 < at
     some_goal = omega (arith, s)
 
-    pub later_here : (i x : ℕ) (o : Spines) (q : Pairs) → r.argument ≡ 0 → o ≡ Apart q → Repeats P x r.part o
-        → Later P W at i x (Found (record { first = i; second = at; pairs = q }))
+    pub later_here : (i x : ℕ) (o : Option Pairs) (q : Pairs) → r.argument ≡ 0 → o ≡ Some q → Repeats P x r.part o
+        → Later P W at i x (Some (record { first = i; second = at; pairs = q }))
     unfolding Later Repeats
     later_here i x o q k e z =
-        let w : Repeats P x r.part (Apart q) = subst (Repeats P x r.part) e z in
+        let w : Repeats P x r.part (Some q) = subst (Repeats P x r.part) e z in
         record {
           first = refl;
           reaches = here some_goal refl;
@@ -106,17 +101,17 @@ module _ (P W : List ℕ) (at : ℕ) where
           repeated = subst (λ (j : ℕ). Repeated P x j q) y.part w;
         }
 
-    pub later_further : (i x : ℕ) (o : Search) → Later P W r.next i x o → Later P W at i x o
+    pub later_further : (i x : ℕ) (o : Option Occurrences) → Later P W r.next i x o → Later P W at i x o
     unfolding Later
-    later_further i x (Found q) z =
+    later_further i x (Some q) z =
         record { first = z.first; reaches = further some_goal (rw y.next at z.reaches); kind = z.kind; repeated = z.repeated }
-    later_further i x Nothing z = tt
+    later_further i x None z = tt
 
-    pub finds_here : (o : Search) (q : Occurrences) → r.argument ≡ 0 → o ≡ Found q → Later P W r.next at r.part o
-        → RepeatedFound P W at (Found q)
+    pub finds_here : (o : Option Occurrences) (q : Occurrences) → r.argument ≡ 0 → o ≡ Some q → Later P W r.next at r.part o
+        → RepeatedFound P W at (Some q)
     unfolding Later RepeatedFound
     finds_here o q k e z =
-        let w : Later P W r.next at r.part (Found q) = subst (Later P W r.next at r.part) e z in
+        let w : Later P W r.next at r.part (Some q) = subst (Later P W r.next at r.part) e z in
         let f : at ≡ q.first = sym w.first in
         record {
           reaches = here some_goal f;
@@ -127,20 +122,20 @@ module _ (P W : List ℕ) (at : ℕ) where
               (subst (λ (j : ℕ). Repeated P j (pattern_at W q.second) q.pairs) y.part w.repeated);
         }
 
-    pub finds_further : (o : Search) → RepeatedFound P W r.next o → RepeatedFound P W at o
+    pub finds_further : (o : Option Occurrences) → RepeatedFound P W r.next o → RepeatedFound P W at o
     unfolding RepeatedFound
-    finds_further (Found q) z = record {
+    finds_further (Some q) z = record {
       reaches = further some_goal (rw y.next at z.reaches);
       later = z.later;
       first_kind = z.first_kind;
       second_kind = z.second_kind;
       repeated = z.repeated;
     }
-    finds_further Nothing z = tt
+    finds_further None z = tt
 
-pub found_twice : (P W : List ℕ) (at : ℕ) (o : Search) (r : Occurrences) → o ≡ Found r → RepeatedFound P W at o → Twice P W at r
+pub found_twice : (P W : List ℕ) (at : ℕ) (o : Option Occurrences) (r : Occurrences) → o ≡ Some r → RepeatedFound P W at o → Twice P W at r
 unfolding RepeatedFound
-found_twice P W at o r e x = let y : RepeatedFound P W at (Found r) = subst (RepeatedFound P W at) e x in y
+found_twice P W at o r e x = let y : RepeatedFound P W at (Some r) = subst (RepeatedFound P W at) e x in y
 
 -- a goal of a list
 record Among (P W : List ℕ) (top i : ℕ) (gs : List Goal) : Type 0 where
@@ -345,10 +340,10 @@ module _ {P W : List ℕ} {s : Agenda} {a : List Entry} (x : Ready 0 P W s a) wh
             most = omega arith;
           }
 
-      module _ {out after : List ℕ} {w : Walk}
+      module _ {out after : List ℕ} {w : Option ℕ}
           (z : Joined P r.pairs (slice W one.target) (slice W two.target) 0 out 0 after w) where
         -- no value comes to both targets
-        pub forced_failed : w ≡ No → Decided 0 P W s a W decision.Failed
+        pub forced_failed : w ≡ None → Decided 0 P W s a W decision.Failed
         unfolding Decided
         forced_failed e = record {
           none = λ gs hs l st φ v m.
@@ -371,7 +366,7 @@ module _ {P W : List ℕ} {s : Agenda} {a : List Entry} (x : Ready 0 P W s a) wh
           kept = refl;
         }
 
-        module _ {n : ℕ} (e : w ≡ Upto n) where
+        module _ {n : ℕ} (e : w ≡ Some n) where
           target_size : n ≡ 4 * size meant.t
           target_size = omega (arith, (joined_ends e z).exact meant.t target_part)
 

@@ -299,18 +299,12 @@ module _ {P W : List ℕ} (x : Branches P W) where
   pub branches_argument : {h : ℕ} → Ends P 4 h → Whole (slice P h) 0
   branches_argument {h} e = whole_slice P h (whole_argument P 0 h x.part x.kind e)
 
-  part_whole : {end : ℕ} (k : ℕ) → Ends W 0 end → k < end / 4 → Whole W (4 * k)
-  part_whole k e h =
+  pub branches_whole : {end : ℕ} (k : ℕ) → Ends W 0 end → k < end / 4 → Whole W (4 * k)
+  branches_whole k e h =
       let t = x.target.tree in
       let p = x.target.part in
       let n : 0 + 4 * k ≡ 4 * k = omega arith in
       subst (Whole W) n (whole W (0 + 4 * k) (part_at 0 t k).1 (part_at_lem W 0 0 t k p (omega (arith, e.exact t p))))
-
-  pub branches_place : {end : ℕ} (k : ℕ) → Ends W 0 end → k < end / 4 → 4 * k ≤ length W
-  branches_place k e h = omega (arith, (part_whole k e h).least)
-
-  pub branches_part : {end : ℕ} (k : ℕ) → Ends W 0 end → k < end / 4 → Whole (slice W (4 * k)) 0
-  branches_part k e h = whole_slice W (4 * k) (part_whole k e h)
 
 -- the steps of a walk over a list
 module _ {P W : List ℕ} {at : ℕ} (x : Ranks P W at) where

@@ -5,12 +5,12 @@
 --   Later P W at i x r       if r has two goals, that holds of them
 --   Twice P W at r           the list from byte `at` on comes to the two goals of r, one after the other, whose parts repeat one variable
 --   RepeatedFound P W at r   if r has two goals, that holds of them
+use Rattle.std.specs.declared.option.Option.{Option}
+use Rattle.std.specs.declared.option.Option.TheVariants.{Some, None}
 use Rattle.std.specs.Prelude.{◌≡◌, List, ℕ, ◌+◌, ◌*◌, ◌≤◌, length}
 use Rattle.terms.specs.Figures.{pattern_records, table_bytes}
 use Rattle.matching.specs.Goals.{Goal}
 use Rattle.ordering.specs.declared.repeated.Occurrences.{Occurrences}
-use Rattle.ordering.specs.declared.repeated.Search.{Search}
-use Rattle.ordering.specs.declared.repeated.Search.TheVariants.{Found, Nothing}
 use Rattle.agenda.specs.State.{goal_bytes, pattern_at, next_at, IsMatch, Deferred, Chain}
 use Rattle.ordering.specs.Ordering.{Reaches}
 use Rattle.joins.specs.Pairs.{Repeated}
@@ -30,9 +30,9 @@ pub record Second (P W : List ℕ) (at i x : ℕ) (r : Occurrences) : Type 0 whe
   pub kind : IsMatch W r.second
   pub repeated : Repeated P x (pattern_at W r.second) r.pairs
 
-unfoldable pub Later : List ℕ → List ℕ → ℕ → ℕ → ℕ → Search → Type 0
-Later P W at i x (Found r) = Second P W at i x r
-Later P W at i x Nothing = Unit {0}
+unfoldable pub Later : List ℕ → List ℕ → ℕ → ℕ → ℕ → Option Occurrences → Type 0
+Later P W at i x (Some r) = Second P W at i x r
+Later P W at i x None = Unit {0}
 
 pub record Twice (P W : List ℕ) (at : ℕ) (r : Occurrences) : Type 0 where
   pub reaches : Reaches W at r.first
@@ -41,6 +41,6 @@ pub record Twice (P W : List ℕ) (at : ℕ) (r : Occurrences) : Type 0 where
   pub second_kind : IsMatch W r.second
   pub repeated : Repeated P (pattern_at W r.first) (pattern_at W r.second) r.pairs
 
-unfoldable pub RepeatedFound : List ℕ → List ℕ → ℕ → Search → Type 0
-RepeatedFound P W at (Found r) = Twice P W at r
-RepeatedFound P W at Nothing = Unit {0}
+unfoldable pub RepeatedFound : List ℕ → List ℕ → ℕ → Option Occurrences → Type 0
+RepeatedFound P W at (Some r) = Twice P W at r
+RepeatedFound P W at None = Unit {0}

@@ -1,7 +1,7 @@
 // Which of the deferred goals is taken first. The one that is likely to branch least is brought to the front of their list; any order has
 // the same assignments, so that nothing depends on how well this is judged.
 
-ghost use Rattle.std.specs.Prelude.{◌≡◌, ◌<◌, ◌≤◌};
+ghost use Rattle.std.specs.Prelude.{◌≡◌, ◌*◌, ◌<◌};
 ghost use Rattle.records.specs.Parts.{Whole};
 ghost use Rattle.agenda.specs.State.{Ready};
 ghost use Rattle.ordering.specs.Forwarding.{Forwarded};
@@ -21,26 +21,20 @@ const MOST_BODIES: usize = 16380;
 // local at one of them.
 fn bodies_cost(copies: usize) -> usize {
     let mut n = 0;
-    let mut i = 0;
-    while i < copies {
+    for _ in 0..copies {
         n = 2 * n + BODY;
         if MOST_BODIES <= n {
             return MOST_BODIES;
         }
-        i += 1;
     }
     n
 }
 
-// 1 if the term that `argument` begins with may sweep to the one that `target` begins with, moved out of binders, and 0 if it can't.
-fn candidate(argument: &[u8], target: &[u8]) -> usize
-    requires { Whole argument.now 0 × Whole target.now 0 }
-    ensures { result ≤ 1 }
+// Whether the term that `argument` begins with may sweep to the target's part at record k, moved out of binders.
+fn is_candidate(argument: &[u8], target: &[u8], k: usize) -> bool
+    requires { Whole argument.now 0 × Whole target.now (4 * k) }
 {
-    if agenda::heads::heads_agree(argument, target) {
-        return 1;
-    }
-    0
+    agenda::heads::heads_agree(argument, &target[RECORD * k..])
 }
 
 // In how many ways the application that `part` begins with comes to the target, about: the two that need no target for its argument, and
@@ -55,13 +49,9 @@ fn candidates(part: &[u8], target: &[u8]) -> usize
     if !shifting::is_rigid(argument) {
         return 2 + n;
     }
-    let mut count = 2;
-    let mut k = 0;
-    while k < n {
-        count += candidate(argument, &target[RECORD * k..]);
-        k += 1;
-    }
-    count
+    2 + (0..n)
+        .filter(|k| is_candidate(argument, target, *k))
+        .count()
 }
 
 // In how many ways the goal at byte `at` goes on, about. A goal without open variables is decided, and an application has its candidates. A

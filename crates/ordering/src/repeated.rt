@@ -8,8 +8,8 @@ ghost use Rattle.ordering.specs.Repeated.{GoalsListed, Later, RepeatedFound};
 
 use agenda::{Agenda, Decision, GOAL, HEIGHT_BYTES, TARGET_BYTES};
 use assignments::Entry;
-use joins::pairs::{Pairs, Spines};
-use records::{VARIABLES, Walk};
+use joins::pairs::Pairs;
+use records::VARIABLES;
 
 // Two goals that apply one variable to constants, and the pairs of these.
 #[derive(Clone, Copy)]
@@ -19,52 +19,49 @@ pub struct Occurrences {
     pub pairs: Pairs,
 }
 
-// What a walk over a list of goals finds.
-#[derive(Clone, Copy)]
-pub enum Search {
-    Found(Occurrences),
-    Nothing,
-}
-
 // The first goal of a list whose part repeats the variable of `goal`, the part of which is at byte x of the pattern.
-fn find_second(pattern: &[u8], work: &[u8], list: usize, goal: usize, x: usize) -> Search
+fn find_second(
+    pattern: &[u8],
+    work: &[u8],
+    list: usize,
+    goal: usize,
+    x: usize,
+) -> Option<Occurrences>
     requires { GoalsListed pattern.now work.now list × Whole pattern.now x }
     ensures { Later pattern.now work.now list goal x result }
 {
     if list == 0 {
-        return Search::Nothing;
+        return None;
     }
     let stored = agenda::goal_at(work, list);
     if stored.argument != 0 {
         return find_second(pattern, work, stored.next, goal, x);
     }
-    let spines = joins::pairs::spines_at(pattern, x, stored.part);
-    match spines {
-        Spines::Apart(pairs) => Search::Found(Occurrences {
+    match joins::pairs::spines_at(pattern, x, stored.part) {
+        Some(pairs) => Some(Occurrences {
             first: goal,
             second: list,
             pairs,
         }),
-        Spines::Other => find_second(pattern, work, stored.next, goal, x),
+        None => find_second(pattern, work, stored.next, goal, x),
     }
 }
 
 // The first two goals of a list that repeat one variable.
-fn find_first(pattern: &[u8], work: &[u8], list: usize) -> Search
+fn find_first(pattern: &[u8], work: &[u8], list: usize) -> Option<Occurrences>
     requires { GoalsListed pattern.now work.now list }
     ensures { RepeatedFound pattern.now work.now list result }
 {
     if list == 0 {
-        return Search::Nothing;
+        return None;
     }
     let goal = agenda::goal_at(work, list);
     if goal.argument != 0 {
         return find_first(pattern, work, goal.next);
     }
-    let second = find_second(pattern, work, goal.next, list, goal.part);
-    match second {
-        Search::Found(r) => Search::Found(r),
-        Search::Nothing => find_first(pattern, work, goal.next),
+    match find_second(pattern, work, goal.next, list, goal.part) {
+        Some(r) => Some(r),
+        None => find_first(pattern, work, goal.next),
     }
 }
 
@@ -80,7 +77,7 @@ pub fn force(
     ensures { Decided 0 pattern.now work.old agenda entries work.new result }
 {
     let search = find_first(pattern, work, agenda.deferred);
-    let Search::Found(r) = search else {
+    let Some(r) = search else {
         return Decision::Open;
     };
     let pairs = r.pairs;
@@ -90,7 +87,7 @@ pub fn force(
     let u = second.target;
     let mut b = [0u8; TARGET_BYTES];
     let walk = joins::joining::join_into(pattern, pairs, &work[t..], &work[u..], 0, &mut b, 0);
-    let Walk::Upto(n) = walk else {
+    let Some(n) = walk else {
         return Decision::Failed;
     };
     let value = agenda.top + HEIGHT_BYTES;

@@ -46,7 +46,8 @@ line_at X behind rest k (suc i) (l ∷ ls) e h d w =
     let s : drop ((4 * variables) * suc i) (line_table k (l ∷ ls) ++ rest) ≡ drop ((4 * variables) * i) t =
     ap (λ (j : ℕ). drop j (line_table k (l ∷ ls) ++ rest)) p
     ∙ sym (drop-drop ((4 * variables) * i) (4 * variables) (line_table k (l ∷ ls) ++ rest))
-    ∙ ap (drop ((4 * variables) * i)) (ap (drop (4 * variables)) (append_assoc (line_bytes k l) (line_table (k + line_value_records l) ls) rest)
+    ∙ ap (drop ((4 * variables) * i))
+    (ap (drop (4 * variables)) (append_assoc (line_bytes k l) (line_table (k + line_value_records l) ls) rest)
     ∙ drop_at (line_bytes k l) t (4 * variables) n) in
     let v : drop (4 * (k + line_value_records l)) X ≡ value_table ls ++ behind =
     ap (λ (j : ℕ). drop j X) q ∙ sym (drop-drop (4 * line_value_records l) (4 * k) X)

@@ -42,21 +42,15 @@ pub is_same : (s t out : List ℕ) (at r : ℕ) (q : List ℕ) → s ≡ t → P
 is_same s t out at r q e x = subst (λ (w : List ℕ). Puts (Is w) out at r q) e x
 
 -- two digits are a byte
-pub digits_byte : (b x y : ℕ) (out p q : List ℕ) (at m r : ℕ) → x ≡ hex_digit_ascii (b / 16) → y ≡ hex_digit_ascii (b % 16) → Puts (Is (x ∷ [])) out at m p
+pub digits_byte : (b x y : ℕ) (out p q : List ℕ) (at m r : ℕ) → x ≡ hex_digit_ascii (b / 16) → y ≡ hex_digit_ascii (b % 16)
+    → Puts (Is (x ∷ [])) out at m p
     → Puts (Is (y ∷ [])) p m r q → Puts (Is (hex b)) out at r q
 digits_byte b x y out p q at m r e f u w =
     is_same (x ∷ y ∷ []) (hex b) out at r q (ap₂ (λ (i j : ℕ). i ∷ j ∷ []) e f) (is_then (x ∷ []) (y ∷ []) out p q at m r u w)
 
--- the records before the first, one record more, and all
-pub records_none : (l out : List ℕ) (at : ℕ) → Puts (Is (records_text l 0)) out at at out
-records_none l out at = puts (Is []) out at at out [] refl (omega arith) refl
-
+-- one record more
 pub records_more : (l out p q : List ℕ) (k at m r : ℕ) → Puts (Is (records_text l k)) out at m p → Puts (Is (record_text l k)) p m r q
     → Puts (Is (records_text l (k + 1))) out at r q
 records_more l out p q k at m r x y =
     subst (λ (j : ℕ). Puts (Is (records_text l j)) out at r q) (sym (add-one k))
     (is_then (records_text l k) (record_text l k) out p q at m r x y)
-
-pub records_all : (l out q : List ℕ) (k n at r : ℕ) → k ≡ n → Puts (Is (records_text l k)) out at r q
-    → Puts (Is (records_text l n)) out at r q
-records_all l out q k n at r e x = subst (λ (j : ℕ). Puts (Is (records_text l j)) out at r q) e x

@@ -54,7 +54,8 @@ abbrev pub hex : ℕ → List ℕ
 hex b = hex_digit_ascii (b / 16) ∷ hex_digit_ascii (b % 16) ∷ []
 
 abbrev pub record_text : List ℕ → ℕ → List ℕ
-record_text l k = blank ++ hex (get_or l (4 * k) 0) ++ hex (get_or l (4 * k + 1) 0) ++ hex (get_or l (4 * k + 2) 0) ++ hex (get_or l (4 * k + 3) 0)
+record_text l k =
+    blank ++ hex (get_or l (4 * k) 0) ++ hex (get_or l (4 * k + 1) 0) ++ hex (get_or l (4 * k + 2) 0) ++ hex (get_or l (4 * k + 3) 0)
 
 abbrev pub records_text : List ℕ → ℕ → List ℕ
 records_text l zero = []

@@ -103,12 +103,9 @@ fn put_records(out: &mut [u8], at: usize, table: &[u8]) -> usize
     ensures { Puts (Is (records_text table.now (length table.now / 4))) out.old at
         result out.new × (result ≡ at + 9 * (length table.now / 4)) }
 {
-    let n = table.len() / RECORD;
     let mut end = at;
-    let mut k = 0;
-    while k < n {
+    for k in 0..table.len() / RECORD {
         end = put_record(out, end, table, k);
-        k += 1;
     }
     end
 }
@@ -213,12 +210,10 @@ fn is_bare(line: &[u8]) -> bool
     requires { length line.now ≡ 4 * variables }
     ensures { Says result (OpenBefore line.now variables) }
 {
-    let mut v = 0;
-    while v < VARIABLES {
+    for v in 0..VARIABLES {
         if !is_open(assignments::entry_at(line, v)) {
             return false;
         }
-        v += 1;
     }
     true
 }
@@ -231,10 +226,8 @@ fn print_line(out: &mut [u8], number: usize, line: &[u8], values: &[u8])
         print_bare(out, number);
         return;
     }
-    let mut v = 0;
-    while v < VARIABLES {
+    for v in 0..VARIABLES {
         print_entry(out, number, line, v, values);
-        v += 1;
     }
 }
 
@@ -242,12 +235,9 @@ fn print_lines(out: &mut [u8], count: usize, lines: &[u8], values: &[u8])
     requires { (room ≤ length out.old) × Printable count lines.now values.now }
 {
     print_labelled(out, b"matches", count);
-    let mut i = 0;
-    while i < count {
+    for i in 0..count {
         let from = LINE * i;
-        let to = from + LINE;
-        print_line(out, i, &lines[from..to], values);
-        i += 1;
+        print_line(out, i, &lines[from..from + LINE], values);
     }
 }
 

@@ -4,10 +4,12 @@ use mathlib.Core.Path.{◌≡◌, subst}
 use mathlib.Core.List.{List}
 use Prim.Native.Nat.{ℕ, ◌≤◌}
 use lib.ListN.{length}
+use Rattle.std.specs.declared.result.Result.{Result}
+use Rattle.std.specs.declared.result.Result.TheVariants.{Ok}
+use Rattle.refusals.specs.declared.Refusal.{Refusal}
 use Rattle.terms.specs.Figures.{table_bytes}
 use Rattle.enumeration.specs.Written.{WrittenLines}
 use Rattle.matcher.specs.Operations.{Listed}
-use Rattle.enumeration.specs.declared.ListAnswer.{ListAnswer}
 use Rattle.printing.specs.Text.{Printable}
 use Rattle.printing.proofs.Listings.{printable}
 
@@ -17,10 +19,10 @@ written_printable p r l s n L X f g h =
     printable n L X _ _ f.lines f.listing_of.full.entries f.count f.line_bytes f.value_bytes g h
 
 pub listed_printable :
-    (p r l s w : List ℕ) (a : ListAnswer) (L X : List ℕ) → Listed p r l s w a L X → (n : ℕ) → a ≡ ListAnswer.Lines n → length L ≤ table_bytes
+    (p r l s w : List ℕ) (a : Result ℕ Refusal) (L X : List ℕ) → Listed p r l s w a L X → (n : ℕ) → a ≡ Ok n → length L ≤ table_bytes
     → length X ≤ table_bytes
     → Printable n L X
 unfolding Listed
 listed_printable p r l s w a L X x n e g h =
-    let y : Listed p r l s w (ListAnswer.Lines n) L X = subst (λ (b : ListAnswer). Listed p r l s w b L X) e x in
+    let y : Listed p r l s w (Ok n) L X = subst (λ (b : Result ℕ Refusal). Listed p r l s w b L X) e x in
     written_printable p r l s n L X y.1 g h

@@ -15,7 +15,6 @@ ghost use Rattle.std.specs.Prelude.{◌+◌, ◌*◌, ◌≡◌, length};
 ghost use Rattle.io.specs.Counts.{IsPrefixLen};
 ghost use Rattle.terms.specs.Figures.{pattern_records, recipe_records, table_bytes};
 
-use enumeration::ListAnswer;
 use records::{PATTERN_RECORDS, RECIPE_RECORDS, RECORD, TABLE_BYTES};
 use std::io::Read;
 use std::rt::Files;
@@ -31,6 +30,7 @@ fn read_full<F: Read>(file: &mut F, table: &mut [u8]) -> usize
     ensures { IsPrefixLen result table.new }
 {
     let mut done = 0;
+    // No `for`: it goes on by as many bytes as a read gives, and std's `read_exact` doesn't tell how many came before a failure.
     while done < table.len() {
         let n = file.read(&mut table[done..]).unwrap_or(0);
         if n == 0 {
@@ -60,8 +60,8 @@ fn print_answer(pattern: &[u8], recipe: &[u8], lines: &mut [u8], values: &mut [u
 {
     let answer = matcher::list(pattern, recipe, lines, values, work);
     match answer {
-        ListAnswer::Lines(n) => printing::print_listing(n, lines, values),
-        ListAnswer::Refused(c) => printing::print_refusal(refusals::number_of(c)),
+        Ok(n) => printing::print_listing(n, lines, values),
+        Err(c) => printing::print_refusal(refusals::number_of(c)),
     }
 }
 

@@ -2,7 +2,7 @@
 -- is a term's where a pass over its kinds comes to its end. Assumes nothing.
 use mathlib.Core.Path.{◌≡◌, refl, sym, ap, ◌∙◌, subst}
 use mathlib.Core.Bool.{Bool, true, false}
-use mathlib.Core.Option.{Option, none, some}
+use mathlib.Core.Option.{none}
 use mathlib.Core.Logic.{inl, inr, ⊎_elim}
 use mathlib.Core.List.{List, [], ◌∷◌, ◌++◌, append-nil}
 use Prim.Native.Nat.{ℕ, ◌*◌, ◌/◌, ◌%◌, ◌≤◌, ◌<◌}
@@ -20,14 +20,16 @@ use Rattle.terms.proofs.Table.{encode_length, good_below, table_good}
 use Rattle.terms.proofs.OldForm.{numbers_below}
 use Rattle.terms.proofs.Variables.{ground_below}
 use Rattle.terms.proofs.Substitute.{size_pos}
-use Rattle.records.specs.declared.End.{End}
-use Rattle.records.specs.declared.End.TheVariants.{At, Nowhere}
-use Rattle.records.specs.declared.PatternCheck.{PatternCheck}
-use Rattle.records.specs.declared.RecipeCheck.{RecipeCheck}
+use Rattle.std.specs.declared.option.Option.TheVariants.{Some, None}
+use Rattle.std.specs.Prelude.{⊤, is_ok}
+use Rattle.std.specs.declared.result.Result.{Result}
+use Rattle.std.specs.declared.result.Result.TheVariants.{Ok, Err}
+use Rattle.records.specs.declared.PatternFault.{PatternFault}
+use Rattle.records.specs.declared.RecipeFault.{RecipeFault}
 use Rattle.records.specs.Parts.{Ended, Tree}
 use Rattle.records.specs.Tests.{Says, Tells}
 use Rattle.records.specs.Checks.{pattern_refusal, recipe_refusal, Answers, Pattern, NormalTable, ValueTable, OneTerm, Good}
-use Rattle.records.specs.Checks.{TableChecked}
+use Rattle.records.specs.Checks.{TableChecked, of_recipe}
 use Rattle.records.proofs.Record.{rest_bytes, number_fits}
 use Rattle.records.proofs.Parts.{at_start, tree}
 use Rattle.records.proofs.Tests.{says}
@@ -51,30 +53,25 @@ length_right m l t e h b =
     (λ c. ⊎_elim (λ (x : 4 * m < length l). omega arith) (λ f. f (omega arith)) c) b
 
 -- one term, from where the part that the table begins with ends
-ended : (l : List ℕ) (r s : End) → Ended l r → r ≡ s → Ended l s
-ended l r s x e = subst (Ended l) e x
-
-pub none_found_lem : (l : List ℕ) (r : End) → Ended l r → r ≡ Nowhere → ¬ OneTerm l
+pub none_found_lem : (l : List ℕ) → Ended l None → ¬ OneTerm l
 unfolding Ended
-none_found_lem l r x e o = let y : Ended l Nowhere = ended l r Nowhere x e in y o.tree (at_start l o.tree o.table.0)
+none_found_lem l x o = x o.tree (at_start l o.tree o.table.0)
 
-pub more_behind : (l : List ℕ) (r : End) (n : ℕ) → Ended l r → r ≡ At n → n < length l → ¬ OneTerm l
+pub more_behind : (l : List ℕ) (n : ℕ) → Ended l (Some n) → n < length l → ¬ OneTerm l
 unfolding Ended
-more_behind l r n x e h o =
-    let y : Ended l (At n) = ended l r (At n) x e in
-    let p = y.0.exact o.tree (at_start l o.tree o.table.0) in
+more_behind l n x h o =
+    let p = x.0.exact o.tree (at_start l o.tree o.table.0) in
     omega (arith, ap length o.table.0, encode_length o.tree)
 
 length_zero : (l : List ℕ) → length l ≡ 0 → l ≡ []
 length_zero [] e = refl
 length_zero (x ∷ l) e = absurd (omega arith)
 
-pub tree_found : (l : List ℕ) (r : End) (n : ℕ) → Good l → Ended l r → r ≡ At n → length l ≤ n → Tree l
+pub tree_found : (l : List ℕ) (n : ℕ) → Good l → Ended l (Some n) → length l ≤ n → Tree l
 unfolding Ended
-tree_found l r n g x e h =
-    let y : Ended l (At n) = ended l r (At n) x e in
-    let w = y.1 g.allowed g.good in
-    let q = y.0.exact w.tree w.part in
+tree_found l n g x h =
+    let w = x.1 g.allowed g.good in
+    let q = x.0.exact w.tree w.part in
     let z = length_zero w.part.rest
     (omega (arith, ap length w.part.bytes, length-append (encode w.tree) w.part.rest, encode_length w.tree)) in
     tree l w.tree (w.part.bytes ∙ ap (encode w.tree ++◌) z ∙ append-nil (encode w.tree))
@@ -85,7 +82,7 @@ one_term l false x c = λ o. c o.tree o.table.0 o.table.1
 
 -- the answers of `check_table`, by what its tests say
 module _ (m : ℕ) (l : List ℕ) (b : Bool) (bad : Says b (BadLength m l)) where
-  pub length_checked : (v : ℕ) → b ≡ true → TableChecked m v l PatternCheck.BadLength
+  pub length_checked : (v : ℕ) → b ≡ true → TableChecked m v l (Err PatternFault.BadLength)
   unfolding TableChecked
   length_checked v p = says (BadLength m l) b true bad p
 
@@ -93,54 +90,50 @@ module _ (m : ℕ) (l : List ℕ) (b : Bool) (bad : Says b (BadLength m l)) wher
     pub found_most : length l ≤ 4 * m
     found_most = length_most m l (says (BadLength m l) b false bad p)
 
-    pub found_record : (v : ℕ) → good_records v l ≡ false → TableChecked m v l PatternCheck.BadRecord
+    pub found_record : (v : ℕ) → good_records v l ≡ false → TableChecked m v l (Err PatternFault.BadRecord)
     unfolding TableChecked
     found_record v q = (says (BadLength m l) b false bad p, q)
 
-    pub found_term : (v : ℕ) → good_records v l ≡ true → OneTerm l → TableChecked m v l PatternCheck.Right
+    pub found_term : (v : ℕ) → good_records v l ≡ true → OneTerm l → TableChecked m v l (Ok tt)
     unfolding TableChecked
     found_term v q o = (says (BadLength m l) b false bad p, q, o)
 
-    pub found_none : (v : ℕ) → good_records v l ≡ true → ¬ OneTerm l → TableChecked m v l PatternCheck.NoTerm
+    pub found_none : (v : ℕ) → good_records v l ≡ true → ¬ OneTerm l → TableChecked m v l (Err PatternFault.NoTerm)
     unfolding TableChecked
     found_none v q o = (says (BadLength m l) b false bad p, q, λ t x. o (record { tree = t; table = x }))
-
--- a check's answer, at the answer that it is equal to
-pub checked : (m v : ℕ) (l : List ℕ) (r s : PatternCheck) → TableChecked m v l r → r ≡ s → TableChecked m v l s
-checked m v l r s x e = subst (TableChecked m v l) e x
 
 -- the first three rows, whatever their numbers and whatever rows follow
 module _ (m v : ℕ) (l : List ℕ) (a b c : ℕ) (more : List Row) where
   abbrev rows : List Row
   rows = (a, BadLength m l) ∷ (b, good_records v l ≡ false) ∷ (c, NoTerm l) ∷ more
 
-  pub refused_length : TableChecked m v l PatternCheck.BadLength → Refused rows a
+  pub refused_length : TableChecked m v l (Err PatternFault.BadLength) → Refused rows a
   unfolding TableChecked
   refused_length x = inl (x, refl)
 
-  pub refused_record : TableChecked m v l PatternCheck.BadRecord → Refused rows b
+  pub refused_record : TableChecked m v l (Err PatternFault.BadRecord) → Refused rows b
   unfolding TableChecked
   refused_record x = inr (x.0, inl (x.1, refl))
 
-  pub refused_term : TableChecked m v l PatternCheck.NoTerm → Refused rows c
+  pub refused_term : TableChecked m v l (Err PatternFault.NoTerm) → Refused rows c
   unfolding TableChecked
   refused_term x = inr (x.0, inr (not_both (good_records v l) x.1, inl (x.2, refl)))
 
-  pub passed_three : (k : ℕ) → TableChecked m v l PatternCheck.Right → Refused more k → Refused rows k
+  pub passed_three : (k : ℕ) → TableChecked m v l (Ok tt) → Refused more k → Refused rows k
   unfolding TableChecked
   passed_three k x y = inr (x.0, inr (not_both (good_records v l) x.1, inr (λ n. n x.2.tree x.2.table, y)))
 
-  pub checked_passed : TableChecked m v l PatternCheck.Right → Passed more → Passed rows
+  pub checked_passed : TableChecked m v l (Ok tt) → Passed more → Passed rows
   unfolding TableChecked
   checked_passed x y = (x.0, (not_both (good_records v l) x.1, (λ n. n x.2.tree x.2.table, y)))
 
 table_below : (v : ℕ) (l : List ℕ) (t : Term) → good_records v l ≡ true → l ≡ encode t → Below v t
 table_below v l t g e = (good_below v t [] (ap (good_records v) (append-nil (encode t) ∙ sym e) ∙ g)).0
 
-pub pattern_answer : (l : List ℕ) (r : PatternCheck) → TableChecked pattern_records variables l r
+pub pattern_answer : (l : List ℕ) (r : Result ⊤ PatternFault) → TableChecked pattern_records variables l r
     → Answers (pattern_rows l) (Pattern l) (pattern_refusal r)
 unfolding TableChecked
-pattern_answer l PatternCheck.Right x = (
+pattern_answer l (Ok tt) x = (
   checked_passed pattern_records variables l 1 2 3 [] x tt,
   record {
     tree = x.2.tree;
@@ -149,9 +142,9 @@ pattern_answer l PatternCheck.Right x = (
     most = size_most pattern_records l x.2.tree x.0 x.2.table.0;
   },
 )
-pattern_answer l PatternCheck.BadLength x = refused_length pattern_records variables l 1 2 3 [] x
-pattern_answer l PatternCheck.BadRecord x = refused_record pattern_records variables l 1 2 3 [] x
-pattern_answer l PatternCheck.NoTerm x = refused_term pattern_records variables l 1 2 3 [] x
+pattern_answer l (Err PatternFault.BadLength) x = refused_length pattern_records variables l 1 2 3 [] x
+pattern_answer l (Err PatternFault.BadRecord) x = refused_record pattern_records variables l 1 2 3 [] x
+pattern_answer l (Err PatternFault.NoTerm) x = refused_term pattern_records variables l 1 2 3 [] x
 
 -- the constants of a table of bytes fit
 ground : (t : Term) → NumbersBelow constants t → Below 0 t → Ground t
@@ -168,10 +161,16 @@ ground_table l t b e h =
     ground t n.0 h
 
 -- the last row of a recipe's
-abbrev pub last : List ℕ → List Row
+abbrev last : List ℕ → List Row
 last l = (7, (t : Term) → IsTable l t → ¬ Normal t) ∷ []
 
-pub normal_right : (m : ℕ) (l : List ℕ) → Bytes l → TableChecked m 0 l PatternCheck.Right → Tells l Normal true
+pub normal_faulty : (m : ℕ) (l : List ℕ) (f : PatternFault) → TableChecked m 0 l (Err f)
+    → Answers (normal_rows m l) (NormalTable m l) (recipe_refusal (Err (of_recipe f)))
+normal_faulty m l PatternFault.BadLength x = refused_length m 0 l 4 5 6 (last l) x
+normal_faulty m l PatternFault.BadRecord x = refused_record m 0 l 4 5 6 (last l) x
+normal_faulty m l PatternFault.NoTerm x = refused_term m 0 l 4 5 6 (last l) x
+
+pub normal_right : (m : ℕ) (l : List ℕ) → Bytes l → TableChecked m 0 l (Ok tt) → Tells l Normal true
     → Answers (normal_rows m l) (NormalTable m l) none
 unfolding TableChecked
 normal_right m l b x n =
@@ -187,14 +186,14 @@ normal_right m l b x n =
       },
     )
 
-pub normal_not : (m : ℕ) (l : List ℕ) → TableChecked m 0 l PatternCheck.Right → Tells l Normal false → Refused (normal_rows m l) 7
+pub normal_not : (m : ℕ) (l : List ℕ) → TableChecked m 0 l (Ok tt) → Tells l Normal false → Refused (normal_rows m l) 7
 normal_not m l x n = passed_three m 0 l 4 5 6 (last l) 7 x (inl ((λ t y. n t y.0), refl))
 
-pub tree_checked : (m v : ℕ) (l : List ℕ) → TableChecked m v l PatternCheck.Right → Tree l
+pub tree_checked : (m v : ℕ) (l : List ℕ) → TableChecked m v l (Ok tt) → Tree l
 unfolding TableChecked
 tree_checked m v l x = tree l x.2.tree x.2.table.0
 
-pub most_checked : (m v : ℕ) (l : List ℕ) → TableChecked m v l PatternCheck.Right → length l ≤ 4 * m
+pub most_checked : (m v : ℕ) (l : List ℕ) → TableChecked m v l (Ok tt) → length l ≤ 4 * m
 unfolding TableChecked
 most_checked m v l x = length_most m l x.0
 
@@ -208,17 +207,12 @@ value_passed l x =
       (not_both (good_records 0 l) g, ((λ n. n t (x.bytes, x.value.0)), ((λ f. f t (x.bytes, x.value.0) x.value.1), tt))),
     )
 
-pub value_refused : (l : List ℕ) (r : RecipeCheck) (k : ℕ)
-    → Answers (normal_rows value_records l) (NormalTable value_records l) (recipe_refusal r) → recipe_refusal r ≡ some k → ¬ ValueTable l
-value_refused l r k x e y =
-    let z : Refused (normal_rows value_records l) k =
-    subst (λ (o : Option ℕ). Answers (normal_rows value_records l) (NormalTable value_records l) o) e x in
-    refused_passed (normal_rows value_records l) k z (value_passed l y)
-
-pub value_right : (l : List ℕ) (r : RecipeCheck) → Answers (normal_rows value_records l) (NormalTable value_records l) (recipe_refusal r)
-    → recipe_refusal r ≡ none → ValueTable l
-value_right l r x e =
-    let y : Answers (normal_rows value_records l) (NormalTable value_records l) none =
-    subst (λ (o : Option ℕ). Answers (normal_rows value_records l) (NormalTable value_records l) o) e x in
-    let n = y.1 in
+pub value_says : (l : List ℕ) (r : Result ⊤ RecipeFault)
+    → Answers (normal_rows value_records l) (NormalTable value_records l) (recipe_refusal r) → Says (is_ok r) (ValueTable l)
+value_says l (Ok o) x =
+    let n = x.1 in
     record { tree = n.tree; bytes = n.table.0; value = (n.table.1, n.normal, n.ground); most = n.most }
+value_says l (Err RecipeFault.BadLength) x = λ y. refused_passed (normal_rows value_records l) 4 x (value_passed l y)
+value_says l (Err RecipeFault.BadRecord) x = λ y. refused_passed (normal_rows value_records l) 5 x (value_passed l y)
+value_says l (Err RecipeFault.NoTerm) x = λ y. refused_passed (normal_rows value_records l) 6 x (value_passed l y)
+value_says l (Err RecipeFault.NotNormal) x = λ y. refused_passed (normal_rows value_records l) 7 x (value_passed l y)

@@ -4,3 +4,4 @@ pub mod Passing
 pub mod Tests
 pub mod Slices
 pub mod Checks
+pub mod Options

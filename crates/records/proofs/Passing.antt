@@ -1,17 +1,21 @@
 -- A pass over the records of a part counts the parts that are missing: as many terms stand, one behind another, where it has come to.
 -- Each record takes one term from the front of that row and puts its parts there instead, and back. Assumes nothing.
-use mathlib.Core.Path.{◌≡◌, refl, sym, ap, ap₂, ◌∙◌}
-use mathlib.Core.Bool.{true}
+use mathlib.Core.Path.{◌≡◌, refl, sym, ap, ap₂, ◌∙◌, subst}
+use mathlib.Core.Bool.{Bool, true}
 use mathlib.Core.List.{List, [], ◌∷◌, ◌++◌, append_assoc, append-nil}
 use Prim.Native.Nat.{ℕ, zero, suc, ◌+◌, ◌-◌, ◌*◌, ◌≤◌, ◌<◌}
+use native.Mathlib.Nat.{add-zero}
 use native.Mathlib.Omega.{arith}
-use lib.ListN.{length, get_or, drop, length-append, length-drop}
+use lib.Dec.{eqb}
+use lib.ListN.{length, get_or, drop, length-append, length-drop, get_or-append}
+use lib.Seq.{get_or-drop, drop-drop, drop_at}
 use Rattle.terms.specs.Term.{Term, app, lam, loc, con, var}
 use Rattle.terms.specs.Table.{record_bytes, encode, good_records}
 use Rattle.terms.specs.OldForm.{Bytes}
 use Rattle.terms.proofs.Table.{kind, number_of, encode_length}
 use Rattle.records.specs.Record.{parts, number_at}
-use Rattle.records.specs.declared.End.TheVariants.{At, Nowhere}
+use Rattle.std.specs.Bool.{then_some}
+use borrow.Author.Tests.{ne_eqb}
 use Rattle.records.specs.Parts.{Part, Whole, Ends, EndFound, Reached, Ended}
 use Rattle.records.proofs.Record.{good_split, allowed_is, kind_read, rest_read}
 use Rattle.records.proofs.Parts.{children, children_length, tables, tables_append, encode_first, part, whole}
@@ -85,7 +89,7 @@ close_row v l at m rest h w b g x =
       bytes = a.is ∙ ap (record_bytes (get_or l at 0) (number_at l at)) x.bytes ∙ ap (◌++ rest) u.2;
     }
 
-pub passing_step : (l : List ℕ) (from at m : ℕ) → Passing l from at m → 0 < m → at + 4 ≤ length l → Bytes l → (n : ℕ)
+passing_step : (l : List ℕ) (from at m : ℕ) → Passing l from at m → 0 < m → at + 4 ≤ length l → Bytes l → (n : ℕ)
     → n ≡ parts (get_or l at 0) → n ≤ 2 → Passing l from (at + 4) (m - 1 + n)
 passing_step l from at m x h w b n e u = rw e (record {
   within = w;
@@ -95,6 +99,25 @@ passing_step l from at m x h w b n e u = rw e (record {
   back = λ v g rest y. x.back v g rest (close_row v l at m rest h w b (x.good v g) y);
   good = λ v g. (good_split l at v w (x.good v g)).1;
 })
+
+-- a record x that is the first chunk of what is left
+module _ (l : List ℕ) (from at m : ℕ) (rest x rest' : List ℕ) (p : Passing l from at m × (rest ≡ drop at l)) (e : rest ≡ x ++ rest')
+    (h : length x ≡ 4) where
+  chunk_is : drop at l ≡ x ++ rest'
+  chunk_is = sym p.1 ∙ e
+
+  pub chunk_within : at + 4 ≤ length l
+  chunk_within = omega (arith, p.0.within, ap length chunk_is, length-append x rest', length-drop at l)
+
+  pub passing_chunk : (n : ℕ) → ¬ (m ≡ 0) → Bytes l → n ≡ parts (get_or x 0 0) → n ≤ 2
+      → Passing l from (at + 4) (m - 1 + n) × (rest' ≡ drop (at + 4) l)
+  passing_chunk n z b f u =
+      let k : get_or x 0 0 ≡ get_or l at 0 =
+      sym (get_or-append x rest' 0 0 (omega arith)) ∙ ap (λ (y : List ℕ). get_or y 0 0) (sym chunk_is) ∙ get_or-drop at l 0 0
+      ∙ ap (λ (i : ℕ). get_or l i 0) (add-zero at) in (
+        passing_step l from at m p.0 (omega arith) chunk_within b n (f ∙ ap parts k) u,
+        sym (drop_at x rest' 4 h) ∙ ap (drop 4) (sym chunk_is) ∙ drop-drop 4 at l,
+      )
 
 -- one term is a row, and a row of none is the rest
 terms_one : (l : List ℕ) (at : ℕ) (t : Term) (x : Part l at t) → TermRow l at 1 x.rest
@@ -137,16 +160,11 @@ passing_found l from at h x = (
   λ v g. only l from (drop at l) (x.back v g (drop at l) (record { terms = []; count = refl; bytes = refl })),
 )
 
-pub reached_end : (l : List ℕ) (from at m : ℕ) → from ≤ length l → Passing l from at m → m ≤ 0 → Reached l from m at
+-- the pass ends where no part is missing, or where what is left is too short for a record
+pub reached : (l : List ℕ) (from at m : ℕ) → from ≤ length l → Passing l from at m → (0 < m → length l - at < 4) → Reached l from m at
 unfolding Reached
-reached_end l from at zero h x z = passing_found l from at h x
-reached_end l from at (suc m) h x z = absurd (omega arith)
-
--- what is left is too short for a record
-pub reached_short : (l : List ℕ) (from at m : ℕ) → Passing l from at m → 0 < m → length l - at < 4 → Reached l from m at
-unfolding Reached
-reached_short l from at zero x h s = absurd (omega arith)
-reached_short l from at (suc m) x h s = λ t y. go (x.to y.rest (terms_one l from t y))
+reached l from at zero h x s = passing_found l from at h x
+reached l from at (suc m) h x s = λ t y. go (x.to y.rest (terms_one l from t y))
   where
     go : {rest : List ℕ} → TermRow l at (suc m) rest → ⊥
     go {rest} r = end r.terms r.count r.bytes
@@ -155,7 +173,7 @@ reached_short l from at (suc m) x h s = λ t y. go (x.to y.rest (terms_one l fro
         end [] c e = omega arith
         end (t ∷ ts) c e =
             let p = part l at t (tables ts ++ rest) (e ∙ append_assoc (encode t) (tables ts) rest) in
-            omega (arith, p.some, p.within)
+            omega (arith, p.some, p.within, s (omega arith))
 
 -- what a pass says to those who asked for it
 pub reached_ends : (l : List ℕ) (at m r : ℕ) → Whole l at → Reached l at m r → Ends l at r
@@ -163,12 +181,7 @@ unfolding Reached
 reached_ends l at zero r x y = y.0
 reached_ends l at (suc m) r x y = absurd (y x.tree x.part)
 
-pub ended_at : (l : List ℕ) (m r : ℕ) → m ≡ 0 → Reached l 0 m r → Ended l (At r)
+pub ended : (l : List ℕ) (m r : ℕ) → Reached l 0 m r → Ended l (then_some (eqb m 0) r)
 unfolding Reached Ended
-ended_at l zero r e y = y
-ended_at l (suc m) r e y = absurd (omega arith)
-
-pub ended_nowhere : (l : List ℕ) (m r : ℕ) → ¬ (m ≡ 0) → Reached l 0 m r → Ended l Nowhere
-unfolding Reached Ended
-ended_nowhere l zero r e y = absurd (e refl)
-ended_nowhere l (suc m) r e y = y
+ended l zero r y = y
+ended l (suc m) r y = subst (λ (b : Bool). Ended l (then_some b r)) (sym (ne_eqb (suc m) 0 (λ p. omega arith))) y

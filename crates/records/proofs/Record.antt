@@ -3,11 +3,11 @@
 use mathlib.Core.Path.{◌≡◌, refl, sym, ap, ap₂, ◌∙◌, subst}
 use mathlib.Core.Bool.{Bool, true, false, cond, ◌&&◌, ◌||◌}
 use mathlib.Core.Option.{Option, some, none}
-use mathlib.Core.List.{List, [], ◌∷◌}
-use Prim.Native.Nat.{ℕ, zero, suc, ◌+◌, ◌-◌, ◌*◌, ◌/◌, ◌%◌, ◌≤◌, ◌<◌}
+use mathlib.Core.List.{List, [], ◌∷◌, ◌++◌}
+use Prim.Native.Nat.{ℕ, zero, suc, ◌+◌, ◌*◌, ◌/◌, ◌%◌, ◌≤◌, ◌<◌}
 use native.Mathlib.Omega.{arith}
 use lib.Dec.{T, eqb, leb, ltb}
-use lib.ListN.{length, get_or, drop, length-drop, drop_of_length-le}
+use lib.ListN.{length, get_or, drop, length-drop}
 use lib.Seq.{get_or-drop, drop-drop}
 use borrow.Author.Tests.{eqb-true, leb-true, leb-false, ne_eqb, le-leb, lt-leb, lt-ltb, le-ltb}
 use Rattle.terms.specs.Figures.{numbers}
@@ -16,8 +16,8 @@ use Rattle.terms.specs.OldForm.{Bytes}
 use Rattle.terms.proofs.Tests.{and_true, and_split}
 use Rattle.terms.proofs.Table.{number_is}
 use Rattle.records.specs.declared.Kind.{Kind}
-use Rattle.records.specs.declared.KindRead.{KindRead}
-use Rattle.records.specs.declared.KindRead.TheVariants.{Known, Unknown}
+use Rattle.std.specs.declared.option.Option.{Option as Answered}
+use Rattle.std.specs.declared.option.Option.TheVariants.{Some, None}
 use Rattle.records.specs.Record.{kind_of, parts, read_parts, number_at, record_at}
 
 -- the first four bytes
@@ -57,7 +57,8 @@ module _ (l : List ℕ) (at : ℕ) where
     rest_read = sym (drop-drop 4 at l) ∙ ap (drop 4) e
 
   -- good records are an allowed one and good ones
-  pub good_step : (v : ℕ) → at + 4 ≤ length l → good_records v (drop at l) ≡ (allowed v (record_at l at) && good_records v (drop (at + 4) l))
+  pub good_step : (v : ℕ) → at + 4 ≤ length l
+      → good_records v (drop at l) ≡ (allowed v (record_at l at) && good_records v (drop (at + 4) l))
   good_step v h = ap (good_records v) (record_drop h)
 
 pub good_split : (l : List ℕ) (at v : ℕ) → at + 4 ≤ length l → good_records v (drop at l) ≡ true
@@ -113,29 +114,29 @@ parts_none (suc (suc k)) n m = refl
 pub read_parts_lem : (b : ℕ) → read_parts (kind_of b) ≡ parts b
 read_parts_lem b = go (leb b 4) refl
   where
-    go : (t : Bool) → leb b 4 ≡ t → read_parts (cond t (Known (record { code = b })) Unknown) ≡ parts b
+    go : (t : Bool) → leb b 4 ≡ t → read_parts (cond t (Some (record { code = b })) None) ≡ parts b
     go true e = refl
     go false e = let h = leb-false b 4 e in parts_none b (λ p. omega arith) (λ p. omega arith)
 
 -- a byte that is read as a kind
-abbrev code_of : KindRead → ℕ
-code_of (Known k) = k.code
-code_of Unknown = 0
+abbrev code_of : Answered Kind → ℕ
+code_of (Some k) = k.code
+code_of None = 0
 
-known_of : (b : ℕ) (k : Kind) (r : KindRead) → r ≡ kind_of b → r ≡ Known k → (b ≤ 4) × (k.code ≡ b)
-known_of b k r p q = go (leb b 4) refl (sym p ∙ q)
+known_of : (b : ℕ) (k : Kind) → Some k ≡ kind_of b → (b ≤ 4) × (k.code ≡ b)
+known_of b k p = go (leb b 4) refl p
   where
-    go : (t : Bool) → leb b 4 ≡ t → cond t (Known (record { code = b })) Unknown ≡ Known k → (b ≤ 4) × (k.code ≡ b)
-    go true e h = (leb-true b 4 e, sym (ap code_of h))
+    go : (t : Bool) → leb b 4 ≡ t → Some k ≡ cond t (Some (record { code = b })) None → (b ≤ 4) × (k.code ≡ b)
+    go true e h = (leb-true b 4 e, ap code_of h)
     go false e h = let z : ◌≡◌ {A = ℕ} 0 1 = cc in absurd (omega arith)
 
-pub known_most : (b : ℕ) (k : Kind) (r : KindRead) → r ≡ kind_of b → r ≡ Known k → k.code ≤ 4
-known_most b k r p q = let h = known_of b k r p q in omega (arith, h.0, h.1)
+pub known_most : (b : ℕ) (k : Kind) → Some k ≡ kind_of b → k.code ≤ 4
+known_most b k p = let h = known_of b k p in omega (arith, h.0, h.1)
 
-pub unknown_of : (b : ℕ) (r : KindRead) → r ≡ kind_of b → r ≡ Unknown → 4 < b
-unknown_of b r p q = go (leb b 4) refl (sym p ∙ q)
+pub unknown_of : (b : ℕ) → None ≡ kind_of b → 4 < b
+unknown_of b p = go (leb b 4) refl p
   where
-    go : (t : Bool) → leb b 4 ≡ t → cond t (Known (record { code = b })) Unknown ≡ Unknown → 4 < b
+    go : (t : Bool) → leb b 4 ≡ t → ◌≡◌ {A = Answered Kind} None (cond t (Some (record { code = b })) None) → 4 < b
     go true e h = let z : ◌≡◌ {A = ℕ} 0 1 = cc in absurd (omega arith)
     go false e h = leb-false b 4 e
 
@@ -163,32 +164,34 @@ module _ (v : ℕ) (l : List ℕ) (at : ℕ) where
       go false = refl
 
   -- the first byte is read as a kind, and what that kind says of the second byte
-  module _ (k : Kind) (b : KindRead) (p : b ≡ kind_of (get_or l at 0)) (q : b ≡ Known k) (r : Bool)
+  module _ (k : Kind) (p : Some k ≡ kind_of (get_or l at 0)) (r : Bool)
       (e : r ≡ second_byte_allowed k.code (get_or l (at + 1) 0)) where
     second_says : (s : Bool) → r ≡ s → read s ≡ record_at l at
-    second_says s h = ap read (sym h ∙ e ∙ ap (λ (i : ℕ). second_byte_allowed i (get_or l (at + 1) 0)) (known_of (get_or l at 0) k b p q).1)
+    second_says s h = ap read (sym h ∙ e ∙ ap (λ (i : ℕ). second_byte_allowed i (get_or l (at + 1) 0)) (known_of (get_or l at 0) k p).1)
 
     pub second_refused : r ≡ false → false ≡ allowed v (record_at l at)
     second_refused h = ap (allowed v) (second_says false h)
 
     pub kind_known : r ≡ true → (a : Bool) (n : ℕ) → n ≡ number_at l at → a ≡ allowed v (some (k.code, n)) → a ≡ allowed v (record_at l at)
     kind_known h a n f x =
-        x ∙ ap₂ (λ (i j : ℕ). allowed v (some (i, j))) (known_of (get_or l at 0) k b p q).1 f ∙ ap (allowed v) (second_says true h)
+        x ∙ ap₂ (λ (i j : ℕ). allowed v (some (i, j))) (known_of (get_or l at 0) k p).1 f ∙ ap (allowed v) (second_says true h)
 
--- good records, one after another
-pub good_short : (v : ℕ) (l : List ℕ) (at : ℕ) → at < length l → length l - at < 4 → false ≡ good_records v (drop at l)
-good_short v l at h g = go (drop at l) (omega (arith, length-drop at l)) (omega (arith, length-drop at l))
+-- good records, one after another: the first of them, and fewer bytes than one has
+pub good_chunk : (v : ℕ) (l x rest : List ℕ) (r : Bool) → l ≡ x ++ rest → length x ≡ 4 → r ≡ allowed v (record_at x 0)
+    → good_records v l ≡ (r && good_records v rest)
+good_chunk v l x rest r e h a = ap (good_records v) e ∙ go x h ∙ ap (◌&& good_records v rest) (sym a)
   where
-    go : (l : List ℕ) → 0 < length l → length l < 4 → false ≡ good_records v l
-    go [] h g = absurd (omega arith)
-    go (a ∷ []) h g = refl
-    go (a ∷ b ∷ []) h g = refl
-    go (a ∷ b ∷ c ∷ []) h g = refl
-    go (a ∷ b ∷ c ∷ d ∷ l) h g = absurd (omega arith)
+    go : (x : List ℕ) → length x ≡ 4 → good_records v (x ++ rest) ≡ (allowed v (record_at x 0) && good_records v rest)
+    go [] h = absurd (omega arith)
+    go (a ∷ []) h = absurd (omega arith)
+    go (a ∷ b ∷ []) h = absurd (omega arith)
+    go (a ∷ b ∷ c ∷ []) h = absurd (omega arith)
+    go (a ∷ b ∷ c ∷ d ∷ []) h = refl
+    go (a ∷ b ∷ c ∷ d ∷ e ∷ x) h = absurd (omega arith)
 
-pub good_first : (v : ℕ) (l : List ℕ) (at : ℕ) (r : Bool) → at + 4 ≤ length l → r ≡ allowed v (record_at l at)
-    → (r && good_records v (drop (at + 4) l)) ≡ good_records v (drop at l)
-good_first v l at r h e = ap (◌&& good_records v (drop (at + 4) l)) e ∙ sym (good_step l at v h)
-
-pub good_end : (v : ℕ) (l : List ℕ) (at : ℕ) → length l ≤ at → true ≡ good_records v (drop at l)
-good_end v l at h = sym (ap (good_records v) (drop_of_length-le l h))
+pub good_few : (v : ℕ) (l : List ℕ) → length l < 4 → eqb (length l) 0 ≡ good_records v l
+good_few v [] h = refl
+good_few v (a ∷ []) h = refl
+good_few v (a ∷ b ∷ []) h = refl
+good_few v (a ∷ b ∷ c ∷ []) h = refl
+good_few v (a ∷ b ∷ c ∷ d ∷ l) h = absurd (omega arith)

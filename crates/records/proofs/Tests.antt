@@ -4,12 +4,11 @@ use mathlib.Core.Path.{◌≡◌, refl, sym, ap, ap₂, ◌∙◌, subst}
 use mathlib.Core.Bool.{Bool, true, false, not, ◌&&◌}
 use mathlib.Core.Logic.{◌↔◌}
 use mathlib.Core.List.{List}
-use Prim.Native.Nat.{ℕ, suc, ◌+◌, ◌-◌, ◌*◌, ◌≤◌}
+use Prim.Native.Nat.{ℕ, suc, ◌+◌, ◌-◌, ◌*◌}
 use native.Mathlib.Omega.{arith}
 use lib.Dec.{T, eqb}
 use lib.ListN.{length, get_or}
 use borrow.Author.Tests.{ltb-true, ltb-false, not-true, not-false, eq-eqb, ne_eqb}
-use Rattle.terms.specs.Figures.{numbers}
 use Rattle.terms.specs.Term.{Term, app, lam, loc, con, var, size, uses, is_innermost, is_eta, Normal}
 use Rattle.terms.specs.Table.{encode}
 use Rattle.terms.proofs.Table.{kind, number_of, encode_length}
@@ -17,13 +16,14 @@ use Rattle.terms.proofs.Tests.{or_false, and_true}
 use Rattle.terms.proofs.Substitute.{size_pos}
 use Rattle.records.specs.declared.Ask.{Ask}
 use Rattle.records.specs.declared.Ask.TheVariants.{Bound, Other}
-use Rattle.records.specs.declared.Walk.{Walk}
-use Rattle.records.specs.declared.Walk.TheVariants.{Upto, No}
+use Rattle.std.specs.Prelude.{is_some}
+use Rattle.std.specs.Bool.{then_some}
+use Rattle.std.specs.declared.option.Option.{Option}
+use Rattle.std.specs.declared.option.Option.TheVariants.{Some, None}
 use Rattle.records.specs.Record.{number_at, innermost_at}
 use Rattle.records.specs.Parts.{Part, Whole, Ends}
-use Rattle.records.specs.Tests.{Says, Equals, Head, asked, Asks, Walked, Near, further}
-use Rattle.records.proofs.Parts.{at_start, application, abstraction, argument_part, kind_at, number_at_lem, ends_app}
-use Rattle.records.proofs.Parts.{ends_lam, ends_leaf}
+use Rattle.records.specs.Tests.{Says, Equals, Head, Tells, asked, Asks, Walked}
+use Rattle.records.proofs.Parts.{at_start, application, abstraction, argument_part, kind_at, number_at_lem, ends_app, ends_lam, ends_leaf}
 
 pub says : (A : Type 0) (b r : Bool) → Says b A → b ≡ r → Says r A
 says A b r x e = subst (λ (c : Bool). Says c A) e x
@@ -52,76 +52,53 @@ module _ (l : List ℕ) (at : ℕ) (G : Term → Type 0) where
 
 -- a walk: a head and an argument, a head that stops it, a body, the same part with something else asked, a record with no parts
 module _ (l : List ℕ) (at : ℕ) (P : Term → Type 0) where
-  pub walked_ends : (h : ℕ) (w : Walk) → w ≡ Upto h → Walked l at P w → Ends l at h
+  pub walked_ends : (h : ℕ) → Walked l at P (Some h) → Ends l at h
   unfolding Walked
-  walked_ends h w e x = let y : Walked l at P (Upto h) = subst (Walked l at P) e x in y.0
+  walked_ends h x = x.0
 
-  pub walked_app : (Q R : Term → Type 0) (h : ℕ) (w r : Walk) → get_or l at 0 ≡ 0 → ((f a : Term) → P (app f a) ↔ (Q f × R a)) → w ≡ Upto h
-      → Walked l (at + 4) Q w → Walked l h R r → Walked l at P r
+  pub walked_app : (Q R : Term → Type 0) (h : ℕ) (r : Option ℕ) → get_or l at 0 ≡ 0 → ((f a : Term) → P (app f a) ↔ (Q f × R a))
+      → Walked l (at + 4) Q (Some h) → Walked l h R r → Walked l at P r
   unfolding Walked
-  walked_app Q R h w r k i e x y = go r y
-    where
-      z : Walked l (at + 4) Q (Upto h)
-      z = subst (Walked l (at + 4) Q) e x
+  walked_app Q R h (Some m) k i z y = (
+    ends_app l at h m k z.0 y.0,
+    λ t x.
+        let v = application l at t x k in
+        subst P (sym v.is) ((i v.f v.a).1 (z.1 v.f v.head, y.1 v.a (argument_part l at h t z.0 v))),
+  )
+  walked_app Q R h None k i z y = λ t x q.
+      let v = application l at t x k in
+      y v.a (argument_part l at h t z.0 v) ((i v.f v.a).0 (subst P v.is q)).1
 
-      go : (r : Walk) → Walked l h R r → Walked l at P r
-      go (Upto m) y = (
-        ends_app l at h m k z.0 y.0,
-        λ t x.
-            let v = application l at t x k in
-            subst P (sym v.is) ((i v.f v.a).1 (z.1 v.f v.head, y.1 v.a (argument_part l at h t z.0 v))),
-      )
-      go No y = λ t x q.
-          let v = application l at t x k in
-          y v.a (argument_part l at h t z.0 v) ((i v.f v.a).0 (subst P v.is q)).1
-
-  pub walked_stop : (Q R : Term → Type 0) (w : Walk) → get_or l at 0 ≡ 0 → ((f a : Term) → P (app f a) ↔ (Q f × R a)) → w ≡ No
-      → Walked l (at + 4) Q w → Walked l at P No
+  pub walked_stop : (Q R : Term → Type 0) → get_or l at 0 ≡ 0 → ((f a : Term) → P (app f a) ↔ (Q f × R a)) → Walked l (at + 4) Q None
+      → Walked l at P None
   unfolding Walked
-  walked_stop Q R w k i e x =
-      let z : Walked l (at + 4) Q No = subst (Walked l (at + 4) Q) e x in
-      λ t x q. let v = application l at t x k in z v.f v.head ((i v.f v.a).0 (subst P v.is q)).0
+  walked_stop Q R k i z = λ t x q. let v = application l at t x k in z v.f v.head ((i v.f v.a).0 (subst P v.is q)).0
 
-  pub walked_lam : (Q : Term → Type 0) (r : Walk) → get_or l at 0 ≡ 1 → ((b : Term) → P (lam b) ↔ Q b)
+  pub walked_lam : (Q : Term → Type 0) (r : Option ℕ) → get_or l at 0 ≡ 1 → ((b : Term) → P (lam b) ↔ Q b)
       → Walked l (at + 4) Q r → Walked l at P r
   unfolding Walked
-  walked_lam Q (Upto h) k i y =
+  walked_lam Q (Some h) k i y =
       (ends_lam l at h k y.0, λ t x. let v = abstraction l at t x k in subst P (sym v.is) ((i v.b).1 (y.1 v.b v.body)))
-  walked_lam Q No k i y = λ t x q. let v = abstraction l at t x k in y v.b v.body ((i v.b).0 (subst P v.is q))
+  walked_lam Q None k i y = λ t x q. let v = abstraction l at t x k in y v.b v.body ((i v.b).0 (subst P v.is q))
 
-  pub walked_same : (Q : Term → Type 0) (w r : Walk) → ((t : Term) → Part l at t → P t ↔ Q t) → w ≡ r → Walked l at Q w → Walked l at P r
+  pub walked_same : (Q : Term → Type 0) (h : ℕ) → ((t : Term) → Part l at t → P t ↔ Q t) → Walked l at Q (Some h) → Walked l at P (Some h)
   unfolding Walked
-  walked_same Q w r i e x = go r (subst (Walked l at Q) e x)
-    where
-      go : (r : Walk) → Walked l at Q r → Walked l at P r
-      go (Upto h) y = (y.0, λ t x. (i t x).1 (y.1 t x))
-      go No y = λ t x q. y t x ((i t x).0 q)
+  walked_same Q h i y = (y.0, λ t x. (i t x).1 (y.1 t x))
 
   pub walked_leaf : Whole l at → ¬ (get_or l at 0 ≡ 0) → ¬ (get_or l at 0 ≡ 1) → ((t : Term) → Part l at t → P t)
-      → Walked l at P (Upto (at + 4))
+      → Walked l at P (Some (at + 4))
   unfolding Walked
   walked_leaf w n m g = (ends_leaf l at n m w, g)
 
-  pub walked_no : ((t : Term) → Part l at t → ¬ P t) → Walked l at P No
+  pub walked_no : ((t : Term) → Part l at t → ¬ P t) → Walked l at P None
   unfolding Walked
   walked_no g = g
 
 -- a walk over a whole table
-pub walked_table : (l : List ℕ) (P : Term → Type 0) (h : ℕ) (w : Walk) → w ≡ Upto h → Walked l 0 P w → (t : Term) → l ≡ encode t → P t
+pub walked_table : (l : List ℕ) (P : Term → Type 0) (w : Option ℕ) → Walked l 0 P w → Tells l P (is_some w)
 unfolding Walked
-walked_table l P h w e x t q = let y : Walked l 0 P (Upto h) = subst (Walked l 0 P) e x in y.1 t (at_start l t q)
-
-pub walked_table_no : (l : List ℕ) (P : Term → Type 0) (w : Walk) → w ≡ No → Walked l 0 P w → (t : Term) → l ≡ encode t → ¬ P t
-unfolding Walked
-walked_table_no l P w e x t q = let y : Walked l 0 P No = subst (Walked l 0 P) e x in y t (at_start l t q)
-
--- a walk that came to an end, begun n bytes further on
-module _ (n m : ℕ) (w : Walk) (e : w ≡ Upto m) where
-  pub near_upto : Near n w → n + m ≤ 4 * numbers
-  near_upto x = let y : Near n (Upto m) = subst (Near n) e x in y
-
-  pub further_upto : Upto (n + m) ≡ further n w
-  further_upto = sym (ap (further n) e)
+walked_table l P (Some h) x t q = x.1 t (at_start l t q)
+walked_table l P None x t q = x t (at_start l t q)
 
 -- what is asked of locals goes by the parts
 pub asks_two : (q : Ask) (n : ℕ) (f a : Term) → Asks q n (app f a) ↔ (Asks q n f × Asks q n a)
@@ -148,6 +125,15 @@ asks_local Other i n e = not-true (eqb i n) e
 pub asks_local_no : (q : Ask) (i n : ℕ) → asked q i n ≡ false → ¬ Asks q n (loc i)
 asks_local_no Bound i n e p = omega (arith, ltb-false i n e)
 asks_local_no Other i n e p = let z : T false = subst T (sym (not-false (eqb i n) e) ∙ p) tt in z
+
+-- the walk over a local, by what is asked of it
+pub walked_asked : (l : List ℕ) (q : Ask) (n : ℕ) (b : Bool) → Whole l 0 → get_or l 0 0 ≡ 2 → b ≡ asked q (number_at l 0) n
+    → Walked l 0 (Asks q n) (then_some b 4)
+walked_asked l q n true w k e =
+    walked_leaf l 0 (Asks q n) w (λ p. omega arith) (λ p. omega arith)
+    (part_local l 0 (Asks q n) k (asks_local q (number_at l 0) n (sym e)))
+walked_asked l q n false w k e =
+    walked_no l 0 (Asks q n) (part_local l 0 (λ t. ¬ Asks q n t) k (asks_local_no q (number_at l 0) n (sym e)))
 
 pub asks_con : (q : Ask) (n i : ℕ) → Asks q n (con i)
 asks_con Bound n i = tt
@@ -205,26 +191,24 @@ module _ (l : List ℕ) where
         go true y = refl
         go false y = refl
 
-    module _ (w : Walk) (y : Walked l 4 (Asks Other 0) w) where
-      pub eta_used : w ≡ No → Equals l is_eta false
-      unfolding Walked
-      eta_used e =
-          let z : Walked l 4 (Asks Other 0) No = subst (Walked l 4 (Asks Other 0)) e y in
-          by_last (λ (b : Bool). false ≡ b)
-          λ f x. go (eqb (4 + 4 * size f) (length l - 4) && innermost_at l (length l - 4)) (uses 0 f) (not_false_true (uses 0 f) (z f x))
-        where
-          go : (x y : Bool) → true ≡ y → false ≡ (x && not y)
-          go true y e = ap not e
-          go false y e = refl
+    pub eta_used : Walked l 4 (Asks Other 0) None → Equals l is_eta false
+    unfolding Walked
+    eta_used z =
+        by_last (λ (b : Bool). false ≡ b)
+        λ f x. go (eqb (4 + 4 * size f) (length l - 4) && innermost_at l (length l - 4)) (uses 0 f) (not_false_true (uses 0 f) (z f x))
+      where
+        go : (x y : Bool) → true ≡ y → false ≡ (x && not y)
+        go true y e = ap not e
+        go false y e = refl
 
-      pub eta_ends : (h : ℕ) → innermost_at l (length l - 4) ≡ true → w ≡ Upto h → Equals l is_eta (eqb h (length l - 4))
-      unfolding Walked
-      eta_ends h p e =
-          let z : Walked l 4 (Asks Other 0) (Upto h) = subst (Walked l 4 (Asks Other 0)) e y in
-          by_last (λ (b : Bool). eqb h (length l - 4) ≡ b) λ f x.
-          ap (λ (i : ℕ). eqb i (length l - 4)) (z.0.exact f x)
-          ∙ sym (and_true (eqb (4 + 4 * size f) (length l - 4) && true) ∙ and_true (eqb (4 + 4 * size f) (length l - 4)))
-          ∙ ap₂ (λ (b c : Bool). (eqb (4 + 4 * size f) (length l - 4) && b) && not c) (sym p) (sym (z.1 f x))
+    pub eta_ends : (h : ℕ) → innermost_at l (length l - 4) ≡ true → Walked l 4 (Asks Other 0) (Some h)
+        → Equals l is_eta (eqb h (length l - 4))
+    unfolding Walked
+    eta_ends h p z =
+        by_last (λ (b : Bool). eqb h (length l - 4) ≡ b) λ f x.
+        ap (λ (i : ℕ). eqb i (length l - 4)) (z.0.exact f x)
+        ∙ sym (and_true (eqb (4 + 4 * size f) (length l - 4) && true) ∙ and_true (eqb (4 + 4 * size f) (length l - 4)))
+        ∙ ap₂ (λ (b c : Bool). (eqb (4 + 4 * size f) (length l - 4) && b) && not c) (sym p) (sym (z.1 f x))
 
 -- what may be a head: no abstraction, an application whose head may be one and whose argument is normal, a record with no parts
 head_leaf : (k : ℕ) → ¬ (k ≡ 0) → ¬ (k ≡ 1) → (t : Term) → k ≡ kind t → Head t
@@ -241,32 +225,32 @@ pub normal_two : (f a : Term) → Normal (app f a) ↔ (Head f × Normal a)
 normal_two f a = (λ x. ((x.0, x.1), x.2), λ x. (x.0.0, x.0.1, x.1))
 
 module _ (l : List ℕ) (at : ℕ) where
-  pub head_abstraction : get_or l at 0 ≡ 1 → Walked l at Head No
+  pub head_abstraction : get_or l at 0 ≡ 1 → Walked l at Head None
   head_abstraction k =
       walked_no l at Head λ t x q. let v = abstraction l at t x k in let p : Head (lam v.b) = subst Head v.is q in p.0
 
-  pub head_none : Whole l at → ¬ (get_or l at 0 ≡ 0) → ¬ (get_or l at 0 ≡ 1) → Walked l at Head (Upto (at + 4))
+  pub head_none : Whole l at → ¬ (get_or l at 0 ≡ 0) → ¬ (get_or l at 0 ≡ 1) → Walked l at Head (Some (at + 4))
   head_none w n m = walked_leaf l at Head w n m λ t x. head_leaf (get_or l at 0) n m t (kind_at l at t x)
 
-  pub normal_none : Whole l at → ¬ (get_or l at 0 ≡ 0) → ¬ (get_or l at 0 ≡ 1) → Walked l at Normal (Upto (at + 4))
+  pub normal_none : Whole l at → ¬ (get_or l at 0 ≡ 0) → ¬ (get_or l at 0 ≡ 1) → Walked l at Normal (Some (at + 4))
   normal_none w n m = walked_leaf l at Normal w n m λ t x. (head_leaf (get_or l at 0) n m t (kind_at l at t x)).1
 
 -- an abstraction is normal as its body is, unless it is itself a redex
 module _ (l : List ℕ) (at : ℕ) (k : get_or l at 0 ≡ 1) where
-  pub normal_stop : Walked l (at + 4) Normal No → Walked l at Normal No
+  pub normal_stop : Walked l (at + 4) Normal None → Walked l at Normal None
   unfolding Walked
   normal_stop z t y q = let v = abstraction l at t y k in let p : Normal (lam v.b) = subst Normal v.is q in z v.b v.body p.1
 
   module _ (end : ℕ) (r : Bool) (g : (b : Term) → Part l (at + 4) b → r ≡ is_eta b) where
-    pub normal_redex : r ≡ true → Walked l at Normal No
+    pub normal_redex : r ≡ true → Walked l at Normal None
     normal_redex p =
         walked_no l at Normal λ t y q.
         let v = abstraction l at t y k in
         let n : Normal (lam v.b) = subst Normal v.is q in
         subst (λ (c : Bool). T (not c)) (sym (g v.b v.body) ∙ p) n.0
 
-    pub normal_body : r ≡ false → Walked l (at + 4) Normal (Upto end) → Walked l at Normal (Upto end)
+    pub normal_body : r ≡ false → Walked l (at + 4) Normal (Some end) → Walked l at Normal (Some end)
     normal_body p x =
-        walked_lam l at Normal (λ b. T (not (is_eta b)) × Normal b) (Upto end) k (λ b. (λ n. n, λ n. n))
-        (walked_same l (at + 4) (λ b. T (not (is_eta b)) × Normal b) Normal (Upto end) (Upto end)
-        (λ b y. (λ n. n.1, λ n. (subst (λ (c : Bool). T (not c)) (sym p ∙ g b y) tt, n))) refl x)
+        walked_lam l at Normal (λ b. T (not (is_eta b)) × Normal b) (Some end) k (λ b. (λ n. n, λ n. n))
+        (walked_same l (at + 4) (λ b. T (not (is_eta b)) × Normal b) Normal end
+        (λ b y. (λ n. n.1, λ n. (subst (λ (c : Bool). T (not c)) (sym p ∙ g b y) tt, n))) x)

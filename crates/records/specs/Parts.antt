@@ -13,8 +13,8 @@
 use Rattle.std.specs.Prelude.{◌≡◌, true, List, ◌++◌, ℕ, zero, suc, ◌+◌, ◌-◌, ◌*◌, ◌≤◌, ◌<◌, length, take, drop}
 use Rattle.terms.specs.Term.{Term, app, size}
 use Rattle.terms.specs.Table.{encode, good_records}
-use Rattle.records.specs.declared.End.{End}
-use Rattle.records.specs.declared.End.TheVariants.{At, Nowhere}
+use Rattle.std.specs.declared.option.Option.{Option}
+use Rattle.std.specs.declared.option.Option.TheVariants.{Some, None}
 
 abbrev pub slice : List ℕ → ℕ → List ℕ
 slice l n = take (length l - n) (drop n l)
@@ -48,9 +48,9 @@ unfoldable pub Reached : List ℕ → ℕ → ℕ → ℕ → Type 0
 Reached l at zero r = EndFound l at r
 Reached l at (suc n) r = Nothing l at
 
-unfoldable pub Ended : List ℕ → End → Type 0
-Ended l (At r) = EndFound l 0 r
-Ended l Nowhere = Nothing l 0
+unfoldable pub Ended : List ℕ → Option ℕ → Type 0
+Ended l (Some r) = EndFound l 0 r
+Ended l None = Nothing l 0
 
 pub record Tree (l : List ℕ) : Type 0 where
   pub tree : Term

@@ -9,12 +9,13 @@ use Rattle.std.specs.Prelude.{Bool, cond, ◌&&◌, List, ℕ, zero, suc, ◌+�
 use Rattle.std.proofs.Math.Option.{Option}
 use Rattle.terms.specs.Table.{record_of, local_kind, variable_kind}
 use Rattle.terms.specs.Layout.{word_at}
-use Rattle.records.specs.declared.KindRead.{KindRead}
-use Rattle.records.specs.declared.KindRead.TheVariants.{Known, Unknown}
+use Rattle.std.specs.declared.option.Option.{Option as Answered}
+use Rattle.std.specs.declared.option.Option.TheVariants.{Some, None}
+use Rattle.records.specs.declared.Kind.{Kind}
 
 -- "Five kinds", 0 to 4
-abbrev pub kind_of : ℕ → KindRead
-kind_of b = cond (leb b variable_kind) (Known (record { code = b })) Unknown
+abbrev pub kind_of : ℕ → Answered Kind
+kind_of b = cond (leb b variable_kind) (Some (record { code = b })) None
 
 -- "0 application, followed by its head and then its argument", "1 abstraction, followed by its body"
 abbrev pub parts : ℕ → ℕ
@@ -22,9 +23,9 @@ parts zero = 2
 parts (suc zero) = 1
 parts (suc (suc k)) = 0
 
-abbrev pub read_parts : KindRead → ℕ
-read_parts (Known k) = parts k.code
-read_parts Unknown = 0
+abbrev pub read_parts : Answered Kind → ℕ
+read_parts (Some k) = parts k.code
+read_parts None = 0
 
 -- three bytes behind the kind, high byte first
 abbrev pub number_at : List ℕ → ℕ → ℕ

@@ -6,17 +6,14 @@
 --   asked q i n       what q asks of local i, against n
 --   Asks q n t        what q asks of the locals of t, against n outside of t
 --   Walked l at P r   a walk over the part at byte `at` came to its end exactly if P holds of the term there
---   Near n w          the walk w, begun n bytes further on, comes to a byte that a usize can say
---   further n w       the walk w, begun n bytes further on, told from here
-use Rattle.std.specs.Prelude.{◌≡◌, Bool, true, false, not, List, ℕ, ◌+◌, ◌*◌, ◌≤◌, T, ltb, eqb}
-use Rattle.terms.specs.Figures.{numbers}
+use Rattle.std.specs.Prelude.{◌≡◌, Bool, true, false, not, List, ℕ, T, ltb, eqb}
 use Rattle.terms.specs.Term.{Term, Normal, Closed, uses, is_abstraction}
 use Rattle.terms.specs.Table.{encode}
 use Rattle.records.specs.Parts.{Part, Ends}
 use Rattle.records.specs.declared.Ask.{Ask}
 use Rattle.records.specs.declared.Ask.TheVariants.{Bound, Other}
-use Rattle.records.specs.declared.Walk.{Walk}
-use Rattle.records.specs.declared.Walk.TheVariants.{Upto, No}
+use Rattle.std.specs.declared.option.Option.{Option}
+use Rattle.std.specs.declared.option.Option.TheVariants.{Some, None}
 
 abbrev pub Says : Bool → Type 0 → Type 0
 Says true A = A
@@ -40,14 +37,6 @@ abbrev pub Asks : Ask → ℕ → Term → Type 0
 Asks Bound n t = Closed n t
 Asks Other n t = uses n t ≡ false
 
-unfoldable pub Walked : List ℕ → ℕ → (Term → Type 0) → Walk → Type 0
-Walked l at P (Upto r) = Ends l at r × ((t : Term) → Part l at t → P t)
-Walked l at P No = (t : Term) → Part l at t → ¬ P t
-
-abbrev pub Near : ℕ → Walk → Type 0
-Near n (Upto r) = n + r ≤ 4 * numbers
-Near n No = Unit {0}
-
-abbrev pub further : ℕ → Walk → Walk
-further n (Upto r) = Upto (n + r)
-further n No = No
+unfoldable pub Walked : List ℕ → ℕ → (Term → Type 0) → Option ℕ → Type 0
+Walked l at P (Some r) = Ends l at r × ((t : Term) → Part l at t → P t)
+Walked l at P None = (t : Term) → Part l at t → ¬ P t

@@ -23,9 +23,9 @@ ghost use Rattle.terms.specs.Table.{application_kind, abstraction_kind, variable
 ghost use Rattle.terms.specs.Layout.{word_at};
 ghost use Rattle.records.specs.Record.{kind_of, parts as parts_of, read_parts, number_at, record_at, innermost_at};
 ghost use Rattle.records.specs.Parts.{Whole, Ends, Reached, Ended, Tree, Divided, Lies};
-ghost use Rattle.records.specs.Tests.{Says, Tells, Equals, Head, asked, Asks, Walked, Near, further};
+ghost use Rattle.records.specs.Tests.{Says, Tells, Equals, Head, asked, Asks, Walked};
 ghost use Rattle.records.specs.Checks.{pattern_refusal, recipe_refusal, Answers, Pattern, NormalTable, Recipe, ValueTable, OneTerm};
-ghost use Rattle.records.specs.Checks.{Good, TableChecked};
+ghost use Rattle.records.specs.Checks.{Good, TableChecked, of_recipe};
 
 // The bytes of one record.
 pub const RECORD: usize = 4;
@@ -34,13 +34,6 @@ pub const RECORD: usize = 4;
 #[derive(Clone, Copy)]
 pub struct Kind {
     pub code: u8,
-}
-
-// What a byte is, read as a kind.
-#[derive(Clone, Copy)]
-pub enum KindRead {
-    Known(Kind),
-    Unknown,
 }
 
 impl Kind {
@@ -55,13 +48,13 @@ impl Kind {
     pub const VARIABLE: Kind = Kind { code: 4 };
 
     // Five bytes are kinds, and no other.
-    pub fn from_byte(byte: u8) -> KindRead
+    pub fn from_byte(byte: u8) -> Option<Kind>
         ensures { result ≡ kind_of byte }
     {
         if byte <= Kind::VARIABLE.code {
-            KindRead::Known(Kind { code: byte })
+            Some(Kind { code: byte })
         } else {
-            KindRead::Unknown
+            None
         }
     }
 
@@ -103,15 +96,13 @@ impl Kind {
     }
 }
 
-impl KindRead {
-    // How many parts follow a record that begins with the byte; behind a byte that is no kind there is none.
-    fn following(self) -> usize
-        ensures { (result ≡ read_parts self) × (result ≤ 2) }
-    {
-        match self {
-            KindRead::Known(kind) => kind.parts(),
-            KindRead::Unknown => 0,
-        }
+// How many parts follow a record that begins with the byte; behind a byte that is no kind there is none.
+fn parts_behind(byte: u8) -> usize
+    ensures { (result ≡ read_parts (kind_of byte)) × (result ≤ 2) }
+{
+    match Kind::from_byte(byte) {
+        Some(kind) => kind.parts(),
+        None => 0,
     }
 }
 
@@ -165,34 +156,23 @@ fn pass_part(s: &[u8], from: usize) -> Pass
 {
     let mut at = from;
     let mut missing = 1;
-    while 0 < missing {
-        if s.len() - at < RECORD {
-            return Pass { at, missing };
+    for record in s[from..].chunks_exact(RECORD) {
+        if missing == 0 {
+            break;
         }
-        let read = Kind::from_byte(s[at]);
-        missing = missing - 1 + read.following();
+        missing = missing - 1 + parts_behind(record[0]);
         at += RECORD;
     }
     Pass { at, missing }
 }
 
-// Where the part that a table begins with ends.
-#[derive(Clone, Copy)]
-pub enum End {
-    At(usize),
-    Nowhere,
-}
-
-// Where the part that s begins with ends, of any bytes. It looks at the kinds alone, so that the bytes before the end are a term only
-// where they are good records.
-pub fn part_end(s: &[u8]) -> End
+// Where the part that s begins with ends, of any bytes, or that none ends in them. It looks at the kinds alone, so that the bytes before
+// the end are a term only where they are good records.
+pub fn part_end(s: &[u8]) -> Option<usize>
     ensures { Ended s.now result }
 {
     let p = pass_part(s, 0);
-    if p.missing == 0 {
-        return End::At(p.at);
-    }
-    End::Nowhere
+    (p.missing == 0).then_some(p.at)
 }
 
 // Where the part at byte `at` ends, which is known to stand there.
@@ -246,8 +226,7 @@ fn is_allowed(s: &[u8], at: usize, variables: usize) -> bool
     requires { at + 4 ≤ length s.now }
     ensures { result ≡ allowed variables (record_at s.now at) }
 {
-    let read = Kind::from_byte(s[at]);
-    let KindRead::Known(kind) = read else {
+    let Some(kind) = Kind::from_byte(s[at]) else {
         return false;
     };
     if kind.allows_second(s[at + 1]) {
@@ -260,17 +239,12 @@ fn is_allowed(s: &[u8], at: usize, variables: usize) -> bool
 pub fn good_records(s: &[u8], variables: usize) -> bool
     ensures { result ≡ good_records variables s.now }
 {
-    let mut at = 0;
-    while at < s.len() {
-        if s.len() - at < RECORD {
+    for record in s.chunks_exact(RECORD) {
+        if !is_allowed(record, 0, variables) {
             return false;
         }
-        if !is_allowed(s, at, variables) {
-            return false;
-        }
-        at += RECORD;
     }
-    true
+    s.len() % RECORD == 0
 }
 
 // What is asked of each local of a part: that its number is below n, or that it isn't n. Below a binder n is one more.
@@ -291,49 +265,24 @@ impl Ask {
     }
 }
 
-// How a walk over the part that a slice begins with ends: behind so many bytes, which are the part, or where it finds that what is asked of
-// the part doesn't hold.
-#[derive(Clone, Copy)]
-pub enum Walk {
-    Upto(usize),
-    No,
-}
-
-// What a walk answers that began n bytes further on, told from here.
-pub fn further(walk: Walk, n: usize) -> Walk
-    requires { Near n walk }
-    ensures { result ≡ further n walk }
-{
-    match walk {
-        Walk::Upto(m) => Walk::Upto(n + m),
-        Walk::No => Walk::No,
-    }
-}
-
-// Asks the locals of the part that s begins with, each record once: where the head ends the argument is known to begin.
-pub fn ask_part(s: &[u8], ask: Ask, n: usize) -> Walk
+// Asks the locals of the part that s begins with, each record once: where the head ends the argument is known to begin. Answers how many
+// bytes the part takes, or that what is asked of it doesn't hold.
+pub fn ask_part(s: &[u8], ask: Ask, n: usize) -> Option<usize>
     requires { Whole s.now 0 × (n + length s.now ≤ table_bytes) }
     ensures { Walked s.now 0 (Asks ask n) result }
 {
     let kind = s[0];
     if kind == Kind::APPLICATION.code {
-        let head = ask_part(&s[RECORD..], ask, n);
-        let Walk::Upto(h) = head else {
-            return Walk::No;
-        };
-        let next = RECORD + h;
-        return further(ask_part(&s[next..], ask, n), next);
+        let next = RECORD + ask_part(&s[RECORD..], ask, n)?;
+        return Some(next + ask_part(&s[next..], ask, n)?);
     }
     if kind == Kind::ABSTRACTION.code {
-        return further(ask_part(&s[RECORD..], ask, n + 1), RECORD);
+        return Some(RECORD + ask_part(&s[RECORD..], ask, n + 1)?);
     }
     if kind == Kind::LOCAL.code {
-        if ask.holds(number_at(s, 0), n) {
-            return Walk::Upto(RECORD);
-        }
-        return Walk::No;
+        return ask.holds(number_at(s, 0), n).then_some(RECORD);
     }
-    Walk::Upto(RECORD)
+    Some(RECORD)
 }
 
 // Whether the locals of the term s have their binders within it or among `depth` binders above it.
@@ -341,11 +290,7 @@ pub fn is_closed(s: &[u8], depth: usize) -> bool
     requires { Tree s.now × (depth + length s.now ≤ table_bytes) }
     ensures { Tells s.now (Closed depth) result }
 {
-    let walk = ask_part(s, Ask::Bound, depth);
-    match walk {
-        Walk::Upto(_) => true,
-        Walk::No => false,
-    }
+    ask_part(s, Ask::Bound, depth).is_some()
 }
 
 // Whether the record at byte `at` is the innermost local.
@@ -372,61 +317,49 @@ pub fn is_eta(s: &[u8]) -> bool
     if !innermost_at(s, last) {
         return false;
     }
-    let head = ask_part(&s[RECORD..], Ask::Other, 0);
-    match head {
-        Walk::Upto(h) => RECORD + h == last,
-        Walk::No => false,
+    match ask_part(&s[RECORD..], Ask::Other, 0) {
+        Some(head) => RECORD + head == last,
+        None => false,
     }
 }
 
 // Walks over the part that s begins with if it is normal. The abstraction that is itself a redex is ruled out by its body, whose end is
 // then known; the application by its head. An argument and a body may be any normal term.
-#[cycle(head_part_normal_part)]
-fn normal_part(s: &[u8]) -> Walk
+#[cycle(normal)]
+fn normal_part(s: &[u8]) -> Option<usize>
     requires { Whole s.now 0 × (length s.now ≤ table_bytes) }
     ensures { Walked s.now 0 Normal result }
 {
     let kind = s[0];
     if kind == Kind::ABSTRACTION.code {
-        let body = normal_part(&s[RECORD..]);
-        let Walk::Upto(b) = body else {
-            return Walk::No;
-        };
-        if is_eta(&s[RECORD..RECORD + b]) {
-            return Walk::No;
+        let end = RECORD + normal_part(&s[RECORD..])?;
+        if is_eta(&s[RECORD..end]) {
+            return None;
         }
-        return Walk::Upto(RECORD + b);
+        return Some(end);
     }
     if kind == Kind::APPLICATION.code {
-        let head = head_part(&s[RECORD..]);
-        let Walk::Upto(h) = head else {
-            return Walk::No;
-        };
-        let next = RECORD + h;
-        return further(normal_part(&s[next..]), next);
+        let next = RECORD + head_part(&s[RECORD..])?;
+        return Some(next + normal_part(&s[next..])?);
     }
-    Walk::Upto(RECORD)
+    Some(RECORD)
 }
 
 // Walks over the part that s begins with if it is normal and no abstraction, so that it may be a head.
-#[cycle(head_part_normal_part)]
-fn head_part(s: &[u8]) -> Walk
+#[cycle(normal)]
+fn head_part(s: &[u8]) -> Option<usize>
     requires { Whole s.now 0 × (length s.now ≤ table_bytes) }
     ensures { Walked s.now 0 Head result }
 {
     let kind = s[0];
     if kind == Kind::ABSTRACTION.code {
-        return Walk::No;
+        return None;
     }
     if kind == Kind::APPLICATION.code {
-        let head = head_part(&s[RECORD..]);
-        let Walk::Upto(h) = head else {
-            return Walk::No;
-        };
-        let next = RECORD + h;
-        return further(normal_part(&s[next..]), next);
+        let next = RECORD + head_part(&s[RECORD..])?;
+        return Some(next + normal_part(&s[next..])?);
     }
-    Walk::Upto(RECORD)
+    Some(RECORD)
 }
 
 // Whether the term s is normal.
@@ -434,11 +367,7 @@ pub fn is_normal(s: &[u8]) -> bool
     requires { Tree s.now × (length s.now ≤ table_bytes) }
     ensures { Tells s.now Normal result }
 {
-    let walk = normal_part(s);
-    match walk {
-        Walk::Upto(_) => true,
-        Walk::No => false,
-    }
+    normal_part(s).is_some()
 }
 
 // The documents' figures. A contract, here or in a crate above, cites each by its name in `terms`, and holds only if the two agree.
@@ -473,23 +402,33 @@ pub const LINE: usize = RECORD * VARIABLES;
 // The most bytes of a line, value or output table, and the bytes of a work area.
 pub const TABLE_BYTES: usize = 65536;
 
-// What a check of a pattern or a right side finds.
-#[derive(Clone, Copy)]
-pub enum PatternCheck {
-    Right,
+// What is wrong with a table that is to be a pattern or a right side.
+#[derive(Clone, Copy, Debug, PartialEq, Eq)]
+pub enum PatternFault {
     BadLength,
     BadRecord,
     NoTerm,
 }
 
-// What a check of a recipe finds.
-#[derive(Clone, Copy)]
-pub enum RecipeCheck {
-    Right,
+// What is wrong with a table that is to be a recipe.
+#[derive(Clone, Copy, Debug, PartialEq, Eq)]
+pub enum RecipeFault {
     BadLength,
     BadRecord,
     NoTerm,
     NotNormal,
+}
+
+impl From<PatternFault> for RecipeFault {
+    ghost from_gives = { λ found fault. fault ≡ of_recipe found };
+
+    fn from(found: PatternFault) -> RecipeFault {
+        match found {
+            PatternFault::BadLength => RecipeFault::BadLength,
+            PatternFault::BadRecord => RecipeFault::BadRecord,
+            PatternFault::NoTerm => RecipeFault::NoTerm,
+        }
+    }
 }
 
 // Whether s is empty, has more than `most` records, or ends within one.
@@ -511,60 +450,50 @@ fn is_one_term(table: &[u8]) -> bool
     requires { Good table.now × (length table.now ≤ table_bytes) }
     ensures { Says result (OneTerm table.now) }
 {
-    let end = part_end(table);
-    let End::At(n) = end else {
-        return false;
-    };
-    if n < table.len() {
-        return false;
+    match part_end(table) {
+        Some(end) => table.len() <= end && is_closed(table, 0),
+        None => false,
     }
-    is_closed(table, 0)
 }
 
 // Checks any bytes, in the order of document 01's causes, with the figures of the table that they are to be.
-fn check_table(table: &[u8], most: usize, variables: usize) -> PatternCheck
+fn check_table(table: &[u8], most: usize, variables: usize) -> Result<(), PatternFault>
     requires { 4 * most ≤ table_bytes }
     ensures { TableChecked most variables table.now result }
 {
     if is_bad_length(table, most) {
-        return PatternCheck::BadLength;
+        return Err(PatternFault::BadLength);
     }
     if !good_records(table, variables) {
-        return PatternCheck::BadRecord;
+        return Err(PatternFault::BadRecord);
     }
     if is_one_term(table) {
-        return PatternCheck::Right;
+        return Ok(());
     }
-    PatternCheck::NoTerm
+    Err(PatternFault::NoTerm)
 }
 
 // Checks a pattern, or a right side.
-pub fn check_pattern(pattern: &[u8]) -> PatternCheck
+pub fn check_pattern(pattern: &[u8]) -> Result<(), PatternFault>
     ensures { Answers (pattern_rows pattern.now) (Pattern pattern.now) (pattern_refusal result) }
 {
     check_table(pattern, PATTERN_RECORDS, VARIABLES)
 }
 
 // Checks any bytes that are to be a normal term without variables, of at most `most` records.
-fn check_normal(table: &[u8], most: usize) -> RecipeCheck
+fn check_normal(table: &[u8], most: usize) -> Result<(), RecipeFault>
     requires { 4 * most ≤ table_bytes }
     ensures { Answers (normal_rows most table.now) (NormalTable most table.now) (recipe_refusal result) }
 {
-    let check = check_table(table, most, 0);
-    match check {
-        PatternCheck::BadLength => return RecipeCheck::BadLength,
-        PatternCheck::BadRecord => return RecipeCheck::BadRecord,
-        PatternCheck::NoTerm => return RecipeCheck::NoTerm,
-        PatternCheck::Right => {}
+    check_table(table, most, 0)?;
+    if !is_normal(table) {
+        return Err(RecipeFault::NotNormal);
     }
-    if is_normal(table) {
-        return RecipeCheck::Right;
-    }
-    RecipeCheck::NotNormal
+    Ok(())
 }
 
 // Checks a recipe.
-pub fn check_recipe(recipe: &[u8]) -> RecipeCheck
+pub fn check_recipe(recipe: &[u8]) -> Result<(), RecipeFault>
     ensures { Answers (recipe_rows recipe.now) (Recipe recipe.now) (recipe_refusal result) }
 {
     check_normal(recipe, RECIPE_RECORDS)
@@ -574,12 +503,5 @@ pub fn check_recipe(recipe: &[u8]) -> RecipeCheck
 pub fn check_value(value: &[u8]) -> bool
     ensures { Says result (ValueTable value.now) }
 {
-    let check = check_normal(value, VALUE_RECORDS);
-    match check {
-        RecipeCheck::Right => true,
-        RecipeCheck::BadLength => false,
-        RecipeCheck::BadRecord => false,
-        RecipeCheck::NoTerm => false,
-        RecipeCheck::NotNormal => false,
-    }
+    check_normal(value, VALUE_RECORDS).is_ok()
 }

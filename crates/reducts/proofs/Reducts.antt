@@ -7,6 +7,8 @@ use Prim.Native.Nat.{ℕ, suc, ◌+◌, ◌-◌, ◌*◌, ◌/◌, ◌≤◌}
 use native.Mathlib.Omega.{arith}
 use lib.ListN.{length, get_or, take, drop}
 use lib.Seq.{sets, length-sets}
+use Rattle.std.specs.declared.option.Option.{Option}
+use Rattle.std.specs.declared.option.Option.TheVariants.{Some, None}
 use Rattle.terms.specs.Figures.{variables, numbers, pattern_records, swept_records}
 use Rattle.terms.specs.Term.{Term, app, lam, loc, con, var, size, Closed}
 use Rattle.terms.specs.Sweep.{contract}
@@ -20,29 +22,26 @@ use Rattle.records.specs.Parts.{slice, Part, Tree}
 use Rattle.records.specs.Tests.{Equals}
 use Rattle.records.specs.Checks.{Pattern}
 use Rattle.records.proofs.Parts.{whole, kind_at, at_start, leaf_size, application_of, abstraction_of}
-use Rattle.sweeping.specs.declared.Length.{Length}
-use Rattle.sweeping.specs.declared.Length.TheVariants.{Records, TooLong}
 use Rattle.sweeping.specs.Swept.{SweptParts}
 use Rattle.substitution.specs.Writers.{substitute_for, Wrote, UsesCounted}
 use Rattle.copying.proofs.Stores.{stored, written_then}
 use Rattle.sweeping.proofs.Contraction.{table_length, application_bytes, redex_size, redex_bytes}
-use Rattle.reducts.specs.Reduced.{pattern_bytes, Reduced, Contracts, ReducesApplication, ReducibleParts, ReducesRedex, Reducible}
-use Rattle.reducts.specs.Reduced.{Reduces}
+use Rattle.reducts.specs.Reduced.{pattern_bytes, Reduced, Contracts, ReducesApplication, ReducibleParts, ReducesRedex, Reducible, Reduces}
 
 -- the two answers
 pub reduced : (t : Term) (out after : List ℕ) (n : ℕ) → 4 * n ≡ 4 * size t → n ≤ pattern_records → after ≡ sets out 0 (encode t)
-    → Reduced t out (Records n) after
+    → Reduced t out (Some n) after
 unfolding Reduced
 reduced t out after n e h b = (omega arith, h, b)
 
-pub reduct_too_long : (t : Term) (out after : List ℕ) → Reduced t out TooLong after
+pub reduct_too_long : (t : Term) (out after : List ℕ) → Reduced t out None after
 unfolding Reduced
 reduct_too_long t out after = tt
 
 -- an application as it is
 pub joined :
     (f a out p q r : List ℕ) → 4 + length f + length a ≤ pattern_bytes → p ≡ sets out 0 (record_bytes 0 0 []) → q ≡ sets p 4 f
-    → r ≡ sets q (4 + length f) a → ReducesApplication f a out (Records ((4 + length f + length a) / 4)) r
+    → r ≡ sets q (4 + length f) a → ReducesApplication f a out (Some ((4 + length f + length a) / 4)) r
 joined f a out p q r h u v w x y e g =
     reduced (app x y) out r ((4 + length f + length a) / 4) (omega (arith, table_length f x e, table_length a y g)) (omega arith)
     (application_bytes f a out p q r u v w x y e g)
@@ -52,7 +51,7 @@ module _ (f a : List ℕ) (z : get_or f 0 0 ≡ 1) (next n : ℕ) (u : UsesCount
   pub contracted :
       (out after : List ℕ) (to end : ℕ) → length f - 4 + n * (length a - 4) ≤ pattern_bytes
       → ((t : Term) → a ≡ encode t → Wrote (substitute_for t) (slice f 4) 0 0 out 0 after to end)
-      → Contracts f a out (Records ((length f - 4 + n * (length a - 4)) / 4)) after
+      → Contracts f a out (Some ((length f - 4 + n * (length a - 4)) / 4)) after
   contracted out after to end m w x y e g =
       let s = redex_size f a z next n u x y e g in
       reduced (contract (app x y)) out after ((length f - 4 + n * (length a - 4)) / 4) (omega arith) (omega arith)
@@ -62,7 +61,7 @@ pub redex_tree : (f a : List ℕ) → SweptParts f a → Tree f
 redex_tree f a x = record { tree = x.head; bytes = x.head_bytes; least = x.head_least }
 
 -- which of the two is an application's reduct
-module _ (f a out : List ℕ) (r : Length) (after : List ℕ) where
+module _ (f a out : List ℕ) (r : Option ℕ) (after : List ℕ) where
   no_redex : ¬ (get_or f 0 0 ≡ 1) → (x y : Term) → f ≡ encode x → applied x y ≡ app x y
   no_redex n (app x b) y e = refl
   no_redex n (lam b) y e = absurd (n (kind_at f 0 (lam b) (at_start f (lam b) e)))
@@ -161,11 +160,11 @@ pub record ReductTable (t : Term) (p : List ℕ) (n : ℕ) : Type 0 where
   pub fills : length (take (n * 4 - 0) (drop 0 p)) ≡ 4 * n
   pub within : n * 4 ≤ length p
 
-pub reduct_table : (t : Term) (out p : List ℕ) (r : Length) (n : ℕ) → Reduced t out r p → r ≡ Records n → length out ≡ pattern_bytes
+pub reduct_table : (t : Term) (out p : List ℕ) (r : Option ℕ) (n : ℕ) → Reduced t out r p → r ≡ Some n → length out ≡ pattern_bytes
     → ReductTable t p n
 unfolding Reduced
 reduct_table t out p r n x e h =
-    let y : Reduced t out (Records n) p = subst (λ (q : Length). Reduced t out q p) e x in
+    let y : Reduced t out (Some n) p = subst (λ (q : Option ℕ). Reduced t out q p) e x in
     let b = stored out p (encode t) (n * 4) y.2 (omega (arith, y.0, encode_length t)) (omega (arith, y.1)) in
     record {
       some = omega (arith, y.0, size_pos t);
@@ -176,7 +175,7 @@ reduct_table t out p r n x e h =
     }
 
 -- the reduct of the part m, which is reducible
-module _ (m out p : List ℕ) (r : Length) (n : ℕ) (w : Reduces m out r p) (e : r ≡ Records n) (h : length out ≡ pattern_bytes) where
+module _ (m out p : List ℕ) (r : Option ℕ) (n : ℕ) (w : Reduces m out r p) (e : r ≡ Some n) (h : length out ≡ pattern_bytes) where
   results : (t : Term) → m ≡ encode t → ReductTable (reduct t) p n
   results t q = reduct_table (reduct t) out p r n (w t q) e h
 
@@ -191,8 +190,8 @@ module _ (m out p : List ℕ) (r : Length) (n : ℕ) (w : Reduces m out r p) (e 
 
 -- an application
 module _ (l : List ℕ) (z : get_or l 0 0 ≡ 0) (m j : List ℕ) (head : (f a : Term) → l ≡ encode (app f a) → m ≡ encode f)
-    (argument : (f a : Term) → l ≡ encode (app f a) → j ≡ encode a) (u p : List ℕ) (r : Length) (w : Reduces m u r p) (c b : List ℕ)
-    (o : Length) (y : Reduces j c o b) (n k : ℕ) (e : r ≡ Records n) (d : o ≡ Records k) (h : length u ≡ pattern_bytes)
+    (argument : (f a : Term) → l ≡ encode (app f a) → j ≡ encode a) (u p : List ℕ) (r : Option ℕ) (w : Reduces m u r p) (c b : List ℕ)
+    (o : Option ℕ) (y : Reduces j c o b) (n k : ℕ) (e : r ≡ Some n) (d : o ≡ Some k) (h : length u ≡ pattern_bytes)
     (i : length c ≡ pattern_bytes) where
   both_reduced : (t : Term) (q : l ≡ encode t) → ReductTable (reduct (application_of l t q z).f) p n
       × ReductTable (reduct (application_of l t q z).a) b k
@@ -232,7 +231,7 @@ module _ (l : List ℕ) (z : get_or l 0 0 ≡ 0) (m j : List ℕ) (head : (f a :
       }
 
   pub reduces_application :
-      (out : List ℕ) (q : Length) (after : List ℕ) → ReducesRedex (take (n * 4 - 0) (drop 0 p)) (take (k * 4 - 0) (drop 0 b)) out q after
+      (out : List ℕ) (q : Option ℕ) (after : List ℕ) → ReducesRedex (take (n * 4 - 0) (drop 0 p)) (take (k * 4 - 0) (drop 0 b)) out q after
       → Reduces l out q after
   reduces_application out q after x t g =
       let v = application_of l t g z in
@@ -240,9 +239,9 @@ module _ (l : List ℕ) (z : get_or l 0 0 ≡ 0) (m j : List ℕ) (head : (f a :
 
 -- an abstraction
 pub reduces_abstraction :
-    (l : List ℕ) → get_or l 0 0 ≡ 1 → (m : List ℕ) → ((b : Term) → l ≡ encode (lam b) → m ≡ encode b) → (u p : List ℕ) (r : Length)
-    → Reduces m u r p → (n : ℕ) → r ≡ Records n → length u ≡ pattern_bytes → ¬ (n * 4 ≡ pattern_bytes) → (out q after : List ℕ)
-    → q ≡ sets out 0 (record_bytes 1 0 []) → after ≡ sets q 4 (take (n * 4 - 0) (drop 0 p)) → Reduces l out (Records (n * 4 / 4 + 1)) after
+    (l : List ℕ) → get_or l 0 0 ≡ 1 → (m : List ℕ) → ((b : Term) → l ≡ encode (lam b) → m ≡ encode b) → (u p : List ℕ) (r : Option ℕ)
+    → Reduces m u r p → (n : ℕ) → r ≡ Some n → length u ≡ pattern_bytes → ¬ (n * 4 ≡ pattern_bytes) → (out q after : List ℕ)
+    → q ≡ sets out 0 (record_bytes 1 0 []) → after ≡ sets q 4 (take (n * 4 - 0) (drop 0 p)) → Reduces l out (Some (n * 4 / 4 + 1)) after
 reduces_abstraction l z m body u p r w n e h k out q after b c t g =
     let v = abstraction_of l t g z in
     let x = results m u p r n w e h v.b (body v.b v.bytes) in
@@ -266,6 +265,6 @@ module _ (l : List ℕ) (n : ¬ (get_or l 0 0 ≡ 0)) (m : ¬ (get_or l 0 0 ≡ 
   own (con i) e = refl
   own (var i) e = refl
 
-  pub reduces_leaf : (out after : List ℕ) → after ≡ sets out 0 l → Reduces l out (Records 1) after
+  pub reduces_leaf : (out after : List ℕ) → after ≡ sets out 0 l → Reduces l out (Some 1) after
   reduces_leaf out after w t e =
       rw (own t e) (reduced t out after 1 (omega (arith, leaf_size l 0 t (at_start l t e) n m)) (omega arith) (w ∙ ap (sets out 0) e))

@@ -22,13 +22,12 @@ ghost use Rattle.reducts.specs.Reduced.{pattern_bytes, Contracts, ReducesApplica
 ghost use Rattle.reducts.specs.Reduced.{Reducible, Reduces};
 
 use records::{Kind, PATTERN_RECORDS, RECORD};
-use sweeping::Length;
 
 // The bytes of a pattern of 32 records, the longest reduct that is written.
 pub const PATTERN_BYTES: usize = RECORD * PATTERN_RECORDS;
 
 // Contracts the application of a head, which is an abstraction, to an argument, both reduced.
-fn contract_redex(head: &[u8], argument: &[u8], out: &mut [u8; PATTERN_BYTES]) -> Length
+fn contract_redex(head: &[u8], argument: &[u8], out: &mut [u8; PATTERN_BYTES]) -> Option<usize>
     requires { SweptParts head.now argument.now × (get_or head.now 0 0 ≡ abstraction_kind) }
     ensures { Contracts head.now argument.now out.old result out.new }
 {
@@ -37,29 +36,29 @@ fn contract_redex(head: &[u8], argument: &[u8], out: &mut [u8; PATTERN_BYTES]) -
     // each use is one record of the body, and all of the argument's records take its place
     let bytes = head.len() - RECORD + uses.count * (argument.len() - RECORD);
     if bytes > PATTERN_BYTES {
-        return Length::TooLong;
+        return None;
     }
     substitution::substitute_into(body, 0, argument, out, 0);
-    Length::Records(bytes / RECORD)
+    Some(bytes / RECORD)
 }
 
 // Writes the application of a head to an argument as it is.
-fn join(head: &[u8], argument: &[u8], out: &mut [u8; PATTERN_BYTES]) -> Length
+fn join(head: &[u8], argument: &[u8], out: &mut [u8; PATTERN_BYTES]) -> Option<usize>
     requires { (length head.now ≤ pattern_bytes) × (length argument.now ≤ pattern_bytes) }
     ensures { ReducesApplication head.now argument.now out.old result out.new }
 {
     let n = RECORD + head.len() + argument.len();
     if n > PATTERN_BYTES {
-        return Length::TooLong;
+        return None;
     }
     records::put_record(out, 0, Kind::APPLICATION, 0);
     copying::copy_into(head, out, RECORD);
     copying::copy_into(argument, out, RECORD + head.len());
-    Length::Records(n / RECORD)
+    Some(n / RECORD)
 }
 
 // Applies a head to an argument, both reduced: the redex is contracted if it is one, and the argument is rigid or the local guarded.
-fn apply_reduced(head: &[u8], argument: &[u8], out: &mut [u8; PATTERN_BYTES]) -> Length
+fn apply_reduced(head: &[u8], argument: &[u8], out: &mut [u8; PATTERN_BYTES]) -> Option<usize>
     requires { ReducibleParts head.now argument.now }
     ensures { ReducesRedex head.now argument.now out.old result out.new }
 {
@@ -76,49 +75,37 @@ fn apply_reduced(head: &[u8], argument: &[u8], out: &mut [u8; PATTERN_BYTES]) ->
 }
 
 // Reduces an application: its head, its argument, and then the two together.
-#[cycle(reduce_reduce_abstraction_reduce_application)]
-fn reduce_application(s: &[u8], out: &mut [u8; PATTERN_BYTES]) -> Length
+#[cycle(reduce)]
+fn reduce_application(s: &[u8], out: &mut [u8; PATTERN_BYTES]) -> Option<usize>
     requires { Reducible s.now × (get_or s.now 0 0 ≡ application_kind) }
     ensures { Reduces s.now out.old result out.new }
 {
     let mut head = [0u8; PATTERN_BYTES];
-    let first = reduce(records::head_of(s), &mut head);
-    let Length::Records(n) = first else {
-        return Length::TooLong;
-    };
+    let n = reduce(records::head_of(s), &mut head)? * RECORD;
     let mut argument = [0u8; PATTERN_BYTES];
-    let second = reduce(records::argument_of(s), &mut argument);
-    let Length::Records(m) = second else {
-        return Length::TooLong;
-    };
-    let n = n * RECORD;
-    let m = m * RECORD;
+    let m = reduce(records::argument_of(s), &mut argument)? * RECORD;
     apply_reduced(&head[0..n], &argument[0..m], out)
 }
 
 // Reduces an abstraction: its body, and then the abstraction over it.
-#[cycle(reduce_reduce_abstraction_reduce_application)]
-fn reduce_abstraction(s: &[u8], out: &mut [u8; PATTERN_BYTES]) -> Length
+#[cycle(reduce)]
+fn reduce_abstraction(s: &[u8], out: &mut [u8; PATTERN_BYTES]) -> Option<usize>
     requires { Reducible s.now × (get_or s.now 0 0 ≡ abstraction_kind) }
     ensures { Reduces s.now out.old result out.new }
 {
     let mut body = [0u8; PATTERN_BYTES];
-    let reduced = reduce(records::body_of(s), &mut body);
-    let Length::Records(n) = reduced else {
-        return Length::TooLong;
-    };
-    let n = n * RECORD;
+    let n = reduce(records::body_of(s), &mut body)? * RECORD;
     if n == PATTERN_BYTES {
-        return Length::TooLong;
+        return None;
     }
     records::put_record(out, 0, Kind::ABSTRACTION, 0);
     copying::copy_into(&body[0..n], out, RECORD);
-    Length::Records(n / RECORD + 1)
+    Some(n / RECORD + 1)
 }
 
 // Writes the reduct of s, the table of a pattern or of a part of one, into out from byte 0 on. Leaves are their own reducts.
-#[cycle(reduce_reduce_abstraction_reduce_application)]
-pub fn reduce(s: &[u8], out: &mut [u8; PATTERN_BYTES]) -> Length
+#[cycle(reduce)]
+pub fn reduce(s: &[u8], out: &mut [u8; PATTERN_BYTES]) -> Option<usize>
     requires { Reducible s.now }
     ensures { Reduces s.now out.old result out.new }
 {
@@ -130,5 +117,5 @@ pub fn reduce(s: &[u8], out: &mut [u8; PATTERN_BYTES]) -> Length
         return reduce_abstraction(s, out);
     }
     copying::copy_into(s, out, 0);
-    Length::Records(1)
+    Some(1)
 }

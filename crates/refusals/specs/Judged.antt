@@ -1,16 +1,19 @@
 -- The numbers of refusals, and what a verdict on lent tables says.
 --   number c                  the documents' number of the refusal c
+--   of_pattern f, of_recipe f   the refusal for what is wrong with a table that is to be a pattern, or a recipe
 --   Judged rows W v           the verdict v is the first row whose cause holds; or none does, and W
---   first_of a b               the first of two verdicts that refuses
 --   table_row n l, area_row w   the row 8 of a table of places of n bytes, and of the work area
 --   FilledTables p l s        the pattern's table p can be filled from the line l and the value table s
-use Rattle.std.specs.Prelude.{◌≡◌, List, [], ◌∷◌, ℕ, ◌*◌, length}
+use Rattle.std.specs.Prelude.{⊤, ◌≡◌, List, [], ◌∷◌, ℕ, ◌*◌, length}
+use Rattle.std.specs.declared.result.Result.{Result}
+use Rattle.std.specs.declared.result.Result.TheVariants.{Ok, Err}
 use Rattle.terms.specs.Figures.{variables}
 use Rattle.terms.specs.Term.{Term}
 use Rattle.terms.specs.Refusal.{Row, Refused, Passed, BadTable, BadArea, Filled}
 use Rattle.records.specs.Checks.{Pattern}
+use Rattle.records.specs.declared.PatternFault.{PatternFault}
+use Rattle.records.specs.declared.RecipeFault.{RecipeFault}
 use Rattle.refusals.specs.declared.Refusal.{Refusal}
-use Rattle.refusals.specs.declared.Verdict.{Verdict}
 
 abbrev pub number : Refusal → ℕ
 number Refusal.PatternLength = 1
@@ -33,15 +36,21 @@ number Refusal.LongRecipe = 17
 number Refusal.Buoy = 18
 number Refusal.ShelfRoom = 19
 
--- "Each is given when its cause holds and no earlier one does, and at no other time."
-unfoldable pub Judged : List Row → Type 0 → Verdict → Type 0
-Judged rows W Verdict.Right = Passed rows × W
-Judged rows W (Verdict.Refused c) = Refused rows (number c)
+abbrev pub of_pattern : PatternFault → Refusal
+of_pattern PatternFault.BadLength = Refusal.PatternLength
+of_pattern PatternFault.BadRecord = Refusal.PatternRecord
+of_pattern PatternFault.NoTerm = Refusal.PatternTerm
 
--- the first verdict that refuses
-abbrev pub first_of : Verdict → Verdict → Verdict
-first_of Verdict.Right b = b
-first_of (Verdict.Refused c) b = Verdict.Refused c
+abbrev pub of_recipe : RecipeFault → Refusal
+of_recipe RecipeFault.BadLength = Refusal.RecipeLength
+of_recipe RecipeFault.BadRecord = Refusal.RecipeRecord
+of_recipe RecipeFault.NoTerm = Refusal.RecipeTerm
+of_recipe RecipeFault.NotNormal = Refusal.RecipeRedex
+
+-- "Each is given when its cause holds and no earlier one does, and at no other time."
+unfoldable pub Judged : List Row → Type 0 → Result ⊤ Refusal → Type 0
+Judged rows W (Ok tt) = Passed rows × W
+Judged rows W (Err c) = Refused rows (number c)
 
 -- a row 8 by itself
 abbrev pub table_row : ℕ → List ℕ → List Row

@@ -7,6 +7,8 @@ use Prim.Native.Nat.{ℕ, ◌*◌, ◌/◌, ◌≤◌, ◌<◌}
 use native.Mathlib.Omega.{arith}
 use lib.ListN.{length}
 use lib.Seq.{sets, length-sets}
+use Rattle.std.specs.declared.result.Result.{Result}
+use Rattle.normalizing.specs.declared.NormalFault.{NormalFault}
 use Rattle.terms.specs.Figures.{swept_records, most_sweeps}
 use Rattle.terms.specs.Term.{Term, size, Closed, Below}
 use Rattle.terms.specs.Table.{encode, IsTable}
@@ -17,7 +19,6 @@ use Rattle.records.specs.Parts.{Part, Whole, Ends}
 use Rattle.records.proofs.Parts.{part_one, whole}
 use Rattle.copying.proofs.Stores.{stored}
 use Rattle.sweeping.specs.Swept.{sweep_records}
-use Rattle.normalizing.specs.declared.NormalForm.{NormalForm}
 use Rattle.normalizing.specs.Normalized.{Begins, Normalizable, Normalized}
 use Rattle.replacing.specs.Replacing.{splice, replaced, SpliceRoom, SpliceWritten}
 use Rattle.replacing.specs.Wholes.{WholeTables, WholeNormalized}
@@ -107,7 +108,7 @@ module _ (r : List ℕ) (k : ℕ) (f w : List ℕ) (x : WholeTables r k f w) whe
             below = (whole_term t p).below;
           }
 
-      pub whole_rest : (a : NormalForm) (q : List ℕ) → ((t : Term) → Begins v (n / 4) t → Normalized most_sweeps 0 t a q)
+      pub whole_rest : (a : Result ℕ NormalFault) (q : List ℕ) → ((t : Term) → Begins v (n / 4) t → Normalized most_sweeps 0 t a q)
           → WholeNormalized r k f a q
       whole_rest a q g t u p e =
           let i : x.0.term ≡ u = encode_one x.0.term u (sym x.0.bytes ∙ e) in

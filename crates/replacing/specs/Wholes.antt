@@ -5,6 +5,8 @@
 --   WholeTables r k f whole         so it is, and `whole` has room
 --   WholeNormalized r k f a after   r with the term of f in the place of its part at record k, swept until normal: its first normal form is
 --                                   what `after` begins with; or why there is none
+use Rattle.std.specs.declared.result.Result.{Result}
+use Rattle.normalizing.specs.declared.NormalFault.{NormalFault}
 use Rattle.std.specs.Prelude.{◌≡◌, List, ℕ, ◌*◌, ◌≤◌, ◌<◌, length}
 use Rattle.terms.specs.Figures.{swept_records, most_sweeps}
 use Rattle.terms.specs.Term.{Term, size, Closed, Below}
@@ -12,7 +14,6 @@ use Rattle.terms.specs.Table.{encode, IsTable}
 use Rattle.records.specs.Checks.{Recipe}
 use Rattle.records.specs.Parts.{Part}
 use Rattle.sweeping.specs.Swept.{sweep_records}
-use Rattle.normalizing.specs.declared.NormalForm.{NormalForm}
 use Rattle.normalizing.specs.Normalized.{Normalized}
 use Rattle.replacing.specs.Replacing.{replaced}
 
@@ -33,6 +34,6 @@ abbrev pub WholeTables : List ℕ → ℕ → List ℕ → List ℕ → Type 0
 WholeTables r k f whole = FormStands r k f × (whole_bytes ≤ length whole)
 
 -- document 02: "sweep the whole until normal [..], with no sweep if it is normal already"
-abbrev pub WholeNormalized : List ℕ → ℕ → List ℕ → NormalForm → List ℕ → Type 0
+abbrev pub WholeNormalized : List ℕ → ℕ → List ℕ → Result ℕ NormalFault → List ℕ → Type 0
 WholeNormalized r k f a after =
     (t u : Term) → Part r (4 * k) t → f ≡ encode u → (w : Term) × IsTable (replaced r k t u) w × Normalized most_sweeps 0 w a after

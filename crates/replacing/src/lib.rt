@@ -11,7 +11,7 @@
 ghost use Rattle.replacing.specs.Replacing.{SpliceRoom, SpliceWritten};
 ghost use Rattle.replacing.specs.Wholes.{WholeTables, WholeNormalized};
 
-use normalizing::NormalForm;
+use normalizing::NormalFault;
 use records::{MOST_SWEEPS, RECORD};
 
 // The bytes of a table for the whole: 384 records, the most that `normalizing` takes. A recipe of 96 records with a form of 256 in the
@@ -32,7 +32,12 @@ pub fn replace(recipe: &[u8], at: usize, end: usize, form: &[u8], whole: &mut [u
 
 // Puts a form in the place of the part that begins at record k, and sweeps the whole until it is normal; a whole that is normal isn't
 // swept.
-pub fn normalize_whole(recipe: &[u8], k: usize, form: &[u8], whole: &mut [u8]) -> NormalForm
+pub fn normalize_whole(
+    recipe: &[u8],
+    k: usize,
+    form: &[u8],
+    whole: &mut [u8],
+) -> Result<usize, NormalFault>
     requires { WholeTables recipe.now k form.now whole.old }
     ensures { WholeNormalized recipe.now k form.now result whole.new }
 {

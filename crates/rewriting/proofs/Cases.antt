@@ -7,6 +7,10 @@ use Prim.Native.Nat.{ℕ, zero, suc, ◌*◌, ◌-◌}
 use native.Mathlib.Omega.{arith}
 use lib.Dec.{lit<, lit≤}
 use lib.ListN.{length, replicate}
+use Rattle.std.specs.declared.result.Result.{Result}
+use Rattle.std.specs.declared.result.Result.TheVariants.{Ok}
+use Rattle.refusals.specs.declared.Refusal.{Refusal}
+use Rattle.std.specs.Prelude.{Bool, false}
 use Rattle.terms.specs.Figures.{variables, recipe_records, table_bytes}
 use Rattle.terms.specs.Term.{Term, app, lam, loc, con, var, Occurs, size}
 use Rattle.terms.specs.Sweep.{sweep, fill, largest}
@@ -17,7 +21,6 @@ use Rattle.terms.specs.Refusal.{pattern_rows, recipe_rows}
 use Rattle.terms.proofs.Table.{encode_one}
 use Rattle.terms.proofs.Refusal.{passed_both, filled_one}
 use Rattle.refusals.proofs.Passing.{table_passed, pattern_passed, normal_passed}
-use Rattle.rewriting.specs.declared.CheckAnswer.{CheckAnswer}
 use Rattle.rewriting.specs.Operations.{lent_for_check, Checked}
 use Rattle.rewriting.proofs.Determined.{checked_one}
 
@@ -112,10 +115,12 @@ module _ (w : List ℕ) (h : length w ≡ table_bytes) where
       (passed_both (assignment_table_rows line case_values w) (pattern_rows p ++ recipe_rows r) (tables_passed w h) sides_passed)
       assignment_passed
 
-  answer_no : Checked p r line case_values w CheckAnswer.No
+  answer_no : Checked p r line case_values w (Ok false)
   unfolding Checked
-  answer_no =
-      (passed_both (lent_for_check p r line case_values w) (swept_form_rows p line case_values) lent_passed case_swept_passed, case_unmatched)
+  answer_no = (
+    passed_both (lent_for_check p r line case_values w) (swept_form_rows p line case_values) lent_passed case_swept_passed,
+    case_unmatched,
+  )
 
-  pub case_8 : (a : CheckAnswer) → Checked p r line case_values w a → a ≡ CheckAnswer.No
-  case_8 a x = checked_one p r line case_values w a CheckAnswer.No x answer_no
+  pub case_8 : (a : Result Bool Refusal) → Checked p r line case_values w a → a ≡ (Ok false)
+  case_8 a x = checked_one p r line case_values w a (Ok false) x answer_no

@@ -5,6 +5,10 @@
 use mathlib.Core.Path.{◌≡◌, refl, sym, ap, ◌∙◌, subst}
 use mathlib.Core.List.{List}
 use Prim.Native.Nat.{ℕ}
+use Rattle.std.specs.declared.result.Result.{Result}
+use Rattle.std.specs.declared.result.Result.TheVariants.{Ok, Err}
+use Rattle.refusals.specs.declared.Refusal.{Refusal}
+use Rattle.std.specs.Prelude.{Bool, true, false}
 use Rattle.terms.specs.Figures.{most_sweeps}
 use Rattle.terms.specs.Term.{Term, size}
 use Rattle.terms.specs.Table.{encode}
@@ -16,26 +20,23 @@ use Rattle.terms.proofs.Normalization.{first_normal_one}
 use Rattle.refusals.specs.Judged.{number}
 use Rattle.refusals.specs.Lent.{overwritten}
 use Rattle.refusals.proofs.Numbers.{refusal_one}
-use Rattle.rewriting.specs.declared.CheckAnswer.{CheckAnswer}
-use Rattle.rewriting.specs.declared.SweepAnswer.{SweepAnswer}
-use Rattle.rewriting.specs.declared.RewriteAnswer.{RewriteAnswer}
 use Rattle.rewriting.specs.Operations.{check_rows, sweep_rows, rewrite_rows, Written, WrittenNormal, Checked, Swept, Rewritten}
 
 module _ (p r l s w : List ℕ) where
   abbrev checked_rows : List Row
   checked_rows = check_rows p r l s w
 
-  pub checked_one : (a b : CheckAnswer) → Checked p r l s w a → Checked p r l s w b → a ≡ b
+  pub checked_one : (a b : Result Bool Refusal) → Checked p r l s w a → Checked p r l s w b → a ≡ b
   unfolding Checked
-  checked_one CheckAnswer.Yes CheckAnswer.Yes x y = refl
-  checked_one CheckAnswer.Yes CheckAnswer.No x y = absurd (y.1 x.1)
-  checked_one CheckAnswer.Yes (CheckAnswer.Refused d) x y = absurd (refused_passed checked_rows (number d) y x.0)
-  checked_one CheckAnswer.No CheckAnswer.Yes x y = absurd (x.1 y.1)
-  checked_one CheckAnswer.No CheckAnswer.No x y = refl
-  checked_one CheckAnswer.No (CheckAnswer.Refused d) x y = absurd (refused_passed checked_rows (number d) y x.0)
-  checked_one (CheckAnswer.Refused c) CheckAnswer.Yes x y = absurd (refused_passed checked_rows (number c) x y.0)
-  checked_one (CheckAnswer.Refused c) CheckAnswer.No x y = absurd (refused_passed checked_rows (number c) x y.0)
-  checked_one (CheckAnswer.Refused c) (CheckAnswer.Refused d) x y = ap CheckAnswer.Refused (refusal_one checked_rows c d x y)
+  checked_one (Ok true) (Ok true) x y = refl
+  checked_one (Ok true) (Ok false) x y = absurd (y.1 x.1)
+  checked_one (Ok true) (Err d) x y = absurd (refused_passed checked_rows (number d) y x.0)
+  checked_one (Ok false) (Ok true) x y = absurd (x.1 y.1)
+  checked_one (Ok false) (Ok false) x y = refl
+  checked_one (Ok false) (Err d) x y = absurd (refused_passed checked_rows (number d) y x.0)
+  checked_one (Err c) (Ok true) x y = absurd (refused_passed checked_rows (number c) x y.0)
+  checked_one (Err c) (Ok false) x y = absurd (refused_passed checked_rows (number c) x y.0)
+  checked_one (Err c) (Err d) x y = ap Err (refusal_one checked_rows c d x y)
 
 -- the records that are written, and the bytes
 written_one : (p l s o : List ℕ) (j k : ℕ) (m n : List ℕ) → Written p l s o j m → Written p l s o k n → (j ≡ k) × (m ≡ n)
@@ -49,14 +50,14 @@ module _ (p l s o w : List ℕ) where
   abbrev swept_rows : List Row
   swept_rows = sweep_rows p l s o w
 
-  pub swept_one : (a b : SweepAnswer) (m n : List ℕ) → Swept p l s o w a m → Swept p l s o w b n → (a ≡ b) × (m ≡ n)
+  pub swept_one : (a b : Result ℕ Refusal) (m n : List ℕ) → Swept p l s o w a m → Swept p l s o w b n → (a ≡ b) × (m ≡ n)
   unfolding Swept
-  swept_one (SweepAnswer.Records j) (SweepAnswer.Records k) m n x y =
-      let e = written_one p l s o j k m n x.1 y.1 in (ap SweepAnswer.Records e.0, e.1)
-  swept_one (SweepAnswer.Records j) (SweepAnswer.Refused d) m n x y = absurd (refused_passed swept_rows (number d) y.0 x.0)
-  swept_one (SweepAnswer.Refused c) (SweepAnswer.Records k) m n x y = absurd (refused_passed swept_rows (number c) x.0 y.0)
-  swept_one (SweepAnswer.Refused c) (SweepAnswer.Refused d) m n x y =
-      (ap SweepAnswer.Refused (refusal_one swept_rows c d x.0 y.0), x.1 ∙ sym y.1)
+  swept_one (Ok j) (Ok k) m n x y =
+      let e = written_one p l s o j k m n x.1 y.1 in (ap Ok e.0, e.1)
+  swept_one (Ok j) (Err d) m n x y = absurd (refused_passed swept_rows (number d) y.0 x.0)
+  swept_one (Err c) (Ok k) m n x y = absurd (refused_passed swept_rows (number c) x.0 y.0)
+  swept_one (Err c) (Err d) m n x y =
+      (ap Err (refusal_one swept_rows c d x.0 y.0), x.1 ∙ sym y.1)
 
 normal_one : (p l s o : List ℕ) (j k : ℕ) (m n : List ℕ) → WrittenNormal p l s o j m → WrittenNormal p l s o k n → (j ≡ k) × (m ≡ n)
 normal_one p l s o j k m n x y =
@@ -71,13 +72,14 @@ module _ (p q r l s o w : List ℕ) where
   abbrev rewritten_rows : List Row
   rewritten_rows = rewrite_rows p q r l s o w
 
-  pub rewritten_one : (a b : RewriteAnswer) (m n : List ℕ) → Rewritten p q r l s o w a m → Rewritten p q r l s o w b n → (a ≡ b) × (m ≡ n)
+  pub rewritten_one : (a b : Result ℕ Refusal) (m n : List ℕ) → Rewritten p q r l s o w a m → Rewritten p q r l s o w b n
+      → (a ≡ b) × (m ≡ n)
   unfolding Rewritten
-  rewritten_one (RewriteAnswer.Records j) (RewriteAnswer.Records k) m n x y =
-      let e = normal_one q l s o j k m n x.1 y.1 in (ap RewriteAnswer.Records e.0, e.1)
-  rewritten_one (RewriteAnswer.Records j) (RewriteAnswer.Refused d) m n x y =
+  rewritten_one (Ok j) (Ok k) m n x y =
+      let e = normal_one q l s o j k m n x.1 y.1 in (ap Ok e.0, e.1)
+  rewritten_one (Ok j) (Err d) m n x y =
       absurd (refused_passed rewritten_rows (number d) y.0 x.0)
-  rewritten_one (RewriteAnswer.Refused c) (RewriteAnswer.Records k) m n x y =
+  rewritten_one (Err c) (Ok k) m n x y =
       absurd (refused_passed rewritten_rows (number c) x.0 y.0)
-  rewritten_one (RewriteAnswer.Refused c) (RewriteAnswer.Refused d) m n x y =
-      (ap RewriteAnswer.Refused (refusal_one rewritten_rows c d x.0 y.0), x.1 ∙ sym y.1)
+  rewritten_one (Err c) (Err d) m n x y =
+      (ap Err (refusal_one rewritten_rows c d x.0 y.0), x.1 ∙ sym y.1)

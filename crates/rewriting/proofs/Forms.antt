@@ -8,27 +8,27 @@ use Prim.Native.Nat.{ℕ, ◌+◌, ◌*◌, ◌-◌, ◌<◌, ◌≤◌}
 use native.Mathlib.Omega.{arith}
 use lib.ListN.{length, take, drop}
 use lib.Seq.{sets, sets-eq}
+use Rattle.std.specs.declared.result.Result.{Result}
+use Rattle.std.specs.declared.result.Result.TheVariants.{Ok, Err}
+use Rattle.normalizing.specs.declared.NormalFault.{NormalFault}
+use Rattle.std.specs.declared.option.Option.{Option}
+use Rattle.std.specs.declared.option.Option.TheVariants.{None}
 use Rattle.terms.specs.Figures.{most_sweeps}
 use Rattle.terms.specs.Term.{Term, size}
 use Rattle.terms.specs.Table.{encode}
 use Rattle.terms.specs.Sweep.{sweep}
 use Rattle.terms.specs.Normalization.{FirstNormal}
-use Rattle.terms.specs.Refusal.{Refused, Passed, Filled, swept_form_rows, output_rows, normal_form_rows, normal_output_rows}
+use Rattle.terms.specs.Refusal.{Passed, Filled, swept_form_rows, output_rows, normal_form_rows, normal_output_rows}
 use Rattle.terms.proofs.Refusal.{filled_one, refused_first, refused_later, passed_both}
 use Rattle.terms.proofs.Normalization.{first_normal_one}
 use Rattle.terms.proofs.Table.{encode_length}
-use Rattle.sweeping.specs.declared.Length.{Length}
-use Rattle.sweeping.specs.declared.Length.TheVariants.{Records, TooLong}
-use Rattle.normalizing.specs.declared.NormalForm.{NormalForm}
-use Rattle.normalizing.specs.Normalized.{Begins, Normalized}
+use Rattle.normalizing.specs.Normalized.{of_fault, Begins, Normalized}
 use Rattle.normalizing.proofs.Rows.{rows_long, rows_none, rows_form, rows_passed}
 use Rattle.refusals.specs.declared.Refusal.{Refusal}
 use Rattle.refusals.specs.Judged.{FilledTables}
 use Rattle.refusals.specs.Lent.{overwritten}
 use Rattle.sides.specs.Sides.{SweptSide, NormalSide}
 use Rattle.sides.proofs.Sides.{SideForm, swept_passed, too_long}
-use Rattle.rewriting.specs.declared.SweepAnswer.{SweepAnswer}
-use Rattle.rewriting.specs.declared.RewriteAnswer.{RewriteAnswer}
 use Rattle.rewriting.specs.Steps.{FormWritten, SideSwept, SideNormalized}
 
 -- the bytes are copied to the start
@@ -55,14 +55,14 @@ module _ (f o : List ℕ) (b : Bool) (after : List ℕ) (w : FormWritten f o b a
       let x = subst (λ (c : Bool). FormWritten f o c after) p w in (omega (arith, x.0, ap length e, encode_length u), x.1)
 
 -- a swept form
-module _ (p l s out : List ℕ) (r : Length) (table : List ℕ) (x : FilledTables p l s) (w : SweptSide p l s out r table) where
-  pub put_long : (o : List ℕ) → r ≡ TooLong → SideSwept p l s o (SweepAnswer.Refused Refusal.SweptForm) o
+module _ (p l s out : List ℕ) (r : Option ℕ) (table : List ℕ) (x : FilledTables p l s) (w : SweptSide p l s out r table) where
+  pub put_long : (o : List ℕ) → r ≡ None → SideSwept p l s o (Err Refusal.SweptForm) o
   unfolding SideSwept
   put_long o e = (refused_first (swept_form_rows p l s) (output_rows p l s o) 12 (too_long p l s out r table x w e), refl)
 
 module _ (p l s : List ℕ) (n : ℕ) (table : List ℕ) (x : SideForm p l s n table) (o : List ℕ) (b : Bool) (after : List ℕ)
     (w : FormWritten (take (n * 4 - 0) (drop 0 table)) o b after) where
-  pub put_short : b ≡ false → SideSwept p l s o (SweepAnswer.Refused Refusal.Output) after
+  pub put_short : b ≡ false → SideSwept p l s o (Err Refusal.Output) after
   unfolding SideSwept
   put_short e =
       let z = left_short (take (n * 4 - 0) (drop 0 table)) o b after w (sweep x.term) x.bytes e in (
@@ -71,7 +71,7 @@ module _ (p l s : List ℕ) (n : ℕ) (table : List ℕ) (x : SideForm p l s n t
         z.1,
       )
 
-  pub put_done : b ≡ true → SideSwept p l s o (SweepAnswer.Records n) after
+  pub put_done : b ≡ true → SideSwept p l s o (Ok n) after
   unfolding SideSwept
   put_done e =
       let z = written_room (take (n * 4 - 0) (drop 0 table)) o b after w (sweep x.term) x.bytes e in (
@@ -81,14 +81,14 @@ module _ (p l s : List ℕ) (n : ℕ) (table : List ℕ) (x : SideForm p l s n t
       )
 
 -- a first normal form
-module _ (p l s : List ℕ) (x : FilledTables p l s) (r : NormalForm) (table : List ℕ) (w : NormalSide p l s r table) where
+module _ (p l s : List ℕ) (x : FilledTables p l s) (r : Result ℕ NormalFault) (table : List ℕ) (w : NormalSide p l s r table) where
   one : (t : Term) → Filled p l s t → t ≡ x.term
   one t f = filled_one p l s t x.term f x.filled
 
   rows_of : Normalized most_sweeps 1 x.term r table
   rows_of = w x.term x.filled
 
-  pub normal_put_long : (o : List ℕ) → r ≡ NormalForm.TooLong → SideNormalized p l s o (RewriteAnswer.Refused Refusal.SweptForm) o
+  normal_put_long : (o : List ℕ) → r ≡ (Err NormalFault.TooLong) → SideNormalized p l s o (Err Refusal.SweptForm) o
   unfolding SideNormalized
   normal_put_long o e = (
     refused_first (normal_form_rows (Filled p l s) 1) (normal_output_rows (Filled p l s) 1 o) 12
@@ -96,7 +96,7 @@ module _ (p l s : List ℕ) (x : FilledTables p l s) (r : NormalForm) (table : L
     refl,
   )
 
-  pub normal_put_none : (o : List ℕ) → r ≡ NormalForm.NotReached → SideNormalized p l s o (RewriteAnswer.Refused Refusal.NoNormalForm) o
+  normal_put_none : (o : List ℕ) → r ≡ (Err NormalFault.NotReached) → SideNormalized p l s o (Err Refusal.NoNormalForm) o
   unfolding SideNormalized
   normal_put_none o e = (
     refused_first (normal_form_rows (Filled p l s) 1) (normal_output_rows (Filled p l s) 1 o) 15
@@ -104,7 +104,7 @@ module _ (p l s : List ℕ) (x : FilledTables p l s) (r : NormalForm) (table : L
     refl,
   )
 
-  module _ (n : ℕ) (e : r ≡ NormalForm.Records n) where
+  module _ (n : ℕ) (e : r ≡ Ok n) where
     pub normal_form : (u : Term) × FirstNormal most_sweeps 1 x.term u × Begins table n u
     normal_form = rows_form (Filled p l s) 1 x.term x.filled one r table rows_of n e
 
@@ -117,7 +117,7 @@ module _ (p l s : List ℕ) (x : FilledTables p l s) (r : NormalForm) (table : L
         normal_form.1
 
     module _ (o : List ℕ) (b : Bool) (after : List ℕ) (v : FormWritten (take (n * 4 - 0) (drop 0 table)) o b after) where
-      pub normal_put_short : b ≡ false → SideNormalized p l s o (RewriteAnswer.Refused Refusal.Output) after
+      pub normal_put_short : b ≡ false → SideNormalized p l s o (Err Refusal.Output) after
       unfolding SideNormalized
       normal_put_short h =
           let z = left_short (take (n * 4 - 0) (drop 0 table)) o b after v normal_form.0 normal_form.2.bytes h in (
@@ -126,7 +126,7 @@ module _ (p l s : List ℕ) (x : FilledTables p l s) (r : NormalForm) (table : L
             z.1,
           )
 
-      pub normal_put_done : b ≡ true → SideNormalized p l s o (RewriteAnswer.Records n) after
+      pub normal_put_done : b ≡ true → SideNormalized p l s o (Ok n) after
       unfolding SideNormalized
       normal_put_done h =
           let z = written_room (take (n * 4 - 0) (drop 0 table)) o b after v normal_form.0 normal_form.2.bytes h in (
@@ -141,3 +141,8 @@ module _ (p l s : List ℕ) (x : FilledTables p l s) (r : NormalForm) (table : L
               bytes = z.1;
             },
           )
+
+pub normal_put_fault : (p l s : List ℕ) (x : FilledTables p l s) (f : NormalFault) (table : List ℕ) → NormalSide p l s (Err f) table
+    → (o : List ℕ) → SideNormalized p l s o (Err (of_fault f)) o
+normal_put_fault p l s x NormalFault.TooLong table w o = normal_put_long p l s x (Err NormalFault.TooLong) table w o refl
+normal_put_fault p l s x NormalFault.NotReached table w o = normal_put_none p l s x (Err NormalFault.NotReached) table w o refl

@@ -1,3 +1,4 @@
+pub mod Judges
 pub mod Forms
 pub mod Answers
 pub mod Determined

@@ -7,6 +7,7 @@ use Prim.Native.Nat.{ℕ, ◌*◌, ◌≤◌, ◌<◌}
 use native.Mathlib.Omega.{arith}
 use lib.ListN.{length, take, drop}
 use lib.Seq.{take_at}
+use Rattle.std.specs.declared.result.Result.TheVariants.{Ok}
 use Rattle.terms.specs.Figures.{most_sweeps, recipe_records, table_bytes, words}
 use Rattle.terms.specs.Term.{size}
 use Rattle.terms.specs.Table.{encode}
@@ -16,10 +17,9 @@ use Rattle.terms.proofs.Table.{encode_length, table_good}
 use Rattle.terms.proofs.Normalization.{first_normal_closed_below}
 use Rattle.refusals.proofs.Passing.{normal_passed}
 use Rattle.sides.proofs.Sides.{filled_closed_below}
-use Rattle.rewriting.specs.declared.RewriteAnswer.{RewriteAnswer}
 use Rattle.rewriting.specs.Operations.{lent_for_rewrite, right_side_rows, WrittenNormal, Rewritten}
 
-module _ (p q r l s o w : List ℕ) (n : ℕ) (after : List ℕ) (x : Rewritten p q r l s o w (RewriteAnswer.Records n) after) where
+module _ (p q r l s o w : List ℕ) (n : ℕ) (after : List ℕ) (x : Rewritten p q r l s o w (Ok n) after) where
   written : WrittenNormal q l s o n after
   unfolding Rewritten
   written = x.1

@@ -5,7 +5,10 @@
 --   Checked, Swept, Rewritten   what an answer says, by its cases
 --   Written p l s o n b        the swept form of the filled table p, of n records, is written to o
 --   WrittenNormal p l s o n b  its first normal form is, after at least one sweep
-use Rattle.std.specs.Prelude.{◌≡◌, List, ◌++◌, ◌⊎◌, ℕ}
+use Rattle.std.specs.declared.result.Result.{Result}
+use Rattle.std.specs.declared.result.Result.TheVariants.{Ok, Err}
+use Rattle.refusals.specs.declared.Refusal.{Refusal}
+use Rattle.std.specs.Prelude.{Bool, true, false, ◌≡◌, List, ◌++◌, ◌⊎◌, ℕ}
 use Rattle.terms.specs.Figures.{most_sweeps}
 use Rattle.terms.specs.Term.{Term, size}
 use Rattle.terms.specs.Table.{encode}
@@ -16,9 +19,6 @@ use Rattle.terms.specs.Refusal.{recipe_rows, assignment_rows}
 use Rattle.terms.specs.Refusal.{swept_form_rows, output_rows, unmatched_rows, normal_form_rows, normal_output_rows}
 use Rattle.refusals.specs.Judged.{number}
 use Rattle.refusals.specs.Lent.{overwritten}
-use Rattle.rewriting.specs.declared.CheckAnswer.{CheckAnswer}
-use Rattle.rewriting.specs.declared.SweepAnswer.{SweepAnswer}
-use Rattle.rewriting.specs.declared.RewriteAnswer.{RewriteAnswer}
 
 -- "Order: 8; pattern 1, 2, 3; recipe 4 to 7; right side 1, 2, 3; then 9, 10 (list), or 11, 12 on left, 14, 12 on right, 13. For right, 11
 -- covers its variables too."
@@ -52,10 +52,10 @@ rewrite_rows p q r l s o w =
     lent_for_rewrite p q r l s o w ++ (swept_form_rows p l s ++ (unmatched_rows p l s r ++ right_side_rows q l s o))
 
 -- "gives yes or no"
-unfoldable pub Checked : List ℕ → List ℕ → List ℕ → List ℕ → List ℕ → CheckAnswer → Type 0
-Checked p r l s w CheckAnswer.Yes = Passed (check_rows p r l s w) × Matches p l s r
-Checked p r l s w CheckAnswer.No = Passed (check_rows p r l s w) × ¬ Matches p l s r
-Checked p r l s w (CheckAnswer.Refused c) = Refused (check_rows p r l s w) (number c)
+unfoldable pub Checked : List ℕ → List ℕ → List ℕ → List ℕ → List ℕ → Result Bool Refusal → Type 0
+Checked p r l s w (Ok true) = Passed (check_rows p r l s w) × Matches p l s r
+Checked p r l s w (Ok false) = Passed (check_rows p r l s w) × ¬ Matches p l s r
+Checked p r l s w (Err c) = Refused (check_rows p r l s w) (number c)
 
 -- the swept form of the filled table p, of n records, is written to o
 pub record Written (p l s o : List ℕ) (n : ℕ) (after : List ℕ) : Type 0 where
@@ -65,9 +65,9 @@ pub record Written (p l s o : List ℕ) (n : ℕ) (after : List ℕ) : Type 0 wh
   pub bytes : after ≡ overwritten (encode (sweep term)) o
 
 -- "writes the swept form of the filled pattern; gives its record count"
-unfoldable pub Swept : List ℕ → List ℕ → List ℕ → List ℕ → List ℕ → SweepAnswer → List ℕ → Type 0
-Swept p l s o w (SweepAnswer.Records n) after = Passed (sweep_rows p l s o w) × Written p l s o n after
-Swept p l s o w (SweepAnswer.Refused c) after = Refused (sweep_rows p l s o w) (number c) × (after ≡ o)
+unfoldable pub Swept : List ℕ → List ℕ → List ℕ → List ℕ → List ℕ → Result ℕ Refusal → List ℕ → Type 0
+Swept p l s o w (Ok n) after = Passed (sweep_rows p l s o w) × Written p l s o n after
+Swept p l s o w (Err c) after = Refused (sweep_rows p l s o w) (number c) × (after ≡ o)
 
 -- "sweeps the filled right side again and again, at least once, and gives the first form that is normal"; "bytes behind what is written
 -- stay"
@@ -81,6 +81,6 @@ pub record WrittenNormal (p l s o : List ℕ) (n : ℕ) (after : List ℕ) : Typ
 
 -- "if the assignment is a match of left, writes the swept form of right, as sweep does", by document 02 its first normal form; a refusal
 -- "leaves all tables as they were"
-unfoldable pub Rewritten : List ℕ → List ℕ → List ℕ → List ℕ → List ℕ → List ℕ → List ℕ → RewriteAnswer → List ℕ → Type 0
-Rewritten p q r l s o w (RewriteAnswer.Records n) after = Passed (rewrite_rows p q r l s o w) × WrittenNormal q l s o n after
-Rewritten p q r l s o w (RewriteAnswer.Refused c) after = Refused (rewrite_rows p q r l s o w) (number c) × (after ≡ o)
+unfoldable pub Rewritten : List ℕ → List ℕ → List ℕ → List ℕ → List ℕ → List ℕ → List ℕ → Result ℕ Refusal → List ℕ → Type 0
+Rewritten p q r l s o w (Ok n) after = Passed (rewrite_rows p q r l s o w) × WrittenNormal q l s o n after
+Rewritten p q r l s o w (Err c) after = Refused (rewrite_rows p q r l s o w) (number c) × (after ≡ o)

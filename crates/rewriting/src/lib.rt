@@ -18,64 +18,43 @@ ghost use Rattle.refusals.specs.Lent.{cleared};
 ghost use Rattle.rewriting.specs.Operations.{lent_for_check, lent_for_sweep, lent_for_rewrite, Checked, Swept, Rewritten};
 ghost use Rattle.rewriting.specs.Steps.{FormWritten, SideSwept, SideNormalized};
 
-use normalizing::NormalForm;
 use records::RECORD;
-use refusals::{Refusal, Verdict};
-use sides::MatchTest;
-use sweeping::{Length, SWEPT_BYTES};
-
-#[derive(Clone, Copy)]
-pub enum CheckAnswer {
-    Yes,
-    No,
-    Refused(Refusal),
-}
-
-#[derive(Clone, Copy)]
-pub enum SweepAnswer {
-    Records(usize),
-    Refused(Refusal),
-}
-
-#[derive(Clone, Copy)]
-pub enum RewriteAnswer {
-    Records(usize),
-    Refused(Refusal),
-}
+use refusals::Refusal;
+use sweeping::SWEPT_BYTES;
 
 // All that check is lent: 8; pattern 1, 2, 3; recipe 4 to 7; 11.
-fn judge_check(pattern: &[u8], recipe: &[u8], line: &[u8], values: &[u8], work: &[u8]) -> Verdict
+fn judge_check(
+    pattern: &[u8],
+    recipe: &[u8],
+    line: &[u8],
+    values: &[u8],
+    work: &[u8],
+) -> Result<(), Refusal>
     ensures { Judged
         (lent_for_check pattern.now recipe.now line.now values.now work.now)
         (FilledTables pattern.now line.now values.now × Recipe recipe.now) result }
 {
-    let sides = refusals::first(
-        refusals::judge_pattern(pattern),
-        refusals::judge_recipe(recipe),
-    );
-    let lent = refusals::first(refusals::judge_tables(line, values, work), sides);
-    match lent {
-        Verdict::Refused(c) => return Verdict::Refused(c),
-        Verdict::Right => {}
-    }
+    let tables = refusals::judge_tables(line, values, work);
+    let terms = refusals::judge_pattern(pattern).and(refusals::judge_recipe(recipe));
+    tables.and(terms)?;
     refusals::judge_assignment(pattern, line, values)
 }
 
 // All that sweep is lent: 8; pattern 1, 2, 3; 11.
-fn judge_sweep(pattern: &[u8], line: &[u8], values: &[u8], out: &[u8], work: &[u8]) -> Verdict
+fn judge_sweep(
+    pattern: &[u8],
+    line: &[u8],
+    values: &[u8],
+    out: &[u8],
+    work: &[u8],
+) -> Result<(), Refusal>
     ensures { Judged
         (lent_for_sweep pattern.now line.now values.now out.now work.now)
         (FilledTables pattern.now line.now values.now) result }
 {
-    let sides = refusals::first(
-        refusals::judge_table(out, RECORD),
-        refusals::judge_pattern(pattern),
-    );
-    let lent = refusals::first(refusals::judge_tables(line, values, work), sides);
-    match lent {
-        Verdict::Refused(c) => return Verdict::Refused(c),
-        Verdict::Right => {}
-    }
+    let tables = refusals::judge_tables(line, values, work);
+    let terms = refusals::judge_table(out, RECORD).and(refusals::judge_pattern(pattern));
+    tables.and(terms)?;
     refusals::judge_assignment(pattern, line, values)
 }
 
@@ -88,22 +67,16 @@ fn judge_rewrite(
     values: &[u8],
     out: &[u8],
     work: &[u8],
-) -> Verdict
+) -> Result<(), Refusal>
     ensures { Judged (lent_for_rewrite left.now right.now recipe.now line.now
         values.now out.now work.now)
         ((FilledTables left.now line.now values.now
         × FilledTables right.now line.now values.now) × Recipe recipe.now) result }
 {
-    let whole = refusals::judge_recipe(recipe);
-    let other = refusals::judge_pattern(right);
-    let sides = refusals::first(whole, other);
-    let terms = refusals::first(refusals::judge_pattern(left), sides);
-    let tables = refusals::first(refusals::judge_table(out, RECORD), terms);
-    let lent = refusals::first(refusals::judge_tables(line, values, work), tables);
-    match lent {
-        Verdict::Refused(c) => return Verdict::Refused(c),
-        Verdict::Right => {}
-    }
+    let tables = refusals::judge_tables(line, values, work);
+    let behind = refusals::judge_recipe(recipe).and(refusals::judge_pattern(right));
+    let terms = refusals::judge_table(out, RECORD).and(refusals::judge_pattern(left).and(behind));
+    tables.and(terms)?;
     refusals::judge_sides(left, right, line, values)
 }
 
@@ -119,38 +92,31 @@ fn write_form(form: &[u8], out: &mut [u8]) -> bool
 }
 
 // Writes the swept form of a filled side, if it has room.
-fn put_swept(side: &[u8], line: &[u8], values: &[u8], out: &mut [u8]) -> SweepAnswer
+fn put_swept(side: &[u8], line: &[u8], values: &[u8], out: &mut [u8]) -> Result<usize, Refusal>
     requires { FilledTables side.now line.now values.now }
     ensures { SideSwept side.now line.now values.now out.old result out.new }
 {
     let mut swept = [0u8; SWEPT_BYTES];
-    let length = sides::sweep_side(side, line, values, &mut swept);
-    let Length::Records(n) = length else {
-        return SweepAnswer::Refused(Refusal::SweptForm);
+    let Some(n) = sides::sweep_side(side, line, values, &mut swept) else {
+        return Err(Refusal::SweptForm);
     };
     if write_form(&swept[0..n * RECORD], out) {
-        return SweepAnswer::Records(n);
+        return Ok(n);
     }
-    SweepAnswer::Refused(Refusal::Output)
+    Err(Refusal::Output)
 }
 
 // Writes the first normal form of a filled side, if it has room.
-fn put_normal(side: &[u8], line: &[u8], values: &[u8], out: &mut [u8]) -> RewriteAnswer
+fn put_normal(side: &[u8], line: &[u8], values: &[u8], out: &mut [u8]) -> Result<usize, Refusal>
     requires { FilledTables side.now line.now values.now }
     ensures { SideNormalized side.now line.now values.now out.old result out.new }
 {
     let mut table = [0u8; SWEPT_BYTES];
-    let form = sides::normalize_side(side, line, values, &mut table);
-    match form {
-        NormalForm::TooLong => RewriteAnswer::Refused(Refusal::SweptForm),
-        NormalForm::NotReached => RewriteAnswer::Refused(Refusal::NoNormalForm),
-        NormalForm::Records(n) => {
-            if write_form(&table[0..n * RECORD], out) {
-                return RewriteAnswer::Records(n);
-            }
-            RewriteAnswer::Refused(Refusal::Output)
-        }
+    let n = sides::normalize_side(side, line, values, &mut table)?;
+    if !write_form(&table[0..n * RECORD], out) {
+        return Err(Refusal::Output);
     }
+    Ok(n)
 }
 
 // Whether the assignment in a line and a value table is a match of a pattern and a recipe.
@@ -160,23 +126,15 @@ pub fn check(
     line: &[u8],
     values: &[u8],
     work: &mut [u8],
-) -> CheckAnswer
+) -> Result<bool, Refusal>
     ensures answer { Checked pattern.now recipe.now line.now values.now
         work.old result }
     ensures area { work.new ≡ cleared work.old }
 {
     let verdict = judge_check(pattern, recipe, line, values, work);
     refusals::clear(work);
-    match verdict {
-        Verdict::Refused(c) => return CheckAnswer::Refused(c),
-        Verdict::Right => {}
-    }
-    let found = sides::match_recipe(pattern, line, values, recipe);
-    match found {
-        MatchTest::Yes => CheckAnswer::Yes,
-        MatchTest::No => CheckAnswer::No,
-        MatchTest::TooLong => CheckAnswer::Refused(Refusal::SweptForm),
-    }
+    verdict?;
+    sides::match_recipe(pattern, line, values, recipe)
 }
 
 // Writes the swept form of a filled pattern.
@@ -186,17 +144,14 @@ pub fn sweep(
     values: &[u8],
     out: &mut [u8],
     work: &mut [u8],
-) -> SweepAnswer
+) -> Result<usize, Refusal>
     ensures answer { Swept pattern.now line.now values.now out.old work.old result
         out.new }
     ensures area { work.new ≡ cleared work.old }
 {
     let verdict = judge_sweep(pattern, line, values, out, work);
     refusals::clear(work);
-    match verdict {
-        Verdict::Refused(c) => return SweepAnswer::Refused(c),
-        Verdict::Right => {}
-    }
+    verdict?;
     put_swept(pattern, line, values, out)
 }
 
@@ -209,22 +164,17 @@ pub fn rewrite(
     values: &[u8],
     out: &mut [u8],
     work: &mut [u8],
-) -> RewriteAnswer
+) -> Result<usize, Refusal>
     ensures answer { Rewritten left.now right.now recipe.now line.now
         values.now out.old work.old result out.new }
     ensures area { work.new ≡ cleared work.old }
 {
     let verdict = judge_rewrite(left, right, recipe, line, values, out, work);
     refusals::clear(work);
-    match verdict {
-        Verdict::Refused(c) => return RewriteAnswer::Refused(c),
-        Verdict::Right => {}
-    }
-    let found = sides::match_recipe(left, line, values, recipe);
-    match found {
-        MatchTest::No => return RewriteAnswer::Refused(Refusal::NoMatch),
-        MatchTest::TooLong => return RewriteAnswer::Refused(Refusal::SweptForm),
-        MatchTest::Yes => {}
+    verdict?;
+    let is_match = sides::match_recipe(left, line, values, recipe)?;
+    if !is_match {
+        return Err(Refusal::NoMatch);
     }
     put_normal(right, line, values, out)
 }

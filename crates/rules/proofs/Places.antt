@@ -1,19 +1,21 @@
 -- The places of a book that have a rule: how they go on from one place to the next, and how the first of them is found. By the two counts
 -- of a place. Assumes nothing.
---   Reached b from i   the places from `from` on that lie before i are empty
+--   EmptyUpto b from j   the places from `from` on that lie before j are empty
 use mathlib.Core.Path.{◌≡◌, refl, sym, ap, ◌∙◌}
 use mathlib.Core.Bool.{Bool, true, false, cond}
 use mathlib.Core.List.{List, [], ◌∷◌}
 use mathlib.Core.Logic.{inl}
 use Prim.Native.Nat.{ℕ, zero, suc, ◌+◌, ◌-◌, ◌/◌, ◌≤◌, ◌<◌}
-use native.Mathlib.Decide.{ℕ_discrete}
+use native.Mathlib.Decide.{dec_lt}
 use native.Mathlib.Omega.{arith}
 use lib.Dec.{eqb}
 use lib.ListN.{length}
+use Rattle.std.specs.declared.result.Result.TheVariants.{Ok, Err}
+use Rattle.std.specs.Prelude.{Option, Some, None}
+use Rattle.std.specs.Option.{MatchOption, unwrap_or}
 use Rattle.terms.specs.Figures.{place_bytes}
 use Rattle.terms.proofs.Tests.{by_eqb}
 use Rattle.refusals.specs.declared.Refusal.{Refusal}
-use Rattle.refusals.specs.declared.Verdict.{Verdict}
 use Rattle.refusals.specs.Judged.{Judged}
 use Rattle.rules.specs.Rules.{left_count, right_count, count_up, is_empty, taken, places_from, book_bytes, book_rows}
 use Rattle.rules.specs.Steps.{NextRule}
@@ -74,33 +76,37 @@ pub length_places : (b : List ℕ) (i : ℕ) → length (places_from b i) ≤ le
 length_places b i = length_taken b i (length b / place_bytes - i)
 
 -- the first place that isn't empty
-pub record Reached (b : List ℕ) (from i : ℕ) : Type 0 where
-  pub begun : from ≤ i
-  pub within : i ≤ length b / place_bytes
-  pub same : places_from b from ≡ places_from b i
-  pub behind : (k : ℕ) → from ≤ k → k < length b / place_bytes → is_empty b k ≡ false → i ≤ k
+module _ (b : List ℕ) (from : ℕ) where
+  abbrev EmptyUpto : ℕ → Type 0
+  EmptyUpto j = (k : ℕ) → from ≤ k → k < j → is_empty b k ≡ true
 
-pub reached_start : (b : List ℕ) (from : ℕ) → from ≤ length b / place_bytes → Reached b from from
-reached_start b from h = record { begun = omega arith; within = h; same = refl; behind = λ k g l e. g }
+  passed : (d : ℕ) → from + d ≤ length b / place_bytes → EmptyUpto (from + d) → places_from b from ≡ places_from b (from + d)
+  passed zero h e = ap (places_from b) (omega arith)
+  passed (suc d) h e =
+      passed d (omega arith) (λ k g l. e k g (omega arith))
+      ∙ places_over b (from + d) (omega arith) (e (from + d) (omega arith) (omega arith)) ∙ ap (places_from b) (omega arith)
 
-module _ (b : List ℕ) (from i : ℕ) (r : Reached b from i) where
-  pub reached_more : i < length b / place_bytes → (x : Bool) → x ≡ is_empty b i → x ≡ true → Reached b from (i + 1)
-  reached_more h x p q = record {
-    begun = omega arith;
-    within = omega arith;
-    same = r.same ∙ places_over b i h (sym p ∙ q);
-    behind = λ k g l e. beyond k (r.behind k g l e) e (ℕ_discrete i k);
+  reached : (j : ℕ) → from ≤ j → j ≤ length b / place_bytes → EmptyUpto j → (j < length b / place_bytes → is_empty b j ≡ false)
+      → NextRule b from j
+  reached j h g e s = record {
+    from = h;
+    within = g;
+    same = passed (j - from) (omega arith) (λ k l m. e k l (omega arith)) ∙ ap (places_from b) (omega arith);
+    some = s;
+    behind = λ k l m o. beyond k l o (dec_lt k j);
   }
     where
-      beyond : (k : ℕ) → i ≤ k → is_empty b k ≡ false → Dec (i ≡ k) → i + 1 ≤ k
-      beyond k g e (yes z) = absurd (true_false (is_empty b i) (sym p ∙ q) (ap (is_empty b) z ∙ e))
-      beyond k g e (no z) = omega arith
+      beyond : (k : ℕ) → from ≤ k → is_empty b k ≡ false → Dec (k < j) → j ≤ k
+      beyond k l o (yes z) = absurd (true_false (is_empty b k) (e k l z) o)
+      beyond k l o (no z) = omega arith
 
-  pub reached_rule : (x : Bool) → x ≡ is_empty b i → x ≡ false → NextRule b from i
-  reached_rule x p q = record { from = r.begun; within = r.within; same = r.same; some = λ h. sym p ∙ q; behind = r.behind }
-
-  pub reached_end : length b / place_bytes ≤ i → NextRule b from i
-  reached_end h = record { from = r.begun; within = r.within; same = r.same; some = λ g. absurd (omega arith); behind = r.behind }
+  -- as `find` finds it
+  pub found : (r : Option ℕ) → from ≤ length b / place_bytes
+      → MatchOption r (EmptyUpto (length b / place_bytes))
+      (λ j. (from ≤ j) × (j < length b / place_bytes) × (is_empty b j ≡ false) × EmptyUpto j)
+      → NextRule b from (unwrap_or r (length b / place_bytes))
+  found None h x = reached _ h (omega arith) x (λ l. absurd (omega arith))
+  found (Some j) h x = reached j x.0 (omega (arith, x.1)) x.3 (λ l. x.2)
 
 -- what is found
 module _ (b : List ℕ) (i j : ℕ) (x : NextRule b i j) where
@@ -115,10 +121,10 @@ module _ (b : List ℕ) (i j : ℕ) (x : NextRule b i j) where
 
 -- a book of 64 places
 module _ (b : List ℕ) where
-  pub book_bad : ¬ (length b ≡ book_bytes) → Judged (book_rows b) (length b ≡ book_bytes) (Verdict.Refused Refusal.Tables)
+  pub book_bad : ¬ (length b ≡ book_bytes) → Judged (book_rows b) (length b ≡ book_bytes) (Err Refusal.Tables)
   unfolding Judged
   book_bad h = inl (h, refl)
 
-  pub book_good : length b ≡ book_bytes → Judged (book_rows b) (length b ≡ book_bytes) Verdict.Right
+  pub book_good : length b ≡ book_bytes → Judged (book_rows b) (length b ≡ book_bytes) (Ok tt)
   unfolding Judged
   book_good e = ((λ n. n e, tt), e)

@@ -1,5 +1,5 @@
--- The rules of a book, as document 02's requests "A book of rules" and "Which rules fit which buoy, always up to date" have them. Book, place
--- and rule are the document's words.
+-- The rules of a book, as document 02's requests "A book of rules" and "Which rules fit which buoy, always up to date" have them. Book,
+-- place and rule are the document's words.
 --   left_count b i, left_table b i     the record count of the left side at place i of the book b, and its counted records
 --   right_count b i, right_table b i   those of the right side
 --   places b                           the places whose rules take part, in book order

@@ -10,16 +10,16 @@
 
 #![tactic(auto)]
 
-ghost use Rattle.std.specs.Prelude.{◌≡◌, ◌+◌, ◌-◌, ◌*◌, ◌/◌, ◌≤◌, length};
+ghost use Rattle.std.specs.Prelude.{◌≡◌, ◌+◌, ◌*◌, ◌/◌, ◌≤◌, length};
 ghost use Rattle.terms.specs.Figures.{place_bytes};
 ghost use Rattle.terms.specs.Layout.{word_at};
 ghost use Rattle.refusals.specs.Judged.{Judged};
-ghost use Rattle.rules.specs.Rules.{left_table, right_table, count_up, is_empty, places, side_rows, rule_rows, rules_rows};
+ghost use Rattle.rules.specs.Rules.{left_table, right_table, is_empty, places, side_rows, rule_rows, rules_rows};
 ghost use Rattle.rules.specs.Rules.{book_bytes, book_rows};
-ghost use Rattle.rules.specs.Steps.{side_table, Side, Rule, Rules, RulesFrom, NextRule, SideWithin, SideRead};
+ghost use Rattle.rules.specs.Steps.{side_table, Side, Rule, Rules, NextRule, SideWithin, SideRead};
 
 use records::{MOST_PLACES, PATTERN_RECORDS, PLACE, RECORD};
-use refusals::{Refusal, Verdict};
+use refusals::Refusal;
 
 // The bytes of a book of 64 places.
 pub const BOOK_BYTES: usize = PLACE * MOST_PLACES;
@@ -53,26 +53,25 @@ pub fn right_of(book: &[u8], i: usize) -> &[u8]
 }
 
 // A side, by its count and its records: 1, 2, 3.
-fn judge_side(book: &[u8], count: usize, from: usize) -> Verdict
+fn judge_side(book: &[u8], count: usize, from: usize) -> Result<(), Refusal>
     requires { SideWithin book.now count from }
     ensures { Judged (side_rows (word_at book.now count) (side_table book.now count from))
         (Side (word_at book.now count) (side_table book.now count from)) result }
 {
     if PATTERN_RECORDS < records::word_at(book, count) {
-        return Verdict::Refused(Refusal::PatternLength);
+        return Err(Refusal::PatternLength);
     }
     refusals::judge_pattern(side_at(book, count, from))
 }
 
 // The rule at place i: left, then right.
-fn judge_rule(book: &[u8], i: usize) -> Verdict
+fn judge_rule(book: &[u8], i: usize) -> Result<(), Refusal>
     requires { place_bytes * i + place_bytes ≤ length book.now }
     ensures { Judged (rule_rows book.now i) (Rule book.now i) result }
 {
     let at = PLACE * i;
-    let left = judge_side(book, at, at + RECORD);
-    let right = judge_side(book, at + 2, at + RECORD + RECORD * PATTERN_RECORDS);
-    refusals::first(left, right)
+    judge_side(book, at, at + RECORD)?;
+    judge_side(book, at + 2, at + RECORD + RECORD * PATTERN_RECORDS)
 }
 
 // Whether place i is empty.
@@ -92,46 +91,26 @@ pub fn next_rule(book: &[u8], from: usize) -> usize
     requires { from ≤ length book.now / place_bytes }
     ensures { NextRule book.now from result }
 {
-    let mut i = from;
-    while i < book.len() / PLACE {
-        if !is_empty(book, i) {
-            return i;
-        }
-        i += 1;
-    }
-    i
-}
-
-// The rules at place i and behind it, in book order.
-fn judge_from(book: &[u8], i: usize) -> Verdict
-    requires { i ≤ length book.now / place_bytes }
-    ensures { Judged (rules_rows book.now (count_up i (length book.now / place_bytes - i)))
-        (RulesFrom book.now i) result }
-{
-    if i == book.len() / PLACE {
-        return Verdict::Right;
-    }
-    let rule = judge_rule(book, i);
-    match rule {
-        Verdict::Refused(c) => return Verdict::Refused(c),
-        Verdict::Right => {}
-    }
-    judge_from(book, i + 1)
+    let end = book.len() / PLACE;
+    (from..end).find(|i| !is_empty(book, *i)).unwrap_or(end)
 }
 
 // All rules, in book order.
-pub fn judge_rules(book: &[u8]) -> Verdict
+pub fn judge_rules(book: &[u8]) -> Result<(), Refusal>
     ensures { Judged (rules_rows book.now (places book.now)) (Rules book.now) result }
 {
-    judge_from(book, 0)
+    for i in 0..book.len() / PLACE {
+        judge_rule(book, i)?;
+    }
+    Ok(())
 }
 
 // A book of 64 places: 8.
-pub fn judge_length(book: &[u8]) -> Verdict
+pub fn judge_length(book: &[u8]) -> Result<(), Refusal>
     ensures { Judged (book_rows book.now) (length book.now ≡ book_bytes) result }
 {
     if book.len() != BOOK_BYTES {
-        return Verdict::Refused(Refusal::Tables);
+        return Err(Refusal::Tables);
     }
-    Verdict::Right
+    Ok(())
 }

@@ -1,5 +1,6 @@
 -- The search from one record on, from what is found at that record and from the search behind it. A part begins at each record, so that the
 -- closed parts from a record on can be listed. Assumes nothing.
+--   PartsLeft b r c k   what is sought from record k on, where c pairs were passed over before, is sought in the whole recipe
 use mathlib.Core.Path.{◌≡◌, refl, sym, ap, ◌∙◌, subst}
 use mathlib.Core.Bool.{Bool, true, false}
 use mathlib.Core.List.{List, [], ◌∷◌}
@@ -8,6 +9,8 @@ use Prim.Native.Nat.{ℕ, zero, suc, ◌+◌, ◌*◌, ◌-◌, ◌/◌, ◌≤�
 use native.Mathlib.Decide.{dec_lt}
 use native.Mathlib.Omega.{arith}
 use lib.ListN.{length, take, drop}
+use Rattle.std.specs.declared.result.Result.{Result}
+use Rattle.std.specs.declared.result.Result.TheVariants.{Ok, Err}
 use Rattle.terms.specs.Figures.{recipe_records, table_bytes, place_bytes, most_places}
 use Rattle.terms.specs.Term.{Term, app, lam, loc, con, var, size, Closed}
 use Rattle.terms.specs.Table.{encode}
@@ -17,12 +20,12 @@ use Rattle.records.specs.Tests.{Says, Tells}
 use Rattle.records.specs.Checks.{Recipe}
 use Rattle.records.proofs.Parts.{part_one, part_bytes, tree}
 use Rattle.refusals.specs.declared.Refusal.{Refusal}
-use Rattle.rules.specs.Rules.{count_up, places}
+use Rattle.rules.specs.Rules.{places}
 use Rattle.rules.specs.Pairs.{Parts, pairs}
 use Rattle.replacing.proofs.Holes.{Hole, hole, hole_part}
 use Rattle.replacing.proofs.Wholes.{recipe_length, recipe_hole, recipe_part}
 use Rattle.scanning.specs.declared.Scan.{Scan}
-use Rattle.scanning.specs.declared.SearchAnswer.{SearchAnswer}
+use Rattle.scanning.specs.declared.SearchEnd.{SearchEnd}
 use Rattle.scanning.specs.Search.{SearchEnds}
 use Rattle.scanning.specs.Steps.{RuleTables, RuleScan, PartScan, Sought}
 use Rattle.scanning.proofs.Rules.{scan_most, pairs_next, pairs_refused, scan_table, pairs_form}
@@ -61,33 +64,30 @@ module _ (r : List ℕ) (x : Recipe r) (k : ℕ) (h : 4 * k < length r) where
         most = omega (arith, here_ends, y.within, recipe_length r x, x.most);
       }
 
-      pub part_open : b ≡ false → (d : List ℕ) (c : ℕ) (f : List ℕ) → PartScan d r k c (Scan.PassedOver c) f
+      pub part_open : b ≡ false → (d : List ℕ) (c : ℕ) (f : List ℕ) → PartScan d r k c (Ok (Scan.PassedOver c)) f
       part_open e d c f t p =
           let q = part_one r (4 * k) here.here t here_part p in
           let o = subst (λ (z : Bool). Says z (Closed 0 here.here)) e (w here.here here_bytes) in
           inr (subst (λ (u : Term). ¬ Closed 0 u) q o, refl)
 
-      pub part_closed : b ≡ true → (d : List ℕ) (c : ℕ) (a : Scan) (f : List ℕ)
-          → ((t : Term) → take (end - 4 * k) (drop (4 * k) r) ≡ encode t → RuleScan d t (count_up 0 (length d / place_bytes - 0)) c a f)
+      pub part_closed : b ≡ true → (d : List ℕ) (c : ℕ) (a : Result Scan Refusal) (f : List ℕ)
+          → ((t : Term) → take (end - 4 * k) (drop (4 * k) r) ≡ encode t → RuleScan d t (places d) c a f)
           → PartScan d r k c a f
       part_closed e d c a f s t p =
           let q = part_one r (4 * k) here.here t here_part p in
-          let n : length d / place_bytes - 0 ≡ length d / place_bytes = omega arith in
-          inl (
-            subst (Closed 0) q (here_closed e),
-            subst (λ (m : ℕ). RuleScan d t (count_up 0 m) c a f) n (s t (here_bytes ∙ ap encode q)),
-          )
+          inl (subst (Closed 0) q (here_closed e), s t (here_bytes ∙ ap encode q))
 
 -- how many pairs are passed over before a part, and with it
-pub pairs_most : (r : List ℕ) → Recipe r → (k : ℕ) → 4 * k < length r → (c : ℕ) → c ≤ most_places * k → c ≤ most_places * recipe_records + 0
+pub pairs_most : (r : List ℕ) → Recipe r → (k : ℕ) → 4 * k < length r → (c : ℕ) → c ≤ most_places * k → c ≤ most_places * recipe_records
 pairs_most r x k h c g = omega (arith, recipe_length r x, x.most)
 
 pub part_most : (b r lines values work : List ℕ) → RuleTables b lines values work → Recipe r → (k : ℕ) → 4 * k < length r → (c : ℕ)
-    → c ≤ most_places * k → (a : Scan) (f : List ℕ) → PartScan b r k c a f → (m : ℕ) → a ≡ Scan.PassedOver m → m ≤ most_places * (k + 1)
+    → c ≤ most_places * k → (a : Result Scan Refusal) (f : List ℕ) → PartScan b r k c a f → (m : ℕ) → a ≡ Ok (Scan.PassedOver m)
+    → m ≤ most_places * (k + 1)
 part_most b r lines values work x y k h c g a f s m e = go (s (here r y k h).here (here_part r y k h))
   where
     go : (Closed 0 (here r y k h).here × RuleScan b (here r y k h).here (places b) c a f)
-        ⊎ (¬ Closed 0 (here r y k h).here × (a ≡ Scan.PassedOver c)) → m ≤ most_places * (k + 1)
+        ⊎ (¬ Closed 0 (here r y k h).here × (a ≡ Ok (Scan.PassedOver c))) → m ≤ most_places * (k + 1)
     go (inl z) = omega (arith, scan_most b (here r y k h).here 0 (length b / place_bytes) c a f z.1 m e, x.few)
     go (inr z) = let q : m ≡ c = cc in omega (arith, q)
 
@@ -117,13 +117,14 @@ all_parts_lem r s e k (suc n) h =
     more_parts r k n x.here (hole_part r s k e x) (closed? 0 x.here) (all_parts_lem r s e (suc k) n (omega arith))
 
 -- no record is left
-pub sought_end : (b r : List ℕ) (k c : ℕ) (f : List ℕ) → k ≡ length r / 4 → Sought b r k (length r / 4 - k) c (SearchAnswer.Nothing c) f
+sought_end : (b r : List ℕ) (k c : ℕ) (f : List ℕ) → k ≡ length r / 4 → Sought b r k (length r / 4 - k) c (Ok (SearchEnd.Nothing c)) f
 sought_end b r k c f e =
     let n : length r / 4 - k ≡ 0 = omega arith in
     record { form_of = tt; parts = []; closed = subst (λ (m : ℕ). Parts r k m []) (sym n) refl; reaches = λ s o z. z }
 
 -- what is found at record k
-module _ (b r : List ℕ) (x : Recipe r) (k : ℕ) (h : 4 * k < length r) (c : ℕ) (a : Scan) (f : List ℕ) (y : PartScan b r k c a f) where
+module _ (b r : List ℕ) (x : Recipe r) (k : ℕ) (h : 4 * k < length r) (c : ℕ) (a : Result Scan Refusal) (f : List ℕ)
+    (y : PartScan b r k c a f) where
   abbrev t : Term
   t = (here r x k h).here
 
@@ -136,8 +137,10 @@ module _ (b r : List ℕ) (x : Recipe r) (k : ℕ) (h : 4 * k < length r) (c : �
   left_is : length r / 4 - k ≡ suc rest
   left_is = omega (arith, recipe_length r x)
 
-  scan_as : (d : Scan) → a ≡ d → (Closed 0 t × RuleScan b t (places b) c d f) ⊎ (¬ Closed 0 t × (d ≡ Scan.PassedOver c))
-  scan_as d e = subst (λ (v : Scan). (Closed 0 t × RuleScan b t (places b) c v f) ⊎ (¬ Closed 0 t × (v ≡ Scan.PassedOver c))) e (y t stands)
+  scan_as : (d : Result Scan Refusal) → a ≡ d → (Closed 0 t × RuleScan b t (places b) c d f) ⊎ (¬ Closed 0 t × (d ≡ Ok (Scan.PassedOver c)))
+  scan_as d e =
+      subst (λ (v : Result Scan Refusal). (Closed 0 t × RuleScan b t (places b) c v f) ⊎ (¬ Closed 0 t × (v ≡ Ok (Scan.PassedOver c)))) e
+      (y t stands)
 
   behind : AllParts r (suc k) rest
   behind = all_parts_lem r x.tree x.table.0 (suc k) rest (omega (arith, recipe_length r x))
@@ -148,11 +151,11 @@ module _ (b r : List ℕ) (x : Recipe r) (k : ℕ) (h : 4 * k < length r) (c : �
   parts_open : ¬ Closed 0 t → (ps : List (ℕ × Term)) → Parts r (suc k) rest ps → Parts r k (length r / 4 - k) ps
   parts_open o ps z = subst (λ (i : ℕ). Parts r k i ps) (sym left_is) (t, stands, inr (o, z))
 
-  pub sought_refused : (e : Refusal) → a ≡ Scan.Refused e → Sought b r k (length r / 4 - k) c (SearchAnswer.Refused e) f
-  sought_refused e q = go (scan_as (Scan.Refused e) q)
+  sought_refused : (e : Refusal) → a ≡ Err e → Sought b r k (length r / 4 - k) c (Err e) f
+  sought_refused e q = go (scan_as (Err e) q)
     where
-      go : (Closed 0 t × RuleScan b t (places b) c (Scan.Refused e) f) ⊎ (¬ Closed 0 t × (Scan.Refused e ≡ Scan.PassedOver c))
-          → Sought b r k (length r / 4 - k) c (SearchAnswer.Refused e) f
+      go : (Closed 0 t × RuleScan b t (places b) c (Err e) f) ⊎ (¬ Closed 0 t × (Err e ≡ Ok (Scan.PassedOver c)))
+          → Sought b r k (length r / 4 - k) c (Err e) f
       go (inl (o, z)) = record {
         form_of = tt;
         parts = (k, t) ∷ behind.parts;
@@ -162,11 +165,12 @@ module _ (b r : List ℕ) (x : Recipe r) (k : ℕ) (h : 4 * k < length r) (c : �
       }
       go (inr (o, z)) = absurd (let g : ◌≡◌ {A = ℕ} 0 1 = cc in omega arith)
 
-  pub sought_form : (n m : ℕ) → a ≡ Scan.Form n m → Sought b r k (length r / 4 - k) c (SearchAnswer.Form k n m) f
-  sought_form n m q = go (scan_as (Scan.Form n m) q)
+  sought_form : (n m : ℕ) → a ≡ Ok (Scan.Form n m) → Sought b r k (length r / 4 - k) c (Ok (SearchEnd.Form k n m)) f
+  sought_form n m q = go (scan_as (Ok (Scan.Form n m)) q)
     where
-      go : (Closed 0 t × RuleScan b t (places b) c (Scan.Form n m) f) ⊎ (¬ Closed 0 t × (Scan.Form n m ≡ Scan.PassedOver c))
-          → Sought b r k (length r / 4 - k) c (SearchAnswer.Form k n m) f
+      go : (Closed 0 t × RuleScan b t (places b) c (Ok (Scan.Form n m)) f)
+          ⊎ (¬ Closed 0 t × (◌≡◌ {A = Result Scan Refusal} (Ok (Scan.Form n m)) (Ok (Scan.PassedOver c))))
+          → Sought b r k (length r / 4 - k) c (Ok (SearchEnd.Form k n m)) f
       go (inl (o, z)) =
           let u = scan_table b t (places b) c n m f z in
           record {
@@ -178,14 +182,15 @@ module _ (b r : List ℕ) (x : Recipe r) (k : ℕ) (h : 4 * k < length r) (c : �
           }
       go (inr (o, z)) = absurd (let g : ◌≡◌ {A = ℕ} 0 1 = cc in omega arith)
 
-  pub sought_next : (m : ℕ) → a ≡ Scan.PassedOver m → (d : SearchAnswer) (w : List ℕ) → Sought b r (k + 1) rest m d w
+  sought_next : (m : ℕ) → a ≡ Ok (Scan.PassedOver m) → (d : Result SearchEnd Refusal) (w : List ℕ) → Sought b r (k + 1) rest m d w
       → Sought b r k (length r / 4 - k) c d w
-  sought_next m q d w z = go (scan_as (Scan.PassedOver m) q)
+  sought_next m q d w z = go (scan_as (Ok (Scan.PassedOver m)) q)
     where
       from : Parts r (suc k) rest z.parts
       from = let e : k + 1 ≡ suc k = omega arith in subst (λ (i : ℕ). Parts r i rest z.parts) e z.closed
 
-      go : (Closed 0 t × RuleScan b t (places b) c (Scan.PassedOver m) f) ⊎ (¬ Closed 0 t × (Scan.PassedOver m ≡ Scan.PassedOver c))
+      go : (Closed 0 t × RuleScan b t (places b) c (Ok (Scan.PassedOver m)) f)
+          ⊎ (¬ Closed 0 t × (◌≡◌ {A = Result Scan Refusal} (Ok (Scan.PassedOver m)) (Ok (Scan.PassedOver c))))
           → Sought b r k (length r / 4 - k) c d w
       go (inl (o, v)) = record {
         form_of = z.form_of;
@@ -202,7 +207,25 @@ module _ (b r : List ℕ) (x : Recipe r) (k : ℕ) (h : 4 * k < length r) (c : �
             reaches = λ s u g. subst (λ (i : ℕ). SearchEnds b r s (pairs z.parts (places b)) i u) e (z.reaches s u g);
           }
 
--- the whole search
-pub sought_all : (b r : List ℕ) (c : ℕ) (a : SearchAnswer) (f : List ℕ) → Sought b r 0 (length r / 4 - 0) c a f
-    → Sought b r 0 (length r / 4) c a f
-sought_all b r c a f x = let n : length r / 4 - 0 ≡ length r / 4 = omega arith in subst (λ (m : ℕ). Sought b r 0 m c a f) n x
+-- the search goes on from record k, c pairs having been passed over
+pub record PartsLeft (b r : List ℕ) (c k : ℕ) : Type 0 where
+  pub all : (a : Result SearchEnd Refusal) (f : List ℕ) → Sought b r k (length r / 4 - k) c a f → Sought b r 0 (length r / 4) 0 a f
+
+pub parts_left : (b r : List ℕ) → PartsLeft b r 0 0
+parts_left b r = record {
+  all = λ a f x. let n : length r / 4 - 0 ≡ length r / 4 = omega arith in subst (λ (m : ℕ). Sought b r 0 m 0 a f) n x;
+}
+
+module _ (b r : List ℕ) (x : Recipe r) (c k : ℕ) (l : PartsLeft b r c k) where
+  pub no_parts_left : length r / 4 ≤ k → k ≤ length r / 4 → (f : List ℕ) → Sought b r 0 (length r / 4) 0 (Ok (SearchEnd.Nothing c)) f
+  no_parts_left h g f = l.all _ f (sought_end b r k c f (omega arith))
+
+  module _ (h : k < length r / 4) (a : Result Scan Refusal) (f : List ℕ) (y : PartScan b r k c a f) where
+    pub parts_refused : (e : Refusal) → a ≡ Err e → Sought b r 0 (length r / 4) 0 (Err e) f
+    parts_refused e q = l.all _ f (sought_refused b r x k (omega arith) c a f y e q)
+
+    pub parts_form : (n m : ℕ) → a ≡ Ok (Scan.Form n m) → Sought b r 0 (length r / 4) 0 (Ok (SearchEnd.Form k n m)) f
+    parts_form n m q = l.all _ f (sought_form b r x k (omega arith) c a f y n m q)
+
+    pub parts_next : (m : ℕ) → a ≡ Ok (Scan.PassedOver m) → PartsLeft b r m (k + 1)
+    parts_next m q = record { all = λ d w z. l.all d w (sought_next b r x k (omega arith) c a f y m q d w z) }

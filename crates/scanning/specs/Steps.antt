@@ -8,10 +8,13 @@
 --   Rest r a f s o          the search goes on from the answer a to the outcome o; s is the recipe
 --   Sought b r k n c a f    what the search from record k on answers, where n records are left
 use Rattle.std.specs.Prelude.{◌≡◌, List, [], ◌∷◌, ◌⊎◌, ℕ, suc, ◌*◌, ◌/◌, ◌≤◌, length}
+use Rattle.std.specs.declared.result.Result.{Result}
+use Rattle.std.specs.declared.result.Result.TheVariants.{Ok, Err}
 use Rattle.terms.specs.Figures.{table_bytes, place_bytes, most_places}
 use Rattle.terms.specs.Term.{Term, Closed}
 use Rattle.terms.specs.Table.{IsTable}
 use Rattle.records.specs.Parts.{Part}
+use Rattle.refusals.specs.declared.Refusal.{Refusal}
 use Rattle.refusals.specs.Judged.{number}
 use Rattle.rules.specs.Rules.{left_table, right_table, places}
 use Rattle.rules.specs.Pairs.{Parts, pairs}
@@ -20,7 +23,7 @@ use Rattle.replacing.specs.Replacing.{replaced}
 use Rattle.attempts.specs.Pairs.{next, form, stop, Tried}
 use Rattle.attempts.specs.Steps.{FormTable}
 use Rattle.scanning.specs.declared.Scan.{Scan}
-use Rattle.scanning.specs.declared.SearchAnswer.{SearchAnswer}
+use Rattle.scanning.specs.declared.SearchEnd.{SearchEnd}
 use Rattle.scanning.specs.Search.{BookOutcome, given, refused, WholeSwept, SearchEnds}
 
 pub record RuleTables (b lines values work : List ℕ) : Type 0 where
@@ -31,20 +34,21 @@ pub record RuleTables (b lines values work : List ℕ) : Type 0 where
   pub area : length work ≡ table_bytes
 
 -- the pair that ends the scan, c being the number of pairs up to and with it
-abbrev pub ScanEnds : List ℕ → List ℕ → Term → ℕ → Scan → List ℕ → Type 0
-ScanEnds p q t c (Scan.PassedOver m) f = ⊥
-ScanEnds p q t c (Scan.Form n m) f = (m ≡ c) × ((u : Term) × Tried p q t (form u) × FormTable f n u)
-ScanEnds p q t c (Scan.Refused k) f = Tried p q t (stop (number k))
+abbrev pub ScanEnds : List ℕ → List ℕ → Term → ℕ → Result Scan Refusal → List ℕ → Type 0
+ScanEnds p q t c (Ok (Scan.PassedOver m)) f = ⊥
+ScanEnds p q t c (Ok (Scan.Form n m)) f = (m ≡ c) × ((u : Term) × Tried p q t (form u) × FormTable f n u)
+ScanEnds p q t c (Err k) f = Tried p q t (stop (number k))
 
-unfoldable pub RuleScan : List ℕ → Term → List ℕ → ℕ → Scan → List ℕ → Type 0
-RuleScan b t [] c a f = a ≡ Scan.PassedOver c
+unfoldable pub RuleScan : List ℕ → Term → List ℕ → ℕ → Result Scan Refusal → List ℕ → Type 0
+RuleScan b t [] c a f = a ≡ Ok (Scan.PassedOver c)
 RuleScan b t (i ∷ is) c a f =
-    (Tried (left_table b i) (right_table b i) t next × RuleScan b t is (suc c) a f) ⊎ ScanEnds (left_table b i) (right_table b i) t (suc c) a f
+    (Tried (left_table b i) (right_table b i) t next × RuleScan b t is (suc c) a f)
+    ⊎ ScanEnds (left_table b i) (right_table b i) t (suc c) a f
 
 -- a part that isn't closed is passed over
-abbrev pub PartScan : List ℕ → List ℕ → ℕ → ℕ → Scan → List ℕ → Type 0
+abbrev pub PartScan : List ℕ → List ℕ → ℕ → ℕ → Result Scan Refusal → List ℕ → Type 0
 PartScan b r k c a f =
-    (t : Term) → Part r (4 * k) t → (Closed 0 t × RuleScan b t (places b) c a f) ⊎ (¬ Closed 0 t × (a ≡ Scan.PassedOver c))
+    (t : Term) → Part r (4 * k) t → (Closed 0 t × RuleScan b t (places b) c a f) ⊎ (¬ Closed 0 t × (a ≡ Ok (Scan.PassedOver c)))
 
 pub record PartForm (r : List ℕ) (k n : ℕ) (f : List ℕ) : Type 0 where
   pub part : Term
@@ -52,17 +56,17 @@ pub record PartForm (r : List ℕ) (k n : ℕ) (f : List ℕ) : Type 0 where
   pub term : Term
   pub table : FormTable f n term
 
-abbrev pub FormOf : List ℕ → SearchAnswer → List ℕ → Type 0
-FormOf r (SearchAnswer.Nothing m) f = Unit {0}
-FormOf r (SearchAnswer.Form k n m) f = PartForm r k n f
-FormOf r (SearchAnswer.Refused e) f = Unit {0}
+abbrev pub FormOf : List ℕ → Result SearchEnd Refusal → List ℕ → Type 0
+FormOf r (Ok (SearchEnd.Nothing m)) f = Unit {0}
+FormOf r (Ok (SearchEnd.Form k n m)) f = PartForm r k n f
+FormOf r (Err e) f = Unit {0}
 
-abbrev pub Rest : (r : List ℕ) (a : SearchAnswer) (f : List ℕ) → FormOf r a f → Term → BookOutcome → Type 0
-Rest r (SearchAnswer.Nothing m) f x s o = o ≡ given s m
-Rest r (SearchAnswer.Form k n m) f x s o = (w : Term) × IsTable (replaced r k x.part x.term) w × WholeSwept w m o
-Rest r (SearchAnswer.Refused e) f x s o = o ≡ refused (number e)
+abbrev pub Rest : (r : List ℕ) (a : Result SearchEnd Refusal) (f : List ℕ) → FormOf r a f → Term → BookOutcome → Type 0
+Rest r (Ok (SearchEnd.Nothing m)) f x s o = o ≡ given s m
+Rest r (Ok (SearchEnd.Form k n m)) f x s o = (w : Term) × IsTable (replaced r k x.part x.term) w × WholeSwept w m o
+Rest r (Err e) f x s o = o ≡ refused (number e)
 
-pub record Sought (b r : List ℕ) (k n c : ℕ) (a : SearchAnswer) (f : List ℕ) : Type 0 where
+pub record Sought (b r : List ℕ) (k n c : ℕ) (a : Result SearchEnd Refusal) (f : List ℕ) : Type 0 where
   pub form_of : FormOf r a f
   pub parts : List (ℕ × Term)
   pub closed : Parts r k n parts

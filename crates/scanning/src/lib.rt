@@ -10,38 +10,35 @@
 
 #![tactic(auto)]
 
-ghost use Rattle.std.specs.Prelude.{◌≡◌, ◌+◌, ◌-◌, ◌*◌, ◌/◌, ◌≤◌, ◌<◌, length};
+ghost use Rattle.std.specs.Prelude.{◌≡◌, ◌*◌, ◌/◌, ◌≤◌, ◌<◌, length};
 ghost use Rattle.terms.specs.Figures.{recipe_records, table_bytes, place_bytes, most_places};
 ghost use Rattle.terms.specs.Term.{Term};
 ghost use Rattle.terms.specs.Table.{encode};
 ghost use Rattle.records.specs.Checks.{Recipe};
-ghost use Rattle.rules.specs.Rules.{left_table, right_table, count_up};
+ghost use Rattle.rules.specs.Rules.{left_table, right_table, places};
 ghost use Rattle.rules.specs.Steps.{Rules};
 ghost use Rattle.attempts.specs.Pairs.{Tried};
 ghost use Rattle.attempts.specs.Steps.{PairAnswered};
 ghost use Rattle.scanning.specs.Steps.{RuleTables, RuleScan, PartScan, Sought};
 
-use attempts::PairAnswer;
 use records::{PLACE, RECORD, TABLE_BYTES};
 use refusals::Refusal;
 use sweeping::SWEPT_BYTES;
 
-// How trying the rules on one part ends: all are passed over, a form of so many records stands for the part, or the search is refused. The
-// last number is that of the pairs up to there.
+// How trying the rules on one part ends: all are passed over, or a form of so many records stands for the part. The last number is that of
+// the pairs up to there.
 #[derive(Clone, Copy)]
 enum Scan {
     PassedOver(usize),
     Form(usize, usize),
-    Refused(Refusal),
 }
 
-// How the search ends: with nothing to use, with a form for the part that begins at a record (that record, the form's records), or refused.
-// The last number is that of the pairs up to there.
+// How the search ends: with nothing to use, or with a form for the part that begins at a record (that record, the form's records). The last
+// number is that of the pairs up to there.
 #[derive(Clone, Copy)]
-pub enum SearchAnswer {
+pub enum SearchEnd {
     Nothing(usize),
     Form(usize, usize, usize),
-    Refused(Refusal),
 }
 
 // Tries the rule at place i on a part.
@@ -53,7 +50,7 @@ fn try_place(
     values: &mut [u8],
     form: &mut [u8; SWEPT_BYTES],
     work: &mut [u8],
-) -> PairAnswer
+) -> Result<Option<usize>, Refusal>
     requires { RuleTables book.now lines.old values.old work.old × (i < length book.now / place_bytes) × Recipe part.now }
     ensures { (t : Term) → part.now ≡ encode t
         → PairAnswered (Tried (left_table book.now i) (right_table book.now i) t) result form.new }
@@ -63,33 +60,27 @@ fn try_place(
     attempts::try_rule(left, right, part, lines, values, form, work)
 }
 
-// Tries the rules at place i and behind it on a part.
+// Tries the rules on a part, in book order.
 fn try_rules(
     book: &[u8],
-    i: usize,
     part: &[u8],
     pairs: usize,
     lines: &mut [u8],
     values: &mut [u8],
     form: &mut [u8; SWEPT_BYTES],
     work: &mut [u8],
-) -> Scan
-    requires { RuleTables book.now lines.old values.old work.old × (i ≤ length book.now / place_bytes) × Recipe part.now
-        × (pairs ≤ most_places * recipe_records + i) }
-    ensures { (t : Term) → part.now ≡ encode t
-        → RuleScan book.now t (count_up i (length book.now / place_bytes - i)) pairs result form.new }
+) -> Result<Scan, Refusal>
+    requires { RuleTables book.now lines.old values.old work.old × Recipe part.now × (pairs ≤ most_places * recipe_records) }
+    ensures { (t : Term) → part.now ≡ encode t → RuleScan book.now t (places book.now) pairs result form.new }
 {
-    if i == book.len() / PLACE {
-        return Scan::PassedOver(pairs);
+    let places = book.len() / PLACE;
+    for i in 0..places {
+        let count = pairs + i + 1;
+        if let Some(n) = try_place(book, i, part, lines, values, form, work)? {
+            return Ok(Scan::Form(n, count));
+        }
     }
-    let count = pairs + 1;
-    let answer = try_place(book, i, part, lines, values, form, work);
-    match answer {
-        PairAnswer::Records(n) => return Scan::Form(n, count),
-        PairAnswer::Refused(c) => return Scan::Refused(c),
-        PairAnswer::PassedOver => {}
-    }
-    try_rules(book, i + 1, part, count, lines, values, form, work)
+    Ok(Scan::PassedOver(pairs + places))
 }
 
 // Tries all rules on the part that begins at record k, if it is closed.
@@ -102,7 +93,7 @@ fn try_part(
     values: &mut [u8],
     form: &mut [u8; SWEPT_BYTES],
     work: &mut [u8],
-) -> Scan
+) -> Result<Scan, Refusal>
     requires { RuleTables book.now lines.old values.old work.old × Recipe recipe.now × (4 * k < length recipe.now)
         × (pairs ≤ most_places * k) }
     ensures { PartScan book.now recipe.now k pairs result form.new }
@@ -111,38 +102,31 @@ fn try_part(
     let end = records::end_at(recipe, at);
     let part = &recipe[at..end];
     if records::is_closed(part, 0) {
-        return try_rules(book, 0, part, pairs, lines, values, form, work);
+        return try_rules(book, part, pairs, lines, values, form, work);
     }
-    Scan::PassedOver(pairs)
+    Ok(Scan::PassedOver(pairs))
 }
 
-// Tries the closed parts that begin at record k and behind it.
+// Tries the closed parts of a recipe, in record order.
 fn search_parts(
     book: &[u8],
     recipe: &[u8],
-    k: usize,
-    pairs: usize,
     lines: &mut [u8],
     values: &mut [u8],
     form: &mut [u8; SWEPT_BYTES],
     work: &mut [u8],
-) -> SearchAnswer
-    requires { RuleTables book.now lines.old values.old work.old × Recipe recipe.now × (4 * k ≤ length recipe.now)
-        × (pairs ≤ most_places * k) }
-    ensures { Sought book.now recipe.now k (length recipe.now / 4 - k) pairs result
-        form.new }
+) -> Result<SearchEnd, Refusal>
+    requires { RuleTables book.now lines.old values.old work.old × Recipe recipe.now }
+    ensures { Sought book.now recipe.now 0 (length recipe.now / 4) 0 result form.new }
 {
-    if k == recipe.len() / RECORD {
-        return SearchAnswer::Nothing(pairs);
-    }
-    let scan = try_part(book, recipe, k, pairs, lines, values, form, work);
-    match scan {
-        Scan::Refused(c) => SearchAnswer::Refused(c),
-        Scan::Form(n, used) => SearchAnswer::Form(k, n, used),
-        Scan::PassedOver(passed) => {
-            search_parts(book, recipe, k + 1, passed, lines, values, form, work)
+    let mut pairs = 0;
+    for k in 0..recipe.len() / RECORD {
+        match try_part(book, recipe, k, pairs, lines, values, form, work)? {
+            Scan::Form(n, used) => return Ok(SearchEnd::Form(k, n, used)),
+            Scan::PassedOver(passed) => pairs = passed,
         }
     }
+    Ok(SearchEnd::Nothing(pairs))
 }
 
 // A table for the listings, from a function that promises its length, so that no proof computes with so many bytes.
@@ -158,12 +142,12 @@ pub fn search(
     recipe: &[u8],
     form: &mut [u8; SWEPT_BYTES],
     work: &mut [u8],
-) -> SearchAnswer
+) -> Result<SearchEnd, Refusal>
     requires { Rules book.now × (length book.now / place_bytes ≤ most_places) × Recipe recipe.now
         × (length work.old ≡ table_bytes) }
     ensures { Sought book.now recipe.now 0 (length recipe.now / 4) 0 result form.new }
 {
     let mut lines = full_table();
     let mut values = full_table();
-    search_parts(book, recipe, 0, 0, &mut lines, &mut values, form, work)
+    search_parts(book, recipe, &mut lines, &mut values, form, work)
 }

@@ -3,6 +3,8 @@ use mathlib.Core.Path.{◌≡◌, subst}
 use mathlib.Core.List.{List}
 use Prim.Native.Nat.{ℕ, ◌<◌, ◌≤◌}
 use lib.ListN.{set}
+use Rattle.std.specs.declared.option.Option.{Option}
+use Rattle.std.specs.declared.option.Option.TheVariants.{Some, None}
 use Rattle.terms.specs.Figures.{variables, value_records}
 use Rattle.terms.specs.Listing.{Line}
 use Rattle.matching.specs.Goals.{Goal}
@@ -11,7 +13,6 @@ use Rattle.assignments.specs.declared.Entry.TheVariants.{Assigned}
 use Rattle.agenda.specs.declared.Agenda.{Agenda}
 use Rattle.agenda.specs.declared.Binding.{Binding}
 use Rattle.agenda.specs.declared.Step.{Step}
-use Rattle.agenda.specs.declared.Branch.{Branch}
 use Rattle.agenda.specs.declared.Decision.{Decision}
 use Rattle.agenda.specs.declared.Plan.{Plan}
 use Rattle.agenda.specs.State.{State, Sat, relinking}
@@ -31,11 +32,11 @@ module _ (P W : List ℕ) (s : Agenda) (a : List Entry) (W₁ : List ℕ) where
         → (b.variable < variables) × Move 0 P W s a Sat W₁ b.agenda (set a b.variable (Assigned b.span))
     stepped_assign b e = unfold Stepped in subst (Stepped P W s a W₁) e x
 
-  module _ (Q : Question) (r : Branch) (x : Branched P W s a Q W₁ r) where
-    pub branched_failed : r ≡ Branch.Failed → Failed relinking P W s a Q W₁
+  module _ (Q : Question) (r : Option Agenda) (x : Branched P W s a Q W₁ r) where
+    pub branched_failed : r ≡ None → Failed relinking P W s a Q W₁
     branched_failed e = unfold Branched in subst (Branched P W s a Q W₁) e x
 
-    pub branched_next : (s₁ : Agenda) → r ≡ Branch.Next s₁ → Move relinking P W s a Q W₁ s₁ a
+    pub branched_next : (s₁ : Agenda) → r ≡ Some s₁ → Move relinking P W s a Q W₁ s₁ a
     branched_next s₁ e = unfold Branched in subst (Branched P W s a Q W₁) e x
 
   module _ (k : ℕ) (r : Decision) (x : Decided k P W s a W₁ r) where

@@ -25,13 +25,13 @@ ghost use Rattle.search.specs.Collected.{Collects, Collected};
 ghost use Rattle.search.specs.Searched.{Begins, Searched};
 ghost use Rattle.search.specs.Choosing.{Choosing};
 
-use agenda::{Agenda, Branch, Decision, GOAL, HEIGHT_BYTES, Plan, Step, StoredGoal, Ways};
+use agenda::{Agenda, Decision, GOAL, HEIGHT_BYTES, Plan, Step, StoredGoal, Ways};
 use assignments::Entry;
 use listing::Tally;
 use records::{VALUE_RECORDS, VARIABLES};
 
 // Takes the first easy goal, and searches on.
-#[cycle(advance_attempt_attempt_body_bodies_branch_build_cheapest_flexible_next_deferred_search)]
+#[cycle(search)]
 fn advance(
     pattern: &[u8],
     work: &mut [u8],
@@ -66,7 +66,7 @@ fn advance(
 }
 
 // One way of the first deferred goal, an application.
-#[cycle(advance_attempt_attempt_body_bodies_branch_build_cheapest_flexible_next_deferred_search)]
+#[cycle(search)]
 fn attempt(
     pattern: &[u8],
     work: &mut [u8],
@@ -86,14 +86,14 @@ fn attempt(
         values.old done work.new lines.new values.new result }
 {
     let taken = alternatives::way(pattern, work, agenda, entries, i, ways);
-    let Branch::Next(next) = taken else {
+    let Some(next) = taken else {
         return done;
     };
     search(pattern, work, next, entries, limit, lines, values, done)
 }
 
 // All ways of the first deferred goal, an application, in turn; none behind the limit.
-#[cycle(advance_attempt_attempt_body_bodies_branch_build_cheapest_flexible_next_deferred_search)]
+#[cycle(search)]
 fn flexible(
     pattern: &[u8],
     work: &mut [u8],
@@ -111,21 +111,19 @@ fn flexible(
 {
     let ways = alternatives::ways(pattern, work, agenda, entries);
     let mut found = done;
-    let mut i = 0;
-    while i < ways.count {
+    for i in 0..ways.count {
         if limit < found.lines {
             return found;
         }
         found = attempt(
             pattern, work, agenda, entries, i, ways, limit, lines, values, found,
         );
-        i += 1;
     }
     found
 }
 
 // The body of one choice at each copy.
-#[cycle(advance_attempt_attempt_body_bodies_branch_build_cheapest_flexible_next_deferred_search)]
+#[cycle(search)]
 fn attempt_body(
     pattern: &[u8],
     work: &mut [u8],
@@ -142,14 +140,14 @@ fn attempt_body(
         lines.old values.old done work.new lines.new values.new result }
 {
     let taken = builds::body(pattern, work, agenda, entries, chosen);
-    let Branch::Next(next) = taken else {
+    let Some(next) = taken else {
         return done;
     };
     search(pattern, work, next, entries, limit, lines, values, done)
 }
 
 // All bodies with the choices made for the first k copies of the argument, of n: the next one is replaced, and then it stays.
-#[cycle(advance_attempt_attempt_body_bodies_branch_build_cheapest_flexible_next_deferred_search)]
+#[cycle(search)]
 fn bodies(
     pattern: &[u8],
     work: &mut [u8],
@@ -209,7 +207,7 @@ fn bodies(
 }
 
 // The first deferred goal is one to build.
-#[cycle(advance_attempt_attempt_body_bodies_branch_build_cheapest_flexible_next_deferred_search)]
+#[cycle(search)]
 fn build(
     pattern: &[u8],
     work: &mut [u8],
@@ -242,7 +240,7 @@ fn build(
 }
 
 // Goes through the alternatives of the first deferred goal.
-#[cycle(advance_attempt_attempt_body_bodies_branch_build_cheapest_flexible_next_deferred_search)]
+#[cycle(search)]
 fn branch(
     pattern: &[u8],
     work: &mut [u8],
@@ -266,7 +264,7 @@ fn branch(
 }
 
 // The cheapest of the deferred goals: what is known of its part decides it, or it branches.
-#[cycle(advance_attempt_attempt_body_bodies_branch_build_cheapest_flexible_next_deferred_search)]
+#[cycle(search)]
 fn cheapest(
     pattern: &[u8],
     work: &mut [u8],
@@ -298,7 +296,7 @@ fn cheapest(
 }
 
 // No easy goal is left: two goals of one variable give its value, or the cheapest goal is taken.
-#[cycle(advance_attempt_attempt_body_bodies_branch_build_cheapest_flexible_next_deferred_search)]
+#[cycle(search)]
 fn next_deferred(
     pattern: &[u8],
     work: &mut [u8],
@@ -329,7 +327,7 @@ fn next_deferred(
 }
 
 // All lines for the goals and the entries, counted from `done` on and written where they fit; it stops when there are more than `limit`.
-#[cycle(advance_attempt_attempt_body_bodies_branch_build_cheapest_flexible_next_deferred_search)]
+#[cycle(search)]
 pub fn search(
     pattern: &[u8],
     work: &mut [u8],

@@ -3,69 +3,119 @@ use mathlib.Core.Path.{◌≡◌}
 use mathlib.Core.List.{List, ◌++◌}
 use Prim.Native.Nat.{ℕ, ◌*◌, ◌/◌, ◌≤◌, ◌<◌}
 use lib.ListN.{length, set, get_or}
+use Rattle.std.specs.Prelude.{⊤}
+use Rattle.std.specs.declared.result.Result.{Result}
+use Rattle.std.specs.declared.result.Result.TheVariants.{Ok, Err}
 use Rattle.terms.specs.Figures.{buoys, shelf_records}
-use Rattle.terms.specs.Refusal.{recipe_rows}
+use Rattle.terms.specs.Refusal.{Row, recipe_rows}
 use Rattle.records.specs.Checks.{Recipe}
 use Rattle.refusals.specs.declared.Refusal.{Refusal}
-use Rattle.refusals.specs.declared.Verdict.{Verdict}
-use Rattle.refusals.specs.Judged.{Judged, first_of}
-use Rattle.refusals.proofs.Judging.{judged_stop, judged_next, judged_first, right_known}
+use Rattle.refusals.specs.Judged.{Judged}
+use Rattle.refusals.proofs.Judging.{judged_stop, judged_both, judged_more}
 use Rattle.slots.specs.Slots.{total}
 use Rattle.storage.specs.Storage.{counts_of, buoy_rows, directory_rows, record_table_rows, absent_rows, room_rows}
-use Rattle.storage.specs.Steps.{Directory, Shelf}
+use Rattle.storage.specs.Steps.{Directory}
 use Rattle.shelf.specs.Operations.{put_rows, take_out_rows}
 use Rattle.shelf.specs.Steps.{Puttable, Kept}
 
--- the buoy's number, the two tables, the recipe: s is of the tables, l with the recipe, a of all
-module _ (b : ℕ) (r d t : List ℕ) (x y z u s l a : Verdict) (jx : Judged (directory_rows d) (Directory d) x)
-    (jy : Judged (record_table_rows t) (length t ≡ 4 * shelf_records) y) (jz : Judged (recipe_rows r) (Recipe r) z)
-    (ju : Judged (buoy_rows b) (b < buoys) u) (es : s ≡ first_of x y) (el : l ≡ first_of s z) (ea : a ≡ first_of u l) where
-  abbrev Known : Type 0
-  Known = (b < buoys) × ((Directory d × (length t ≡ 4 * shelf_records)) × Recipe r)
+-- put: the buoy's number, the two tables, the recipe, the room
+module _ (b : ℕ) (r d t : List ℕ) where
+  abbrev Tables : Type 0
+  Tables = (Directory d × (length t ≡ 4 * shelf_records)) × Recipe r
 
-  lent : Judged (buoy_rows b ++ ((directory_rows d ++ record_table_rows t) ++ recipe_rows r)) Known a
-  lent =
-      judged_first (buoy_rows b) ((directory_rows d ++ record_table_rows t) ++ recipe_rows r) (b < buoys) _ u l a ju
-      (judged_first (directory_rows d ++ record_table_rows t) (recipe_rows r) _ (Recipe r) s z l
-      (judged_first (directory_rows d) (record_table_rows t) (Directory d) _ x y s jx jy es) jz el)
-      ea
+  abbrev tables_rows : List Row
+  tables_rows = directory_rows d ++ record_table_rows t
 
-  pub put_stop : (c : Refusal) → a ≡ Verdict.Refused c → Judged (put_rows b r d t) (Puttable b r d t) (Verdict.Refused c)
-  put_stop c e = judged_stop _ Known a lent (room_rows b r d) (Puttable b r d t) c e
+  abbrev lent_rows : List Row
+  lent_rows = tables_rows ++ recipe_rows r
 
-  module _ (e : a ≡ Verdict.Right) where
-    pub put_within : b < buoys
-    put_within = (right_known _ Known a lent e).0
+  lent_stop : (c : Refusal) → Judged (buoy_rows b ++ lent_rows) ((b < buoys) × Tables) (Err c)
+      → Judged (put_rows b r d t) (Puttable b r d t) (Err c)
+  lent_stop c j = judged_stop (buoy_rows b ++ lent_rows) ((b < buoys) × Tables) (room_rows b r d) (Puttable b r d t) c j
 
-    pub put_shelf : Shelf d t
-    put_shelf = let k = right_known _ Known a lent e in record { directory = k.1.0.0; table = k.1.0.1 }
+  pub put_buoy : (c : Refusal) → Judged (buoy_rows b) (b < buoys) (Err c) → Judged (put_rows b r d t) (Puttable b r d t) (Err c)
+  put_buoy c j = lent_stop c (judged_stop (buoy_rows b) (b < buoys) lent_rows ((b < buoys) × Tables) c j)
 
-    pub put_next : (v : Verdict) → Judged (room_rows b r d) (total (set (counts_of d) b (length r / 4)) ≤ shelf_records) v
-        → Judged (put_rows b r d t) (Puttable b r d t) v
-    put_next v j =
-        judged_next _ Known a lent (room_rows b r d) (total (set (counts_of d) b (length r / 4)) ≤ shelf_records) (Puttable b r d t) v e
-        (λ k w. record { within = k.0; shelf = record { directory = k.1.0.0; table = k.1.0.1 }; recipe = k.1.1; room = w }) j
+  module _ (ju : Judged (buoy_rows b) (b < buoys) (Ok tt)) where
+    tables_stop : (c : Refusal) → Judged lent_rows Tables (Err c) → Judged (put_rows b r d t) (Puttable b r d t) (Err c)
+    tables_stop c j = lent_stop c (judged_both (buoy_rows b) (b < buoys) lent_rows Tables (Err c) ju j)
 
--- the buoy's number and the directory: n is of both
-module _ (b : ℕ) (d t : List ℕ) (x u n : Verdict) (ju : Judged (buoy_rows b) (b < buoys) u)
-    (jx : Judged (directory_rows d) (Directory d) x) (en : n ≡ first_of u x) where
-  named : Judged (buoy_rows b ++ directory_rows d) ((b < buoys) × Directory d) n
-  named = judged_first (buoy_rows b) (directory_rows d) (b < buoys) (Directory d) u x n ju jx en
+    shelf_stop : (c : Refusal) → Judged tables_rows (Directory d × (length t ≡ 4 * shelf_records)) (Err c)
+        → Judged (put_rows b r d t) (Puttable b r d t) (Err c)
+    shelf_stop c j = tables_stop c (judged_stop tables_rows (Directory d × (length t ≡ 4 * shelf_records)) (recipe_rows r) Tables c j)
 
-  pub kept_stop : (c : Refusal) → n ≡ Verdict.Refused c → Judged (take_out_rows b d t) (Kept b d t) (Verdict.Refused c)
-  kept_stop c e = judged_stop _ ((b < buoys) × Directory d) n named (absent_rows b d ++ record_table_rows t) (Kept b d t) c e
+    pub put_directory : (c : Refusal) → Judged (directory_rows d) (Directory d) (Err c)
+        → Judged (put_rows b r d t) (Puttable b r d t) (Err c)
+    put_directory c j =
+        shelf_stop c
+        (judged_stop (directory_rows d) (Directory d) (record_table_rows t) (Directory d × (length t ≡ 4 * shelf_records)) c j)
 
-  module _ (e : n ≡ Verdict.Right) where
-    pub kept_within : b < buoys
-    kept_within = (right_known _ ((b < buoys) × Directory d) n named e).0
+    module _ (jd : Judged (directory_rows d) (Directory d) (Ok tt)) where
+      shelf : (v : Result ⊤ Refusal) → Judged (record_table_rows t) (length t ≡ 4 * shelf_records) v
+          → Judged tables_rows (Directory d × (length t ≡ 4 * shelf_records)) v
+      shelf v j = judged_both (directory_rows d) (Directory d) (record_table_rows t) (length t ≡ 4 * shelf_records) v jd j
 
-    pub kept_directory : Directory d
-    kept_directory = (right_known _ ((b < buoys) × Directory d) n named e).1
+      pub put_table : (c : Refusal) → Judged (record_table_rows t) (length t ≡ 4 * shelf_records) (Err c)
+          → Judged (put_rows b r d t) (Puttable b r d t) (Err c)
+      put_table c j = shelf_stop c (shelf (Err c) j)
 
-    pub kept_next :
-        (y z v : Verdict) → Judged (absent_rows b d) (0 < get_or (counts_of d) b 0) y
-        → Judged (record_table_rows t) (length t ≡ 4 * shelf_records) z → v ≡ first_of y z → Judged (take_out_rows b d t) (Kept b d t) v
-    kept_next y z v jy jz f =
-        judged_next _ ((b < buoys) × Directory d) n named (absent_rows b d ++ record_table_rows t) _ (Kept b d t) v e
-        (λ k w. record { within = k.0; shelf = record { directory = k.1; table = w.1 }; some = w.0 })
-        (judged_first (absent_rows b d) (record_table_rows t) (0 < get_or (counts_of d) b 0) (length t ≡ 4 * shelf_records) y z v jy jz f)
+      module _ (jt : Judged (record_table_rows t) (length t ≡ 4 * shelf_records) (Ok tt)) where
+        lent : (v : Result ⊤ Refusal) → Judged (recipe_rows r) (Recipe r) v → Judged lent_rows Tables v
+        lent v j =
+            judged_both tables_rows (Directory d × (length t ≡ 4 * shelf_records)) (recipe_rows r) (Recipe r) v (shelf (Ok tt) jt) j
+
+        pub put_recipe : (c : Refusal) → Judged (recipe_rows r) (Recipe r) (Err c) → Judged (put_rows b r d t) (Puttable b r d t) (Err c)
+        put_recipe c j = tables_stop c (lent (Err c) j)
+
+        pub put_judged : (v : Result ⊤ Refusal) → Judged (recipe_rows r) (Recipe r) (Ok tt)
+            → Judged (room_rows b r d) (total (set (counts_of d) b (length r / 4)) ≤ shelf_records) v
+            → Judged (put_rows b r d t) (Puttable b r d t) v
+        put_judged v jr j =
+            judged_more (put_rows b r d t)
+            (((b < buoys) × Tables) × (total (set (counts_of d) b (length r / 4)) ≤ shelf_records)) (Puttable b r d t) v
+            (λ k. record { within = k.0.0; shelf = record { directory = k.0.1.0.0; table = k.0.1.0.1 }; recipe = k.0.1.1; room = k.1 })
+            (judged_both (buoy_rows b ++ lent_rows) ((b < buoys) × Tables) (room_rows b r d)
+            (total (set (counts_of d) b (length r / 4)) ≤ shelf_records) v
+            (judged_both (buoy_rows b) (b < buoys) lent_rows Tables (Ok tt) ju (lent (Ok tt) jr)) j)
+
+-- take-out and read: the buoy's number and the directory, whether the buoy has a recipe, the record table
+module _ (b : ℕ) (d t : List ℕ) where
+  abbrev named_rows : List Row
+  named_rows = buoy_rows b ++ directory_rows d
+
+  abbrev held_rows : List Row
+  held_rows = absent_rows b d ++ record_table_rows t
+
+  abbrev Held : Type 0
+  Held = (0 < get_or (counts_of d) b 0) × (length t ≡ 4 * shelf_records)
+
+  named_stop : (c : Refusal) → Judged named_rows ((b < buoys) × Directory d) (Err c) → Judged (take_out_rows b d t) (Kept b d t) (Err c)
+  named_stop c j = judged_stop named_rows ((b < buoys) × Directory d) held_rows (Kept b d t) c j
+
+  pub kept_buoy : (c : Refusal) → Judged (buoy_rows b) (b < buoys) (Err c) → Judged (take_out_rows b d t) (Kept b d t) (Err c)
+  kept_buoy c j = named_stop c (judged_stop (buoy_rows b) (b < buoys) (directory_rows d) ((b < buoys) × Directory d) c j)
+
+  module _ (ju : Judged (buoy_rows b) (b < buoys) (Ok tt)) where
+    named : (v : Result ⊤ Refusal) → Judged (directory_rows d) (Directory d) v → Judged named_rows ((b < buoys) × Directory d) v
+    named v j = judged_both (buoy_rows b) (b < buoys) (directory_rows d) (Directory d) v ju j
+
+    pub kept_directory : (c : Refusal) → Judged (directory_rows d) (Directory d) (Err c) → Judged (take_out_rows b d t) (Kept b d t) (Err c)
+    kept_directory c j = named_stop c (named (Err c) j)
+
+    module _ (jd : Judged (directory_rows d) (Directory d) (Ok tt)) where
+      kept_of : (v : Result ⊤ Refusal) → Judged held_rows Held v → Judged (take_out_rows b d t) (Kept b d t) v
+      kept_of v j =
+          judged_more (take_out_rows b d t) (((b < buoys) × Directory d) × Held) (Kept b d t) v
+          (λ k. record { within = k.0.0; shelf = record { directory = k.0.1; table = k.1.1 }; some = k.1.0 })
+          (judged_both named_rows ((b < buoys) × Directory d) held_rows Held v (named (Ok tt) jd) j)
+
+      pub kept_held : (c : Refusal) → Judged (absent_rows b d) (0 < get_or (counts_of d) b 0) (Err c)
+          → Judged (take_out_rows b d t) (Kept b d t) (Err c)
+      kept_held c j =
+          kept_of (Err c) (judged_stop (absent_rows b d) (0 < get_or (counts_of d) b 0) (record_table_rows t) Held c j)
+
+      pub kept_judged : (v : Result ⊤ Refusal) → Judged (absent_rows b d) (0 < get_or (counts_of d) b 0) (Ok tt)
+          → Judged (record_table_rows t) (length t ≡ 4 * shelf_records) v → Judged (take_out_rows b d t) (Kept b d t) v
+      kept_judged v jh j =
+          kept_of v
+          (judged_both (absent_rows b d) (0 < get_or (counts_of d) b 0) (record_table_rows t) (length t ≡ 4 * shelf_records) v jh j)

@@ -12,129 +12,77 @@ ghost use Rattle.shelf.specs.Operations.{put_rows, take_out_rows, Put, TakenOut,
 ghost use Rattle.shelf.specs.Steps.{Puttable, Kept};
 
 use records::RECORD;
-use refusals::{Refusal, Verdict};
+use refusals::Refusal;
 
 // The counter of all puts and take-outs.
 const CHANGES: usize = 0;
 
-// What each operation answers. Document 02: "an operation with nothing to count answers yes".
-#[derive(Clone, Copy)]
-pub enum PutAnswer {
-    Yes,
-    Refused(Refusal),
-}
-
-#[derive(Clone, Copy)]
-pub enum TakeOutAnswer {
-    Yes,
-    Refused(Refusal),
-}
-
-#[derive(Clone, Copy)]
-pub enum ReadAnswer {
-    Records(usize),
-    Refused(Refusal),
-}
-
-#[derive(Clone, Copy)]
-pub enum CountAnswer {
-    Count(usize),
-    Refused(Refusal),
-}
-
 // All that put is lent: 18; 8; 4 to 7; 19.
-fn judge_put(buoy: usize, recipe: &[u8], directory: &[u8], table: &[u8]) -> Verdict
+fn judge_put(buoy: usize, recipe: &[u8], directory: &[u8], table: &[u8]) -> Result<(), Refusal>
     ensures { Judged (put_rows buoy recipe.now directory.now table.now)
         (Puttable buoy recipe.now directory.now table.now) result }
 {
-    let shelf = refusals::first(
-        storage::judge_directory(directory),
-        storage::judge_record_table(table),
-    );
-    let lent = refusals::first(shelf, refusals::judge_recipe(recipe));
-    let all = refusals::first(storage::judge_buoy(buoy), lent);
-    match all {
-        Verdict::Refused(c) => return Verdict::Refused(c),
-        Verdict::Right => {}
-    }
+    storage::judge_buoy(buoy)?;
+    storage::judge_directory(directory)?;
+    storage::judge_record_table(table)?;
+    refusals::judge_recipe(recipe)?;
     storage::judge_room(buoy, recipe, directory, table)
 }
 
 // A buoy that has a recipe, and the shelf: 18 by its number; 8 of the directory; 18 without a recipe; 8 of the record table.
-fn judge_kept(buoy: usize, directory: &[u8], table: &[u8]) -> Verdict
+fn judge_kept(buoy: usize, directory: &[u8], table: &[u8]) -> Result<(), Refusal>
     ensures { Judged (take_out_rows buoy directory.now table.now)
         (Kept buoy directory.now table.now) result }
 {
-    let named = refusals::first(
-        storage::judge_buoy(buoy),
-        storage::judge_directory(directory),
-    );
-    match named {
-        Verdict::Refused(c) => return Verdict::Refused(c),
-        Verdict::Right => {}
-    }
-    refusals::first(
-        storage::judge_held(buoy, directory),
-        storage::judge_record_table(table),
-    )
+    storage::judge_buoy(buoy)?;
+    storage::judge_directory(directory)?;
+    storage::judge_held(buoy, directory)?;
+    storage::judge_record_table(table)
 }
 
-// Puts a recipe on the shelf, in the place of what the buoy had.
-pub fn put(buoy: usize, recipe: &[u8], directory: &mut [u8], table: &mut [u8]) -> PutAnswer
+// Puts a recipe on the shelf, in the place of what the buoy had. Document 02: "an operation with nothing to count answers yes".
+pub fn put(
+    buoy: usize,
+    recipe: &[u8],
+    directory: &mut [u8],
+    table: &mut [u8],
+) -> Result<(), Refusal>
     ensures { Put buoy recipe.now directory.old table.old result directory.new
         table.new }
 {
-    let verdict = judge_put(buoy, recipe, directory, table);
-    match verdict {
-        Verdict::Refused(c) => return PutAnswer::Refused(c),
-        Verdict::Right => {}
-    }
+    judge_put(buoy, recipe, directory, table)?;
     storage::store(CHANGES, buoy, recipe, directory, table);
-    PutAnswer::Yes
+    Ok(())
 }
 
 // Takes a buoy's recipe out.
-pub fn take_out(buoy: usize, directory: &mut [u8], table: &mut [u8]) -> TakeOutAnswer
+pub fn take_out(buoy: usize, directory: &mut [u8], table: &mut [u8]) -> Result<(), Refusal>
     ensures { TakenOut buoy directory.old table.old result directory.new table.new }
 {
-    let verdict = judge_kept(buoy, directory, table);
-    match verdict {
-        Verdict::Refused(c) => return TakeOutAnswer::Refused(c),
-        Verdict::Right => {}
-    }
+    judge_kept(buoy, directory, table)?;
     let nothing = [0u8; 1];
     storage::store(CHANGES, buoy, &nothing[0..0], directory, table);
-    TakeOutAnswer::Yes
+    Ok(())
 }
 
 // Writes a buoy's recipe.
-pub fn read(buoy: usize, directory: &[u8], table: &[u8], out: &mut [u8]) -> ReadAnswer
+pub fn read(buoy: usize, directory: &[u8], table: &[u8], out: &mut [u8]) -> Result<usize, Refusal>
     ensures { ReadOut buoy directory.now table.now out.old result out.new }
 {
-    let verdict = refusals::first(
-        judge_kept(buoy, directory, table),
-        refusals::judge_table(out, RECORD),
-    );
-    match verdict {
-        Verdict::Refused(c) => return ReadAnswer::Refused(c),
-        Verdict::Right => {}
-    }
+    judge_kept(buoy, directory, table)?;
+    refusals::judge_table(out, RECORD)?;
     let recipe = storage::recipe_of(buoy, directory, table);
     if out.len() < recipe.len() {
-        return ReadAnswer::Refused(Refusal::Output);
+        return Err(Refusal::Output);
     }
     copying::copy_into(recipe, out, 0);
-    ReadAnswer::Records(recipe.len() / RECORD)
+    Ok(recipe.len() / RECORD)
 }
 
 // How many puts and take-outs were done.
-pub fn count(directory: &[u8]) -> CountAnswer
+pub fn count(directory: &[u8]) -> Result<usize, Refusal>
     ensures { Counted directory.now result }
 {
-    let verdict = storage::judge_directory(directory);
-    match verdict {
-        Verdict::Refused(c) => return CountAnswer::Refused(c),
-        Verdict::Right => {}
-    }
-    CountAnswer::Count(storage::count_of(CHANGES, directory))
+    storage::judge_directory(directory)?;
+    Ok(storage::count_of(CHANGES, directory))
 }

@@ -11,25 +11,24 @@ use lib.Dec.{T, ltb}
 use lib.ListN.{length, get_or, take, length-take}
 use lib.Seq.{sets, take-take}
 use borrow.Author.Tests.{lt-ltb, le-ltb, eq-eqb, ltb-true, ltb-false}
+use Rattle.std.specs.declared.option.Option.{Option}
+use Rattle.std.specs.declared.option.Option.TheVariants.{Some, None}
 use Rattle.terms.specs.Figures.{numbers}
 use Rattle.terms.specs.Term.{Term, app, lam, loc, size, shift, unshift, uses}
 use Rattle.terms.specs.Table.{record_bytes, encode}
 use Rattle.terms.proofs.Shift.{uses_below}
 use Rattle.terms.proofs.Table.{app_inj, lam_inj}
-use Rattle.records.specs.declared.Walk.{Walk}
-use Rattle.records.specs.declared.Walk.TheVariants.{Upto, No}
 use Rattle.records.specs.Record.{number_at}
 use Rattle.records.specs.Parts.{slice, Part, Whole, Ends}
-use Rattle.records.specs.Tests.{Says, Walked, Near, further}
+use Rattle.records.specs.Tests.{Says, Walked}
 use Rattle.records.proofs.Parts.{whole, application, part_bytes, leaf_size}
-use Rattle.records.proofs.Slices.{part_slice, slice_length, slice_walked}
+use Rattle.records.proofs.Slices.{further, part_slice, slice_length, slice_walked}
 use Rattle.records.proofs.Tests.{walked_ends, walked_app, walked_stop, walked_lam, walked_leaf, walked_no, part_local, part_other}
 use Rattle.copying.proofs.Stores.{take_sets}
 use Rattle.substitution.specs.Writers.{Wrote}
 use Rattle.substitution.proofs.Writers.{Change, Other, wrote_application, wrote_abstraction, wrote_local, slice_wrote}
 use Rattle.shifting.specs.Lowering.{Movable, Inside, Lowers, Leaves, Lowered}
-use Rattle.shifting.proofs.Slices.{application_slices, abstraction_slices, slices_argument, slices_app, slices_lam}
-use Rattle.shifting.proofs.Slices.{slices_leaf}
+use Rattle.shifting.proofs.Slices.{application_slices, abstraction_slices, slices_argument, slices_app, slices_lam, slices_leaf}
 
 pub movable_two : (d c : ℕ) (f a : Term) → Movable d c (app f a) ↔ (Movable d c f × Movable d c a)
 movable_two d c f a = (λ p. app_inj f a (shift d c (unshift d c f)) (shift d c (unshift d c a)) p, λ p. ap₂ app p.0 p.1)
@@ -138,34 +137,32 @@ module _ (l : List ℕ) (c d o : ℕ) where
     lowers_record = omega (arith, length-take 4 l, x.first)
 
   -- where the head ends, in what is read and in what is written
-  pub lowered_passed : (p q : List ℕ) (room h : ℕ) (r : Walk) → Lowers l c d room o → get_or l 0 0 ≡ 0 → r ≡ Upto h
-      → Lowered (slice l 4) c d p (o + 4) q r → (4 + h ≤ length l) × (o + (4 + h) ≤ room)
-  lowered_passed p q room h r x z i y =
-      let n = walked_ends (slice l 4) 0 (Movable d c) h r i y.walked in
+  pub lowered_passed : (p q : List ℕ) (room h : ℕ) → Lowers l c d room o → get_or l 0 0 ≡ 0
+      → Lowered (slice l 4) c d p (o + 4) q (Some h) → (4 + h ≤ length l) × (o + (4 + h) ≤ room)
+  lowered_passed p q room h x z y =
+      let n = walked_ends (slice l 4) 0 (Movable d c) h y.walked in
       let w = lowers_argument room room refl x h z n in
       (omega (arith, w.least, slice_length l (4 + h)), omega (arith, w.first))
 
   -- what was written
   module _ (out : List ℕ) where
-    pub lowered_ends : (after : List ℕ) (h : ℕ) (r : Walk) → r ≡ Upto h → Lowered l c d out o after r → Ends l 0 h
-    lowered_ends after h r e x = walked_ends l 0 (Movable d c) h r e x.walked
+    pub lowered_ends : (after : List ℕ) (h : ℕ) → Lowered l c d out o after (Some h) → Ends l 0 h
+    lowered_ends after h x = walked_ends l 0 (Movable d c) h x.walked
 
     -- by cases of the walk, with what was written
-    leaves_upto : (after : List ℕ) (h m : ℕ) → m ≡ o + h → Wrote (unshift d) l 0 c out o after h m → Leaves l c d out o after (Upto h)
+    leaves_upto : (after : List ℕ) (h m : ℕ) → m ≡ o + h → Wrote (unshift d) l 0 c out o after h m → Leaves l c d out o after (Some h)
     unfolding Leaves
     leaves_upto after h m e w = wrote_end l 0 c d out o after h m (o + h) e w
 
-    leaves_no : (after : List ℕ) → take o after ≡ take o out → Leaves l c d out o after No
+    leaves_no : (after : List ℕ) → take o after ≡ take o out → Leaves l c d out o after None
     unfolding Leaves
     leaves_no after e = e
 
     module _ (p q : List ℕ) (z : get_or l 0 0 ≡ 0) (e : p ≡ sets out o (record_bytes 0 0 [])) where
       -- the head's bytes end where the argument's begin
-      head_wrote : (h : ℕ) (r : Walk) → r ≡ Upto h → Leaves (slice l 4) c d p (o + 4) q r
-          → Wrote (unshift d) l 4 c p (o + 4) q (4 + h) (o + (4 + h))
+      head_wrote : (h : ℕ) → Leaves (slice l 4) c d p (o + 4) q (Some h) → Wrote (unshift d) l 4 c p (o + 4) q (4 + h) (o + (4 + h))
       unfolding Leaves
-      head_wrote h r i x =
-          let w : Leaves (slice l 4) c d p (o + 4) q (Upto h) = subst (Leaves (slice l 4) c d p (o + 4) q) i x in
+      head_wrote h w =
           wrote_end l 4 c d p (o + 4) q (4 + h) (o + 4 + h) (o + (4 + h)) (omega arith)
           (slice_wrote (unshift d) l 4 c p (o + 4) q h (o + 4 + h) w)
 
@@ -176,82 +173,71 @@ module _ (l : List ℕ) (c d o : ℕ) where
           ap (take o) (w.bytes v.f v.head) ∙ take_sets (encode (unshift d c v.f)) p o (o + 4) (omega arith) ∙ ap (take o) e
           ∙ take_sets (record_bytes 0 0 []) out o o (omega arith)
 
-      module _ (h : ℕ) (r : Walk) (i : r ≡ Upto h) (x : Lowered (slice l 4) c d p (o + 4) q r) where
+      module _ (h : ℕ) (x : Lowered (slice l 4) c d p (o + 4) q (Some h)) where
         -- the argument ends where the whole does
-        pub lowered_near : (after : List ℕ) (room : ℕ) (s : Walk) → Lowers l c d room o
-            → Lowered (slice l (4 + h)) c d q (o + (4 + h)) after s → Near (4 + h) s
-        lowered_near after room s w y = go s y.walked
-          where
-            go : (s : Walk) → Walked (slice l (4 + h)) 0 (Movable d c) s → Near (4 + h) s
-            go (Upto j) y =
-                let m = walked_ends (slice l 4) 0 (Movable d c) h r i x.walked in
-                let n = walked_ends (slice l (4 + h)) 0 (Movable d c) j (Upto j) refl y in
-                omega (arith, (slices_app l h j z m n).exact w.tree w.part, w.shallow)
-            go No y = tt
+        pub lowered_near : (after : List ℕ) (room j : ℕ) → Lowers l c d room o
+            → Lowered (slice l (4 + h)) c d q (o + (4 + h)) after (Some j) → 4 + h + j ≤ 4 * numbers
+        lowered_near after room j w y =
+            let m = walked_ends (slice l 4) 0 (Movable d c) h x.walked in
+            let n = walked_ends (slice l (4 + h)) 0 (Movable d c) j y.walked in
+            omega (arith, (slices_app l h j z m n).exact w.tree w.part, w.shallow)
 
-        pub lowered_application : (after : List ℕ) (s a : Walk) → Whole l 0 → a ≡ further (4 + h) s
-            → Lowered (slice l (4 + h)) c d q (o + (4 + h)) after s → Lowered l c d out o after a
+        pub lowered_application : (after : List ℕ) (s : Option ℕ) → Whole l 0 → Lowered (slice l (4 + h)) c d q (o + (4 + h)) after s
+            → Lowered l c d out o after (further (4 + h) s)
         unfolding Leaves
-        lowered_application after s a b u y =
-            subst (Lowered l c d out o after) (sym u) (record { walked = walked; leaves = go s y.leaves })
+        lowered_application after s b y = record { walked = walked; leaves = go s y.leaves }
           where
             walked : Walked l 0 (Movable d c) (further (4 + h) s)
             walked =
-                walked_app l 0 (Movable d c) (Movable d c) (Movable d c) (4 + h) (further 4 r) (further (4 + h) s) z (movable_two d c)
-                (ap (further 4) i)
-                (slice_walked l 4 (Movable d c) r x.walked)
+                walked_app l 0 (Movable d c) (Movable d c) (Movable d c) (4 + h) (further (4 + h) s) z (movable_two d c)
+                (slice_walked l 4 (Movable d c) (Some h) x.walked)
                 (slice_walked l (4 + h) (Movable d c) s y.walked)
 
             head : Wrote (unshift d) l 4 c p (o + 4) q (4 + h) (o + (4 + h))
-            head = head_wrote h r i x.leaves
+            head = head_wrote h x.leaves
 
-            go : (s : Walk) → Leaves (slice l (4 + h)) c d q (o + (4 + h)) after s → Leaves l c d out o after (further (4 + h) s)
-            go (Upto j) y =
+            go : (s : Option ℕ) → Leaves (slice l (4 + h)) c d q (o + (4 + h)) after s → Leaves l c d out o after (further (4 + h) s)
+            go (Some j) y =
                 leaves_upto after (4 + h + j) (o + (4 + h) + j) (omega arith)
                 (wrote_application (unshift d) (unshifts d) l 0 c out o p q after (4 + h) (o + (4 + h)) (4 + h + j) (o + (4 + h) + j) z e
                 head
                 (slice_wrote (unshift d) l (4 + h) c q (o + (4 + h)) after j (o + (4 + h) + j) y))
-            go No y = take_less after q o (o + (4 + h)) (omega arith) y ∙ before (4 + h) (o + (4 + h)) head b
+            go None y = take_less after q o (o + (4 + h)) (omega arith) y ∙ before (4 + h) (o + (4 + h)) head b
 
-      pub lowered_stop : (r : Walk) → r ≡ No → Lowered (slice l 4) c d p (o + 4) q r → Lowered l c d out o q No
+      pub lowered_stop : Lowered (slice l 4) c d p (o + 4) q None → Lowered l c d out o q None
       unfolding Leaves
-      lowered_stop r i x =
-          let w : Leaves (slice l 4) c d p (o + 4) q No = subst (Leaves (slice l 4) c d p (o + 4) q) i x.leaves in
+      lowered_stop x = record {
+        walked = walked_stop l 0 (Movable d c) (Movable d c) (Movable d c) z (movable_two d c)
+            (slice_walked l 4 (Movable d c) None x.walked);
+        leaves = take_less q p o (o + 4) (omega arith) x.leaves ∙ ap (take o) e ∙ take_sets (record_bytes 0 0 []) out o o (omega arith);
+      }
+
+    module _ (p q : List ℕ) (z : get_or l 0 0 ≡ 1) where
+      pub lowered_near_body : (room j : ℕ) → Lowers l c d room o → Lowered (slice l 4) (c + 1) d p (o + 4) q (Some j) → 4 + j ≤ 4 * numbers
+      lowered_near_body room j w x =
+          let n = walked_ends (slice l 4) 0 (Movable d (c + 1)) j x.walked in
+          omega (arith, (slices_lam l j z n).exact w.tree w.part, w.shallow)
+
+      pub lowered_abstraction : (r : Option ℕ) → p ≡ sets out o (record_bytes 1 0 []) → Lowered (slice l 4) (c + 1) d p (o + 4) q r
+          → Lowered l c d out o q (further 4 r)
+      unfolding Leaves
+      lowered_abstraction r e x =
           record {
-            walked = walked_stop l 0 (Movable d c) (Movable d c) (Movable d c) (further 4 r) z (movable_two d c) (ap (further 4) i)
-                (slice_walked l 4 (Movable d c) r x.walked);
-            leaves = take_less q p o (o + 4) (omega arith) w ∙ ap (take o) e ∙ take_sets (record_bytes 0 0 []) out o o (omega arith);
-          }
-
-    module _ (p q : List ℕ) (r : Walk) (z : get_or l 0 0 ≡ 1) (x : Lowered (slice l 4) (c + 1) d p (o + 4) q r) where
-      pub lowered_near_body : (room : ℕ) → Lowers l c d room o → Near 4 r
-      lowered_near_body room w = go r x.walked
-        where
-          go : (r : Walk) → Walked (slice l 4) 0 (Movable d (c + 1)) r → Near 4 r
-          go (Upto j) y =
-              let n = walked_ends (slice l 4) 0 (Movable d (c + 1)) j (Upto j) refl y in
-              omega (arith, (slices_lam l j z n).exact w.tree w.part, w.shallow)
-          go No y = tt
-
-      pub lowered_abstraction : (a : Walk) → p ≡ sets out o (record_bytes 1 0 []) → a ≡ further 4 r → Lowered l c d out o q a
-      unfolding Leaves
-      lowered_abstraction a e u =
-          subst (Lowered l c d out o q) (sym u) (record {
             walked = walked_lam l 0 (Movable d c) (Movable d (c + 1)) (further 4 r) z (movable_under d c)
                 (slice_walked l 4 (Movable d (c + 1)) r x.walked);
             leaves = go r x.leaves;
-          })
+          }
         where
-          go : (r : Walk) → Leaves (slice l 4) (c + 1) d p (o + 4) q r → Leaves l c d out o q (further 4 r)
-          go (Upto h) y =
+          go : (r : Option ℕ) → Leaves (slice l 4) (c + 1) d p (o + 4) q r → Leaves l c d out o q (further 4 r)
+          go (Some h) y =
               leaves_upto q (4 + h) (o + 4 + h) (omega arith)
               (wrote_abstraction (unshift d) (unshifts d) l 0 c out o p q (4 + h) (o + 4 + h) z e
               (slice_wrote (unshift d) l 4 (c + 1) p (o + 4) q h (o + 4 + h) y))
-          go No y = take_less q p o (o + 4) (omega arith) y ∙ ap (take o) e ∙ take_sets (record_bytes 1 0 []) out o o (omega arith)
+          go None y = take_less q p o (o + 4) (omega arith) y ∙ ap (take o) e ∙ take_sets (record_bytes 1 0 []) out o o (omega arith)
 
     module _ (n : ℕ) (i : n ≡ number_at l 0) where
       pub lowered_local : (p : List ℕ) (m : ℕ) → Whole l 0 → get_or l 0 0 ≡ 2 → ¬ Inside c d n → loc m ≡ unshift d c (loc n)
-          → p ≡ sets out o (record_bytes 2 m []) → Lowered l c d out o p (Upto 4)
+          → p ≡ sets out o (record_bytes 2 m []) → Lowered l c d out o p (Some 4)
       lowered_local p m x z j u e = record {
         walked = walked_leaf l 0 (Movable d c) x (λ q. omega arith) (λ q. omega arith)
             (part_local l 0 (Movable d c) z (subst (λ (k : ℕ). Movable d c (loc k)) i (movable_local n c d j)));
@@ -259,7 +245,7 @@ module _ (l : List ℕ) (c d o : ℕ) where
             (wrote_local (unshift d) (unshifts d) l 0 c out o p n (o + 4) (loc m) x z i u e (omega arith));
       }
 
-      pub lowered_local_no : get_or l 0 0 ≡ 2 → Inside c d n → Lowered l c d out o out No
+      pub lowered_local_no : get_or l 0 0 ≡ 2 → Inside c d n → Lowered l c d out o out None
       lowered_local_no z j = record {
         walked = walked_no l 0 (Movable d c)
             (part_local l 0 (λ t. ¬ Movable d c t) z (subst (λ (k : ℕ). ¬ Movable d c (loc k)) i (movable_local_no n c d j)));
@@ -267,7 +253,7 @@ module _ (l : List ℕ) (c d o : ℕ) where
       }
 
     -- any other record is copied as it is
-    pub lowered_other : (p : List ℕ) → Whole l 0 → Other l 0 → p ≡ sets out o (take 4 l) → Lowered l c d out o p (Upto 4)
+    pub lowered_other : (p : List ℕ) → Whole l 0 → Other l 0 → p ≡ sets out o (take 4 l) → Lowered l c d out o p (Some 4)
     lowered_other p x z e =
         record {
           walked = walked_leaf l 0 (Movable d c) x z.no_application z.no_abstraction
@@ -299,9 +285,9 @@ module _ (l : List ℕ) (at c d o : ℕ) where
     first = omega (arith, x.some);
   }
 
-  module _ (out after : List ℕ) (r : Walk) (x : Lowered (slice l at) c d out o after r) where
-    pub lowered_wrote_at : (h : ℕ) → r ≡ Upto h → Wrote (unshift d) l at c out o after (at + h) (o + h)
+  module _ (out after : List ℕ) (r : Option ℕ) (x : Lowered (slice l at) c d out o after r) where
+    pub lowered_wrote_at : (h : ℕ) → r ≡ Some h → Wrote (unshift d) l at c out o after (at + h) (o + h)
     unfolding Leaves
     lowered_wrote_at h i =
-        let w : Leaves (slice l at) c d out o after (Upto h) = subst (Leaves (slice l at) c d out o after) i x.leaves in
+        let w : Leaves (slice l at) c d out o after (Some h) = subst (Leaves (slice l at) c d out o after) i x.leaves in
         slice_wrote (unshift d) l at c out o after h (o + h) w

@@ -9,17 +9,18 @@ use native.Mathlib.Numerals.{add-one}
 use lib.Dec.{eqb, ltb}
 use lib.ListN.{length, get_or}
 use borrow.Author.Tests.{lt-ltb, le-ltb, eqb-true, eqb-false}
+use Rattle.std.specs.Bool.{then_some}
+use Rattle.std.specs.declared.option.Option.{Option}
+use Rattle.std.specs.declared.option.Option.TheVariants.{Some, None}
 use Rattle.terms.specs.Term.{Term, app, lam, loc, con, var, size, shift}
 use Rattle.terms.specs.Heads.{rigid}
 use Rattle.terms.proofs.Table.{kind, number_of, app_inj, lam_inj}
 use Rattle.terms.proofs.Shift.{size_shift}
-use Rattle.records.specs.declared.Walk.{Walk}
-use Rattle.records.specs.declared.Walk.TheVariants.{Upto, No}
 use Rattle.records.specs.Record.{number_at}
 use Rattle.records.specs.Parts.{slice, Part, Whole, Ends}
-use Rattle.records.specs.Tests.{Says, Near, further}
+use Rattle.records.specs.Tests.{Says}
 use Rattle.records.proofs.Parts.{whole, kind_at, number_at_lem}
-use Rattle.records.proofs.Slices.{part_slice, slice_length}
+use Rattle.records.proofs.Slices.{further, part_slice, slice_length}
 use Rattle.substitution.proofs.Writers.{Other, local_at}
 use Rattle.shifting.specs.Tests.{PartsComparable, Shifted, PartsCompared}
 use Rattle.shifting.proofs.Slices.{ApplicationSlices, application_slices, abstraction_slices, slices_argument}
@@ -72,31 +73,30 @@ is_leaf (var n) h = refl
 pub same_first : (x y : Term) → 2 < kind x → kind x ≡ kind y → number_of x ≡ number_of y → x ≡ y
 same_first x y h k e = is_leaf x h ∙ ap₂ leaf k e ∙ sym (is_leaf y (subst (λ (i : ℕ). 2 < i) k h))
 
-pub compared_ends : (s e : List ℕ) (P : Term → Term → Type 0) (h : ℕ) (w : Walk) → w ≡ Upto h → PartsCompared s e P w → Ends s 0 h
-unfolding PartsCompared
-compared_ends s e P h w i x = let y : PartsCompared s e P (Upto h) = subst (PartsCompared s e P) i x in y.0
-
--- a walk further on in a part comes to a byte that a number can say
-pub compared_near : (s e f : List ℕ) (n c d : ℕ) (P : Term → Term → Type 0) (w : Walk) → PartsComparable s e c d
-    → PartsCompared (slice s n) f P w → Near n w
-unfolding PartsCompared
-compared_near s e f n c d P (Upto h) x q = omega (arith, x.shallow, q.0.more, q.0.within, slice_length s n)
-compared_near s e f n c d P No x q = tt
-
 -- what an answer says of the terms that stand there
-module _ (s e : List ℕ) (P : Term → Term → Type 0) (r : Walk) (q : PartsCompared s e P r) (x y : Term) (p : Part s 0 x)
-    (t : Part e 0 y) where
-  pub compared_yes : (h : ℕ) → r ≡ Upto h → P x y
+module _ (s e : List ℕ) (P : Term → Term → Type 0) where
+  pub compared_ends : (h : ℕ) → PartsCompared s e P (Some h) → Ends s 0 h
   unfolding PartsCompared
-  compared_yes h i = let m : PartsCompared s e P (Upto h) = subst (PartsCompared s e P) i q in m.1 x y p t
+  compared_ends h q = q.0
 
-  pub compared_no : r ≡ No → ¬ P x y
-  unfolding PartsCompared
-  compared_no i = let m : PartsCompared s e P No = subst (PartsCompared s e P) i q in m x y p t
+  module _ (x y : Term) (p : Part s 0 x) (t : Part e 0 y) where
+    pub compared_yes : (h : ℕ) → PartsCompared s e P (Some h) → P x y
+    unfolding PartsCompared
+    compared_yes h q = q.1 x y p t
+
+    pub compared_no : PartsCompared s e P None → ¬ P x y
+    unfolding PartsCompared
+    compared_no q = q x y p t
+
+-- a walk further on ends within the part
+pub compared_within : (s f : List ℕ) (n h : ℕ) (P : Term → Term → Type 0) → PartsCompared (slice s n) f P (Some h) → n + h ≤ length s
+compared_within s f n h P q =
+    let e = compared_ends (slice s n) f P h q in
+    omega (arith, e.more, e.within, slice_length s n)
 
 module _ (s e : List ℕ) (c d : ℕ) where
   -- first records of different kinds
-  pub compared_kinds : ¬ (get_or s 0 0 ≡ get_or e 0 0) → PartsCompared s e (Shifted d c) No
+  pub compared_kinds : ¬ (get_or s 0 0 ≡ get_or e 0 0) → PartsCompared s e (Shifted d c) None
   unfolding PartsCompared
   compared_kinds n = λ x y p q i. n (kind_at s 0 x p ∙ ap kind i ∙ kind_shift d c y ∙ sym (kind_at e 0 y q))
 
@@ -105,10 +105,7 @@ module _ (s e : List ℕ) (c d : ℕ) where
       w : get_or e 0 0 ≡ 0
       w = sym k ∙ z
 
-      module _ (h : ℕ) (r : Walk) (i : r ≡ Upto h) (q : PartsCompared (slice s 4) (slice e 4) (Shifted d c) r) where
-        m : PartsCompared (slice s 4) (slice e 4) (Shifted d c) (Upto h)
-        m = subst (PartsCompared (slice s 4) (slice e 4) (Shifted d c)) i q
-
+      module _ (h : ℕ) (m : PartsCompared (slice s 4) (slice e 4) (Shifted d c) (Some h)) where
         -- where the first's head ends, the second's does as far on
         pub second_argument : (x y : Term) → (u : ApplicationSlices s x) → (v : ApplicationSlices e y) → Part (slice e (4 + h)) 0 v.a
         unfolding PartsCompared
@@ -116,34 +113,30 @@ module _ (s e : List ℕ) (c d : ℕ) where
             let n : size u.f ≡ size v.f = ap size (m.1 u.f v.f u.head v.head) ∙ size_shift d c v.f in
             v.argument h (omega (arith, m.0.exact u.f u.head))
 
-        pub compared_app : (v a : Walk) → a ≡ further (4 + h) v → PartsCompared (slice s (4 + h)) (slice e (4 + h)) (Shifted d c) v
-            → PartsCompared s e (Shifted d c) a
+        pub compared_app : (v : Option ℕ) → PartsCompared (slice s (4 + h)) (slice e (4 + h)) (Shifted d c) v
+            → PartsCompared s e (Shifted d c) (further (4 + h) v)
         unfolding PartsCompared
-        compared_app v a j o = subst (PartsCompared s e (Shifted d c)) (sym j) (go v o)
-          where
-            go : (v : Walk) → PartsCompared (slice s (4 + h)) (slice e (4 + h)) (Shifted d c) v
-                → PartsCompared s e (Shifted d c) (further (4 + h) v)
-            go (Upto r) o = (
-              slices_app s h r z m.0 o.0,
-              λ x y p t.
-                  let u = application_slices s x p z in
-                  let v = application_slices e y t w in
-                  u.is
-                  ∙ ap₂ app (m.1 u.f v.f u.head v.head)
-                  (o.1 u.a v.a (slices_argument s h x m.0 u) (second_argument x y u v))
-                  ∙ ap (shift d c) (sym v.is),
-            )
-            go No o = λ x y p t g.
-                let u = application_slices s x p z in
-                let v = application_slices e y t w in
-                o u.a v.a (slices_argument s h x m.0 u) (second_argument x y u v)
-                (app_inj u.f u.a (shift d c v.f) (shift d c v.a) (sym u.is ∙ g ∙ ap (shift d c) v.is)).1
+        compared_app (Some r) o = (
+          slices_app s h r z m.0 o.0,
+          λ x y p t.
+              let u = application_slices s x p z in
+              let v = application_slices e y t w in
+              u.is
+              ∙ ap₂ app (m.1 u.f v.f u.head v.head)
+              (o.1 u.a v.a (slices_argument s h x m.0 u) (second_argument x y u v))
+              ∙ ap (shift d c) (sym v.is),
+        )
+        compared_app None o = λ x y p t g.
+            let u = application_slices s x p z in
+            let v = application_slices e y t w in
+            o u.a v.a (slices_argument s h x m.0 u) (second_argument x y u v)
+            (app_inj u.f u.a (shift d c v.f) (shift d c v.a) (sym u.is ∙ g ∙ ap (shift d c) v.is)).1
 
         pub compares_argument : PartsComparable s e c d → PartsComparable (slice s (4 + h)) (slice e (4 + h)) c d
         compares_argument x =
             let u = application_slices s x.first.tree x.first.part z in
             let v = application_slices e x.second.tree x.second.part w in
-            let n : Ends (slice s 4) 0 h = compared_ends (slice s 4) (slice e 4) (Shifted d c) h r i q in
+            let n = compared_ends (slice s 4) (slice e 4) (Shifted d c) h m in
             record {
               first = whole (slice s (4 + h)) 0 u.a (slices_argument s h x.first.tree n u);
               second = whole (slice e (4 + h)) 0 v.a (second_argument x.first.tree x.second.tree u v);
@@ -157,12 +150,9 @@ module _ (s e : List ℕ) (c d : ℕ) where
             let y = compares_argument x in
             (omega (arith, y.first.least, slice_length s (4 + h)), omega (arith, y.second.least, slice_length e (4 + h)))
 
-      pub compared_stop : (r : Walk) → r ≡ No → PartsCompared (slice s 4) (slice e 4) (Shifted d c) r → PartsCompared s e (Shifted d c) No
+      pub compared_stop : PartsCompared (slice s 4) (slice e 4) (Shifted d c) None → PartsCompared s e (Shifted d c) None
       unfolding PartsCompared
-      compared_stop r i q =
-          let m : PartsCompared (slice s 4) (slice e 4) (Shifted d c) No = subst
-          (PartsCompared (slice s 4) (slice e 4) (Shifted d c)) i q in
-          λ x y p t g.
+      compared_stop m = λ x y p t g.
           let u = application_slices s x p z in
           let v = application_slices e y t w in
           m u.f v.f u.head v.head
@@ -192,44 +182,46 @@ module _ (s e : List ℕ) (c d : ℕ) where
             few = x.few;
           }
 
-      pub compared_lam : (v a : Walk) → a ≡ further 4 v → PartsCompared (slice s 4) (slice e 4) (Shifted d (c + 1)) v
-          → PartsCompared s e (Shifted d c) a
+      pub compared_lam : (v : Option ℕ) → PartsCompared (slice s 4) (slice e 4) (Shifted d (c + 1)) v
+          → PartsCompared s e (Shifted d c) (further 4 v)
       unfolding PartsCompared
-      compared_lam v a j o = subst (PartsCompared s e (Shifted d c)) (sym j) (go v o)
-        where
-          go : (v : Walk) → PartsCompared (slice s 4) (slice e 4) (Shifted d (c + 1)) v → PartsCompared s e (Shifted d c) (further 4 v)
-          go (Upto h) q = (
-            slices_lam s h z q.0,
-            λ x y p t.
-                let u = abstraction_slices s x p z in
-                let v = abstraction_slices e y t (sym k ∙ z) in
-                u.is ∙ ap lam (q.1 u.b v.b u.body v.body ∙ ap (λ (j : ℕ). shift d j v.b) (add-one c))
-                ∙ ap (shift d c) (sym v.is),
-          )
-          go No q = λ x y p t g.
-              let u = abstraction_slices s x p z in
-              let v = abstraction_slices e y t (sym k ∙ z) in
-              q u.b v.b u.body v.body
-              (lam_inj u.b (shift d (suc c) v.b) (sym u.is ∙ g ∙ ap (shift d c) v.is)
-              ∙ ap (λ (j : ℕ). shift d j v.b) (sym (add-one c)))
+      compared_lam (Some h) q = (
+        slices_lam s h z q.0,
+        λ x y p t.
+            let u = abstraction_slices s x p z in
+            let v = abstraction_slices e y t (sym k ∙ z) in
+            u.is ∙ ap lam (q.1 u.b v.b u.body v.body ∙ ap (λ (j : ℕ). shift d j v.b) (add-one c))
+            ∙ ap (shift d c) (sym v.is),
+      )
+      compared_lam None q = λ x y p t g.
+          let u = abstraction_slices s x p z in
+          let v = abstraction_slices e y t (sym k ∙ z) in
+          q u.b v.b u.body v.body
+          (lam_inj u.b (shift d (suc c) v.b) (sym u.is ∙ g ∙ ap (shift d c) v.is)
+          ∙ ap (λ (j : ℕ). shift d j v.b) (sym (add-one c)))
 
     module _ (m n : ℕ) (i : m ≡ number_at s 0) (j : n ≡ number_at e 0) where
-      pub compared_local : Whole s 0 → get_or s 0 0 ≡ 2 → loc m ≡ shift d c (loc n) → PartsCompared s e (Shifted d c) (Upto 4)
+      compared_local : Whole s 0 → get_or s 0 0 ≡ 2 → loc m ≡ shift d c (loc n) → PartsCompared s e (Shifted d c) (Some 4)
       unfolding PartsCompared
       compared_local o z g = (
         slices_leaf s (λ q. omega arith) (λ q. omega arith) o,
         λ x y p t. local_at s 0 m x p z i ∙ g ∙ ap (shift d c) (sym (local_at e 0 n y t (sym k ∙ z) j)),
       )
 
-      pub compared_local_no : get_or s 0 0 ≡ 2 → ¬ (loc m ≡ shift d c (loc n)) → PartsCompared s e (Shifted d c) No
+      compared_local_no : get_or s 0 0 ≡ 2 → ¬ (loc m ≡ shift d c (loc n)) → PartsCompared s e (Shifted d c) None
       unfolding PartsCompared
       compared_local_no z g = λ x y p t f. g (sym (local_at s 0 m x p z i) ∙ f ∙ ap (shift d c) (local_at e 0 n y t (sym k ∙ z) j))
+
+      pub compared_local_says : Whole s 0 → get_or s 0 0 ≡ 2 → (b : Bool) → Says b (loc m ≡ shift d c (loc n))
+          → PartsCompared s e (Shifted d c) (then_some b 4)
+      compared_local_says o z true g = compared_local o z g
+      compared_local_says o z false g = compared_local_no z g
 
       module _ (o : Other s 0) where
         above : (x : Term) → Part s 0 x → 2 < kind x
         above x p = omega (arith, kind_at s 0 x p, o.no_application, o.no_abstraction, o.no_local)
 
-        pub compared_other : Whole s 0 → m ≡ n → PartsCompared s e (Shifted d c) (Upto 4)
+        compared_other : Whole s 0 → m ≡ n → PartsCompared s e (Shifted d c) (Some 4)
         unfolding PartsCompared
         compared_other a g = (
           slices_leaf s o.no_application o.no_abstraction a,
@@ -239,12 +231,19 @@ module _ (s e : List ℕ) (c d : ℕ) where
               same_first x y (above x p) a b ∙ sym (other_shift d c y (subst (λ (q : ℕ). 2 < q) a (above x p))),
         )
 
-        pub compared_other_no : ¬ (m ≡ n) → PartsCompared s e (Shifted d c) No
+        compared_other_no : ¬ (m ≡ n) → PartsCompared s e (Shifted d c) None
         unfolding PartsCompared
         compared_other_no g = λ x y p t f.
             let a : kind x ≡ kind y = sym (kind_at s 0 x p) ∙ k ∙ kind_at e 0 y t in
             let b : x ≡ y = f ∙ other_shift d c y (subst (λ (q : ℕ). 2 < q) a (above x p)) in
             g (i ∙ number_at_lem s 0 x p ∙ ap number_of b ∙ sym (number_at_lem e 0 y t) ∙ sym j)
+
+        pub compared_other_says : Whole s 0 → PartsCompared s e (Shifted d c) (then_some (eqb m n) 4)
+        compared_other_says a = go (eqb m n) refl
+          where
+            go : (b : Bool) → eqb m n ≡ b → PartsCompared s e (Shifted d c) (then_some b 4)
+            go true g = compared_other a (eqb-true m n g)
+            go false g = compared_other_no (eqb-false m n g)
 
 -- a rigid head, by the first record
 module _ (s : List ℕ) where

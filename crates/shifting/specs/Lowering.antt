@@ -5,13 +5,13 @@
 --   Leaves l c d out o after r   that term was moved out of the binders and written into out from byte o on, and takes as many bytes as the
 --                                walk went; or out is as it was before byte o
 --   Lowered l c d out o after r  the same, the first exactly if the term uses none of them
+use Rattle.std.specs.declared.option.Option.{Option}
+use Rattle.std.specs.declared.option.Option.TheVariants.{Some, None}
 use Rattle.std.specs.Prelude.{◌≡◌, List, ℕ, ◌+◌, ◌*◌, ◌≤◌, ◌<◌, length, take}
 use Rattle.terms.specs.Figures.{numbers}
 use Rattle.terms.specs.Term.{Term, size, shift, unshift}
 use Rattle.records.specs.Parts.{Part}
 use Rattle.records.specs.Tests.{Walked}
-use Rattle.records.specs.declared.Walk.{Walk}
-use Rattle.records.specs.declared.Walk.TheVariants.{Upto, No}
 use Rattle.substitution.specs.Writers.{Wrote}
 
 abbrev pub Movable : ℕ → ℕ → Term → Type 0
@@ -30,10 +30,10 @@ pub record Lowers (l : List ℕ) (c d room o : ℕ) : Type 0 where
   pub first : o + 4 ≤ room
 
 -- as many bytes are written as the part has
-unfoldable pub Leaves : List ℕ → ℕ → ℕ → List ℕ → ℕ → List ℕ → Walk → Type 0
-Leaves l c d out o after (Upto h) = Wrote (unshift d) l 0 c out o after h (o + h)
-Leaves l c d out o after No = take o after ≡ take o out
+unfoldable pub Leaves : List ℕ → ℕ → ℕ → List ℕ → ℕ → List ℕ → Option ℕ → Type 0
+Leaves l c d out o after (Some h) = Wrote (unshift d) l 0 c out o after h (o + h)
+Leaves l c d out o after None = take o after ≡ take o out
 
-pub record Lowered (l : List ℕ) (c d : ℕ) (out : List ℕ) (o : ℕ) (after : List ℕ) (r : Walk) : Type 0 where
+pub record Lowered (l : List ℕ) (c d : ℕ) (out : List ℕ) (o : ℕ) (after : List ℕ) (r : Option ℕ) : Type 0 where
   pub walked : Walked l 0 (Movable d c) r
   pub leaves : Leaves l c d out o after r

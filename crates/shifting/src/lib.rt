@@ -17,7 +17,7 @@ ghost use Rattle.shifting.specs.Tests.{PartsComparable, Shifted, PartsCompared};
 ghost use Rattle.shifting.specs.Lowering.{Inside, Lowers, Lowered};
 ghost use Rattle.shifting.specs.Locals.{Marks, Marked};
 
-use records::{Kind, RECORD, Walk};
+use records::{Kind, RECORD};
 
 // Whether the part that s begins with has a rigid head: its first record that is no application is a local or a constant.
 pub fn is_rigid(s: &[u8]) -> bool
@@ -47,47 +47,37 @@ fn is_shifted_local(m: usize, n: usize, d: usize, c: usize) -> bool
 
 // Whether the part that s begins with is the part that e begins with, shifted by d from local c on; and how many bytes it takes. As far as
 // the two agree they have records of the same kinds, so that one length leads from each head to its argument.
-pub fn is_shifted(s: &[u8], e: &[u8], c: usize, d: usize) -> Walk
+pub fn is_shifted(s: &[u8], e: &[u8], c: usize, d: usize) -> Option<usize>
     requires { PartsComparable s.now e.now c d }
     ensures { PartsCompared s.now e.now (Shifted d c) result }
 {
     let k = s[0];
     if k != e[0] {
-        return Walk::No;
+        return None;
     }
     if k == Kind::APPLICATION.code {
-        let head = is_shifted(&s[RECORD..], &e[RECORD..], c, d);
-        let Walk::Upto(h) = head else {
-            return Walk::No;
-        };
-        let next = RECORD + h;
-        return records::further(is_shifted(&s[next..], &e[next..], c, d), next);
+        let next = RECORD + is_shifted(&s[RECORD..], &e[RECORD..], c, d)?;
+        return Some(next + is_shifted(&s[next..], &e[next..], c, d)?);
     }
     if k == Kind::ABSTRACTION.code {
-        return records::further(is_shifted(&s[RECORD..], &e[RECORD..], c + 1, d), RECORD);
+        return Some(RECORD + is_shifted(&s[RECORD..], &e[RECORD..], c + 1, d)?);
     }
     let m = records::number_at(s, 0);
     let n = records::number_at(e, 0);
     if k == Kind::LOCAL.code {
-        if is_shifted_local(m, n, d, c) {
-            return Walk::Upto(RECORD);
-        }
-        return Walk::No;
+        return is_shifted_local(m, n, d, c).then_some(RECORD);
     }
-    if m == n {
-        return Walk::Upto(RECORD);
-    }
-    Walk::No
+    (m == n).then_some(RECORD)
 }
 
 // How many bytes the part that s begins with takes, if it is a copy of the part that e begins with: that part, shifted by the d binders
 // above it. Nearly always their first records are of different kinds, which is told here, without a call of the recursive walk.
-pub fn copy_length(s: &[u8], e: &[u8], d: usize) -> Walk
+pub fn copy_length(s: &[u8], e: &[u8], d: usize) -> Option<usize>
     requires { PartsComparable s.now e.now 0 d }
     ensures { PartsCompared s.now e.now (Shifted d 0) result }
 {
     if s[0] != e[0] {
-        return Walk::No;
+        return None;
     }
     is_shifted(s, e, 0, d)
 }
@@ -116,34 +106,30 @@ pub fn unshifted(n: usize, c: usize, d: usize) -> usize
 
 // Writes the part that s begins with, moved out of d binders, into out from byte o on, and tells how many bytes it takes. Local c of the
 // part belongs to the innermost of them. It stops at the first local that belongs to one.
-pub fn lower_into(s: &[u8], c: usize, d: usize, out: &mut [u8], o: usize) -> Walk
+pub fn lower_into(s: &[u8], c: usize, d: usize, out: &mut [u8], o: usize) -> Option<usize>
     requires { Lowers s.now c d (length out.old) o }
     ensures { Lowered s.now c d out.old o out.new result }
 {
     let kind = s[0];
     if kind == Kind::APPLICATION.code {
         records::put_record(out, o, Kind::APPLICATION, 0);
-        let head = lower_into(&s[RECORD..], c, d, out, o + RECORD);
-        let Walk::Upto(h) = head else {
-            return Walk::No;
-        };
-        let next = RECORD + h;
-        return records::further(lower_into(&s[next..], c, d, out, o + next), next);
+        let next = RECORD + lower_into(&s[RECORD..], c, d, out, o + RECORD)?;
+        return Some(next + lower_into(&s[next..], c, d, out, o + next)?);
     }
     if kind == Kind::ABSTRACTION.code {
         records::put_record(out, o, Kind::ABSTRACTION, 0);
-        return records::further(lower_into(&s[RECORD..], c + 1, d, out, o + RECORD), RECORD);
+        return Some(RECORD + lower_into(&s[RECORD..], c + 1, d, out, o + RECORD)?);
     }
     if kind == Kind::LOCAL.code {
         let n = records::number_at(s, 0);
         if is_inside(n, c, d) {
-            return Walk::No;
+            return None;
         }
         records::put_record(out, o, Kind::LOCAL, unshifted(n, c, d));
-        return Walk::Upto(RECORD);
+        return Some(RECORD);
     }
     copying::copy_into(&s[0..RECORD], out, o);
-    Walk::Upto(RECORD)
+    Some(RECORD)
 }
 
 // Marks each local that the part that s begins with uses and whose binder stands above it and above `depth` more binders. Gives how many

@@ -8,6 +8,12 @@ use Prim.Native.Nat.{ℕ, ◌*◌, ◌-◌, ◌≤◌}
 use native.Mathlib.Omega.{arith}
 use lib.ListN.{length, take, drop}
 use lib.Seq.{length-sets}
+use Rattle.std.specs.declared.result.Result.{Result}
+use Rattle.std.specs.declared.result.Result.TheVariants.{Ok, Err}
+use Rattle.refusals.specs.declared.Refusal.{Refusal}
+use Rattle.normalizing.specs.declared.NormalFault.{NormalFault}
+use Rattle.std.specs.declared.option.Option.{Option}
+use Rattle.std.specs.declared.option.Option.TheVariants.{Some, None}
 use Rattle.terms.specs.Figures.{variables, swept_records, most_sweeps}
 use Rattle.terms.specs.Term.{Term, size, Closed, Below}
 use Rattle.terms.specs.Table.{encode, IsTable}
@@ -23,15 +29,11 @@ use Rattle.assignments.specs.declared.Entry.{Entry}
 use Rattle.assignments.specs.Entries.{Read, Gives}
 use Rattle.assignments.proofs.Entries.{stored_given}
 use Rattle.copying.specs.Equality.{Same}
-use Rattle.sweeping.specs.declared.Length.{Length}
-use Rattle.sweeping.specs.declared.Length.TheVariants.{Records, TooLong}
 use Rattle.sweeping.specs.Swept.{Fillable, WritesSwept, WrittenForm, FormSwept}
 use Rattle.sweeping.proofs.Sweeps.{swept_table, swept_long}
-use Rattle.normalizing.specs.declared.NormalForm.{NormalForm}
 use Rattle.normalizing.specs.Normalized.{Begins, Normalizable, Normalized}
 use Rattle.normalizing.proofs.Sweeps.{normalized_more}
 use Rattle.refusals.specs.Judged.{FilledTables}
-use Rattle.sides.specs.declared.MatchTest.{MatchTest}
 use Rattle.sides.specs.Sides.{SweptSide, Matched, NormalSide}
 
 -- the entries of the line give the values that fill the pattern
@@ -48,7 +50,7 @@ module _ (p l s : List ℕ) (a : List Entry) (r : Read l a variables) (x : Fille
       record { tree = f.term; table = f.table; few = omega (arith, ap size e, x.checked.most); φ = f.φ; gives = gives x.term f }
 
   -- the sweep of the pattern is that of each filled term
-  pub swept_side_of : (out : List ℕ) (q : Length) (after : List ℕ) → WritesSwept p s a out q after → SweptSide p l s out q after
+  pub swept_side_of : (out : List ℕ) (q : Option ℕ) (after : List ℕ) → WritesSwept p s a out q after → SweptSide p l s out q after
   swept_side_of out q after w t f =
       subst (λ (u : Term). FormSwept u out q after) (sym f.is) (w f.term f.φ f.table.0 (gives t f))
 
@@ -62,8 +64,8 @@ pub record SideForm (p l s : List ℕ) (n : ℕ) (after : List ℕ) : Type 0 whe
   pub within : n * 4 ≤ length after
   pub bytes : take (n * 4 - 0) (drop 0 after) ≡ encode (sweep term)
 
-module _ (p l s out : List ℕ) (r : Length) (after : List ℕ) (x : FilledTables p l s) (w : SweptSide p l s out r after) where
-  pub swept_as : (n : ℕ) → length out ≡ 4 * swept_records → r ≡ Records n → SideForm p l s n after
+module _ (p l s out : List ℕ) (r : Option ℕ) (after : List ℕ) (x : FilledTables p l s) (w : SweptSide p l s out r after) where
+  pub swept_as : (n : ℕ) → length out ≡ 4 * swept_records → r ≡ Some n → SideForm p l s n after
   swept_as n h e =
       let q = swept_table x.term out after r n (w x.term x.filled) e h in
       record {
@@ -76,7 +78,7 @@ module _ (p l s out : List ℕ) (r : Length) (after : List ℕ) (x : FilledTable
         bytes = q.bytes;
       }
 
-  pub too_long : r ≡ TooLong → Refused (swept_form_rows p l s) 12
+  pub too_long : r ≡ None → Refused (swept_form_rows p l s) 12
   too_long e = inl ((x.term, x.filled, swept_long x.term out after r (w x.term x.filled) e), refl)
 
 -- a side whose swept forms fit
@@ -95,20 +97,16 @@ module _ (p l s : List ℕ) (n : ℕ) (after : List ℕ) (x : SideForm p l s n a
       e (x.bytes ∙ ap (λ t. encode (sweep t)) (sym (filled_one p l s m.0 x.term m.1 x.filled)) ∙ sym m.2.0)
 
 -- whether it is the recipe
-module _ (p l s out : List ℕ) (r : Length) (after : List ℕ) (x : FilledTables p l s) (w : SweptSide p l s out r after) where
-  pub matched_long : (t : List ℕ) → r ≡ TooLong → Matched p l s t MatchTest.TooLong
+module _ (p l s out : List ℕ) (r : Option ℕ) (after : List ℕ) (x : FilledTables p l s) (w : SweptSide p l s out r after) where
+  pub matched_long : (t : List ℕ) → r ≡ None → Matched p l s t (Err Refusal.SweptForm)
   unfolding Matched
   matched_long t e = too_long p l s out r after x w e
 
 module _ (p l s : List ℕ) (n : ℕ) (after : List ℕ) (x : SideForm p l s n after) where
-  pub matched_yes : (t : List ℕ) → Recipe t → (c : Bool) → Same (take (n * 4 - 0) (drop 0 after)) t c → c ≡ true
-      → Matched p l s t MatchTest.Yes
+  pub matched_says : (t : List ℕ) → Recipe t → (c : Bool) → Same (take (n * 4 - 0) (drop 0 after)) t c → Matched p l s t (Ok c)
   unfolding Matched Same
-  matched_yes t y c q z = (swept_passed p l s n after x, matches p l s n after x t y (subst (Same (take (n * 4 - 0) (drop 0 after)) t) z q))
-
-  pub matched_no : (t : List ℕ) (c : Bool) → Same (take (n * 4 - 0) (drop 0 after)) t c → c ≡ false → Matched p l s t MatchTest.No
-  unfolding Matched Same
-  matched_no t c q z = (swept_passed p l s n after x, matches_not p l s n after x t (subst (Same (take (n * 4 - 0) (drop 0 after)) t) z q))
+  matched_says t y true q = (swept_passed p l s n after x, matches p l s n after x t y q)
+  matched_says t y false q = (swept_passed p l s n after x, matches_not p l s n after x t q)
 
 -- a filled side is a closed term without variables
 pub filled_closed_below : (p l s : List ℕ) (t : Term) → Filled p l s t → Closed 0 t × Below 0 t
@@ -119,18 +117,18 @@ filled_closed_below p l s t f =
     )
 
 -- sweeping it until normal
-module _ (p l s out : List ℕ) (r : Length) (after : List ℕ) (x : FilledTables p l s) (w : SweptSide p l s out r after) where
-  pub normal_long : (q : List ℕ) → r ≡ TooLong → NormalSide p l s NormalForm.TooLong q
+module _ (p l s out : List ℕ) (r : Option ℕ) (after : List ℕ) (x : FilledTables p l s) (w : SweptSide p l s out r after) where
+  pub normal_long : (q : List ℕ) → r ≡ None → NormalSide p l s (Err NormalFault.TooLong) q
   unfolding Normalized
   normal_long q e t f =
       sweep_long_first 1 t (omega arith) (λ h. absurd (omega arith)) most_sweeps (omega arith) (swept_long t out after r (w t f) e)
 
-  module _ (n : ℕ) (e : r ≡ Records n) (h : length after ≡ 4 * swept_records) where
+  module _ (n : ℕ) (e : r ≡ Some n) (h : length after ≡ 4 * swept_records) where
     same_room : length out ≡ 4 * swept_records
     unfolding FormSwept WrittenForm
     same_room =
-        let z : FormSwept x.term out (Records n) after =
-        subst (λ (q : Length). FormSwept x.term out q after) e (w x.term x.filled) in
+        let z : FormSwept x.term out (Some n) after =
+        subst (λ (q : Option ℕ). FormSwept x.term out q after) e (w x.term x.filled) in
         omega (arith, h, ap length z.1.2, length-sets out 0 (encode (sweep x.term)))
 
     first_form : (y : SideForm p l s n after) → Begins after n (sweep y.term)
@@ -148,7 +146,7 @@ module _ (p l s out : List ℕ) (r : Length) (after : List ℕ) (x : FilledTable
           below = below_sweep 0 y.term b.1;
         }
 
-    pub normal_rest : (a : NormalForm) (q : List ℕ) → ((t : Term) → Begins after n t → Normalized (most_sweeps - 1) 0 t a q)
+    pub normal_rest : (a : Result ℕ NormalFault) (q : List ℕ) → ((t : Term) → Begins after n t → Normalized (most_sweeps - 1) 0 t a q)
         → NormalSide p l s a q
     normal_rest a q z t f =
         let y = swept_as p l s out r after x w n same_room e in

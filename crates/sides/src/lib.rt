@@ -15,20 +15,18 @@ ghost use Rattle.records.specs.Checks.{Recipe};
 ghost use Rattle.refusals.specs.Judged.{FilledTables};
 ghost use Rattle.sides.specs.Sides.{SweptSide, Matched, NormalSide};
 
-use normalizing::NormalForm;
+use normalizing::NormalFault;
 use records::{MOST_SWEEPS, RECORD};
-use sweeping::{Length, SWEPT_BYTES};
-
-// Whether a filled pattern sweeps to the recipe.
-#[derive(Clone, Copy)]
-pub enum MatchTest {
-    Yes,
-    No,
-    TooLong,
-}
+use refusals::Refusal;
+use sweeping::SWEPT_BYTES;
 
 // Sweeps a side, filled from a line and a value table.
-pub fn sweep_side(side: &[u8], line: &[u8], values: &[u8], out: &mut [u8; SWEPT_BYTES]) -> Length
+pub fn sweep_side(
+    side: &[u8],
+    line: &[u8],
+    values: &[u8],
+    out: &mut [u8; SWEPT_BYTES],
+) -> Option<usize>
     requires { FilledTables side.now line.now values.now }
     ensures { SweptSide side.now line.now values.now out.old result out.new }
 {
@@ -36,20 +34,21 @@ pub fn sweep_side(side: &[u8], line: &[u8], values: &[u8], out: &mut [u8; SWEPT_
     sweeping::sweep_filled(side, values, a, out)
 }
 
-// Whether the filled pattern sweeps to the recipe.
-pub fn match_recipe(pattern: &[u8], line: &[u8], values: &[u8], recipe: &[u8]) -> MatchTest
+// Whether the filled pattern sweeps to the recipe; the refusal of a form that gets too long.
+pub fn match_recipe(
+    pattern: &[u8],
+    line: &[u8],
+    values: &[u8],
+    recipe: &[u8],
+) -> Result<bool, Refusal>
     requires { FilledTables pattern.now line.now values.now × Recipe recipe.now }
     ensures { Matched pattern.now line.now values.now recipe.now result }
 {
     let mut swept = [0u8; SWEPT_BYTES];
-    let length = sweep_side(pattern, line, values, &mut swept);
-    let Length::Records(n) = length else {
-        return MatchTest::TooLong;
+    let Some(n) = sweep_side(pattern, line, values, &mut swept) else {
+        return Err(Refusal::SweptForm);
     };
-    if copying::same_bytes(&swept[0..n * RECORD], recipe) {
-        return MatchTest::Yes;
-    }
-    MatchTest::No
+    Ok(copying::same_bytes(&swept[0..n * RECORD], recipe))
 }
 
 // Sweeps a filled side until it is normal, at least once and 64 times at most.
@@ -58,13 +57,10 @@ pub fn normalize_side(
     line: &[u8],
     values: &[u8],
     out: &mut [u8; SWEPT_BYTES],
-) -> NormalForm
+) -> Result<usize, NormalFault>
     requires { FilledTables side.now line.now values.now }
     ensures { NormalSide side.now line.now values.now result out.new }
 {
-    let length = sweep_side(side, line, values, out);
-    let Length::Records(n) = length else {
-        return NormalForm::TooLong;
-    };
+    let n = sweep_side(side, line, values, out).ok_or(NormalFault::TooLong)?;
     normalizing::normalize(out, n, MOST_SWEEPS - 1)
 }

@@ -1,12 +1,15 @@
 -- A term compared with a skeleton: what each kind of first record gives. By the skeleton's kind, which the term shares unless it is a hole;
 -- at a hole for closed terms the term's height tells. Assumes nothing.
 use mathlib.Core.Path.{◌≡◌, refl, sym, ap, ap₂, ◌∙◌, subst}
-use mathlib.Core.Bool.{Bool, true, false}
+use mathlib.Core.Bool.{Bool, false}
 use mathlib.Core.List.{List, []}
 use Prim.Native.Nat.{ℕ, ◌+◌, ◌/◌, ◌≤◌}
 use native.Mathlib.Omega.{arith}
 use lib.Dec.{T}
 use lib.ListN.{length, get_or}
+use Rattle.std.specs.Prelude.{is_some}
+use Rattle.std.specs.declared.option.Option.{Option}
+use Rattle.std.specs.declared.option.Option.TheVariants.{Some, None}
 use Rattle.terms.specs.Figures.{table_bytes}
 use Rattle.terms.specs.Term.{Term, app, lam, loc, con, var, size}
 use Rattle.terms.specs.Table.{record_bytes, encode}
@@ -22,9 +25,7 @@ use Rattle.heights.specs.Heights.{height, HeightsAt}
 use Rattle.heights.proofs.Heights.{closed_height, height_closed, heights_first, heights_within, heights_head, heights_argument}
 use Rattle.heights.proofs.Heights.{heights_body, heights_slice}
 use Rattle.instances.specs.declared.Places.{Places}
-use Rattle.instances.specs.declared.Pairing.{Pairing}
-use Rattle.instances.specs.declared.Pairing.TheVariants.{Upto, No}
-use Rattle.instances.specs.Instances.{NearBoth, both_further}
+use Rattle.instances.proofs.Instances.{walk_behind}
 use Rattle.shifting.proofs.Slices.{application_slices, abstraction_slices, slices_argument, slices_app, slices_lam, slices_leaf}
 use Rattle.skeletons.specs.Skeleton.{SkeletonComparable, MayBe}
 use Rattle.skeletons.specs.Compared.{SkeletonCompared}
@@ -98,15 +99,9 @@ record FitReached (c s : List ℕ) (p : Places) : Type 0 where
   fits : (x y : Term) → Part c 0 x → Part s 0 y → Fits x y
 
 module _ (c s : List ℕ) where
-  reached : (p : Places) (r : Pairing) → r ≡ Upto p → SkeletonCompared c s r → FitReached c s p
+  reached : (p : Places) → SkeletonCompared c s (Some p) → FitReached c s p
   unfolding SkeletonCompared
-  reached p r i q =
-      let m : SkeletonCompared c s (Upto p) = subst (SkeletonCompared c s) i q in
-      record { skeleton_ends = m.0; term_ends = m.1; fits = m.2 }
-
-  refused : (r : Pairing) → r ≡ No → SkeletonCompared c s r → (x y : Term) → Part c 0 x → Part s 0 y → ¬ Fits x y
-  unfolding SkeletonCompared
-  refused r i q = let m : SkeletonCompared c s No = subst (SkeletonCompared c s) i q in m
+  reached p m = record { skeleton_ends = m.0; term_ends = m.1; fits = m.2 }
 
 -- a skeleton and a term, with the term's heights from index k on
 comparable : (c s h : List ℕ) (k : ℕ) → Whole c 0 → (y : Term) → Part s 0 y → HeightsAt h k y → length c ≤ table_bytes
@@ -135,15 +130,14 @@ module _ (c s : List ℕ) where
   height_is h z y q =
       heights_first h 0 z.term.tree z.heights ∙ ap height (part_one s 0 z.term.tree y z.term.part q)
 
-  -- a walk further on in two parts comes to bytes that a number can say
-  pub skeleton_compared_near : (h : List ℕ) (n m : ℕ) (r : Pairing) → SkeletonComparable c s h
-      → SkeletonCompared (slice c n) (slice s m) r → NearBoth n m r
+  -- a walk further on in two parts ends within a table
+  pub skeleton_compared_near : (h : List ℕ) (n m : ℕ) (p : Places) → SkeletonComparable c s h
+      → SkeletonCompared (slice c n) (slice s m) (Some p) → (n + p.first ≤ table_bytes) × (m + p.second ≤ table_bytes)
   unfolding SkeletonCompared
-  skeleton_compared_near h n m (Upto p) x q = (
+  skeleton_compared_near h n m p x q = (
     omega (arith, x.skeleton_most, q.0.more, q.0.within, slice_length c n),
     omega (arith, x.term_most, q.1.more, q.1.within, slice_length s m),
   )
-  skeleton_compared_near h n m No x q = tt
 
   module _ (k : get_or c 0 0 ≡ 4) where
     filled : (x y : Term) → Part c 0 x → Fills (number_at c 0) y → Fits x y
@@ -151,25 +145,25 @@ module _ (c s : List ℕ) where
 
     module _ (h : List ℕ) (z : SkeletonComparable c s h) where
       passed : (r : ℕ) → Ends s 0 r → ((y : Term) → Part s 0 y → Fills (number_at c 0) y)
-          → SkeletonCompared c s (Upto (record { first = 4; second = r }))
+          → SkeletonCompared c s (Some (record { first = 4; second = r }))
       unfolding SkeletonCompared
       passed r e f = (slices_leaf c (λ q. omega arith) (λ q. omega arith) z.skeleton, e, λ x y p q. filled x y p (f y q))
 
       pub compared_any : (m r : ℕ) → m ≡ number_at c 0 → m ≡ 0 → Ends s 0 r
-          → SkeletonCompared c s (Upto (record { first = 4; second = r }))
+          → SkeletonCompared c s (Some (record { first = 4; second = r }))
       compared_any m r i o e = passed r e (λ y q. subst (λ (n : ℕ). Fills n y) (sym o ∙ i) tt)
 
-      pub compared_closed : (r : ℕ) → get_or h 0 0 ≡ 0 → Ends s 0 r → SkeletonCompared c s (Upto (record { first = 4; second = r }))
+      pub compared_closed : (r : ℕ) → get_or h 0 0 ≡ 0 → Ends s 0 r → SkeletonCompared c s (Some (record { first = 4; second = r }))
       compared_closed r o e =
           passed r e (λ y q. fills_closed (number_at c 0) y (height_closed 0 y (omega (arith, o, height_is h z y q))))
 
-      pub compared_loose : (m : ℕ) → m ≡ number_at c 0 → ¬ (m ≡ 0) → ¬ (get_or h 0 0 ≡ 0) → SkeletonCompared c s No
+      pub compared_loose : (m : ℕ) → m ≡ number_at c 0 → ¬ (m ≡ 0) → ¬ (get_or h 0 0 ≡ 0) → SkeletonCompared c s None
       unfolding SkeletonCompared
       compared_loose m j o l x y p q f =
           let d = filled_closed (number_at c 0) y (λ n. o (j ∙ n)) (same_fits x y (var (number_at c 0)) y (hole_at c 0 x p k) refl f) in
           l (omega (arith, closed_height 0 y d, height_is h z y q))
 
-  pub skeleton_compared_kinds : ¬ (get_or c 0 0 ≡ 4) → ¬ (get_or c 0 0 ≡ get_or s 0 0) → SkeletonCompared c s No
+  pub skeleton_compared_kinds : ¬ (get_or c 0 0 ≡ 4) → ¬ (get_or c 0 0 ≡ get_or s 0 0) → SkeletonCompared c s None
   unfolding SkeletonCompared
   skeleton_compared_kinds v n = λ x y p q h. n (kind_at c 0 x p ∙ fits_kind x y (not_variable c 0 x p v) h ∙ sym (kind_at s 0 y q))
 
@@ -181,17 +175,17 @@ module _ (c s : List ℕ) where
           let v = application_slices s x.term.tree x.term.part (sym e ∙ w) in
           compares h 4 4 1 u.f v.f u.head v.head (heights_head h 0 x.term.tree x.heights v.f v.a v.is) x
 
-      pub skeleton_compared_stop : (r : Pairing) → r ≡ No → SkeletonCompared (slice c 4) (slice s 4) r → SkeletonCompared c s No
+      pub skeleton_compared_stop : SkeletonCompared (slice c 4) (slice s 4) None → SkeletonCompared c s None
       unfolding SkeletonCompared
-      skeleton_compared_stop r i q = λ x y f g h.
+      skeleton_compared_stop q = λ x y f g h.
           let u = application_slices c x f w in
           let v = application_slices s y g (sym e ∙ w) in
           let k : Fits (app u.f u.a) (app v.f v.a) = same_fits x y (app u.f u.a) (app v.f v.a) u.is v.is h in
-          refused (slice c 4) (slice s 4) r i q u.f v.f u.head v.head k.0
+          q u.f v.f u.head v.head k.0
 
-      module _ (p : Places) (r : Pairing) (i : r ≡ Upto p) (q : SkeletonCompared (slice c 4) (slice s 4) r) where
+      module _ (p : Places) (q : SkeletonCompared (slice c 4) (slice s 4) (Some p)) where
         come : FitReached (slice c 4) (slice s 4) p
-        come = reached (slice c 4) (slice s 4) p r i q
+        come = reached (slice c 4) (slice s 4) p q
 
         -- where the heads and the heights of the term's head end
         pub heads_passed : (h : List ℕ) → SkeletonComparable c s h
@@ -214,32 +208,28 @@ module _ (c s : List ℕ) where
             (slices_argument s p.second x.term.tree come.term_ends v)
             (subst (λ (i : ℕ). HeightsAt h i v.a) k (heights_argument h 0 x.term.tree x.heights v.f v.a v.is)) x
 
-        pub skeleton_compared_app : (o a : Pairing) → a ≡ both_further (4 + p.first) (4 + p.second) o
-            → SkeletonCompared (slice c (4 + p.first)) (slice s (4 + p.second)) o → SkeletonCompared c s a
+        pub skeleton_compared_app : (o : Option Places) → SkeletonCompared (slice c (4 + p.first)) (slice s (4 + p.second)) o
+            → SkeletonCompared c s (walk_behind (4 + p.first) (4 + p.second) o)
         unfolding SkeletonCompared
-        skeleton_compared_app o a d z = subst (SkeletonCompared c s) (sym d) (go o z)
-          where
-            go : (o : Pairing) → SkeletonCompared (slice c (4 + p.first)) (slice s (4 + p.second)) o
-                → SkeletonCompared c s (both_further (4 + p.first) (4 + p.second) o)
-            go (Upto j) m = (
-              slices_app c p.first j.first w come.skeleton_ends m.0,
-              slices_app s p.second j.second (sym e ∙ w) come.term_ends m.1,
-              λ x y f g.
-                  let u = application_slices c x f w in
-                  let v = application_slices s y g (sym e ∙ w) in
-                  same_fits (app u.f u.a) (app v.f v.a) x y (sym u.is) (sym v.is) (
-                    come.fits u.f v.f u.head v.head,
-                    m.2 u.a v.a (slices_argument c p.first x come.skeleton_ends u)
-                        (slices_argument s p.second y come.term_ends v),
-                  ),
-            )
-            go No m = λ x y f g h.
-                let u = application_slices c x f w in
-                let v = application_slices s y g (sym e ∙ w) in
-                let k : Fits (app u.f u.a) (app v.f v.a) =
-                same_fits x y (app u.f u.a) (app v.f v.a) u.is v.is h in
-                m u.a v.a (slices_argument c p.first x come.skeleton_ends u)
-                (slices_argument s p.second y come.term_ends v) k.1
+        skeleton_compared_app (Some j) m = (
+          slices_app c p.first j.first w come.skeleton_ends m.0,
+          slices_app s p.second j.second (sym e ∙ w) come.term_ends m.1,
+          λ x y f g.
+              let u = application_slices c x f w in
+              let v = application_slices s y g (sym e ∙ w) in
+              same_fits (app u.f u.a) (app v.f v.a) x y (sym u.is) (sym v.is) (
+                come.fits u.f v.f u.head v.head,
+                m.2 u.a v.a (slices_argument c p.first x come.skeleton_ends u)
+                    (slices_argument s p.second y come.term_ends v),
+              ),
+        )
+        skeleton_compared_app None m = λ x y f g h.
+            let u = application_slices c x f w in
+            let v = application_slices s y g (sym e ∙ w) in
+            let k : Fits (app u.f u.a) (app v.f v.a) =
+            same_fits x y (app u.f u.a) (app v.f v.a) u.is v.is h in
+            m u.a v.a (slices_argument c p.first x come.skeleton_ends u)
+            (slices_argument s p.second y come.term_ends v) k.1
 
     module _ (w : get_or c 0 0 ≡ 1) where
       pub skeleton_compares_body : (h : List ℕ) → SkeletonComparable c s h → SkeletonComparable (slice c 4) (slice s 4) (slice h 1)
@@ -248,28 +238,25 @@ module _ (c s : List ℕ) where
           let v = abstraction_slices s x.term.tree x.term.part (sym e ∙ w) in
           compares h 4 4 1 u.b v.b u.body v.body (heights_body h 0 x.term.tree x.heights v.b v.is) x
 
-      pub skeleton_compared_lam : (o a : Pairing) → a ≡ both_further 4 4 o → SkeletonCompared (slice c 4) (slice s 4) o
-          → SkeletonCompared c s a
+      pub skeleton_compared_lam : (o : Option Places) → SkeletonCompared (slice c 4) (slice s 4) o
+          → SkeletonCompared c s (walk_behind 4 4 o)
       unfolding SkeletonCompared
-      skeleton_compared_lam o a d z = subst (SkeletonCompared c s) (sym d) (go o z)
-        where
-          go : (o : Pairing) → SkeletonCompared (slice c 4) (slice s 4) o → SkeletonCompared c s (both_further 4 4 o)
-          go (Upto j) m = (
-            slices_lam c j.first w m.0,
-            slices_lam s j.second (sym e ∙ w) m.1,
-            λ x y f g.
-                let u = abstraction_slices c x f w in
-                let v = abstraction_slices s y g (sym e ∙ w) in
-                same_fits (lam u.b) (lam v.b) x y (sym u.is) (sym v.is) (m.2 u.b v.b u.body v.body),
-          )
-          go No m = λ x y f g h.
-              let u = abstraction_slices c x f w in
-              let v = abstraction_slices s y g (sym e ∙ w) in
-              m u.b v.b u.body v.body (same_fits x y (lam u.b) (lam v.b) u.is v.is h)
+      skeleton_compared_lam (Some j) m = (
+        slices_lam c j.first w m.0,
+        slices_lam s j.second (sym e ∙ w) m.1,
+        λ x y f g.
+            let u = abstraction_slices c x f w in
+            let v = abstraction_slices s y g (sym e ∙ w) in
+            same_fits (lam u.b) (lam v.b) x y (sym u.is) (sym v.is) (m.2 u.b v.b u.body v.body),
+      )
+      skeleton_compared_lam None m = λ x y f g h.
+          let u = abstraction_slices c x f w in
+          let v = abstraction_slices s y g (sym e ∙ w) in
+          m u.b v.b u.body v.body (same_fits x y (lam u.b) (lam v.b) u.is v.is h)
 
     module _ (n m : ℕ) (i : n ≡ number_at c 0) (j : m ≡ number_at s 0) where
       pub compared_same : ¬ (get_or c 0 0 ≡ 0) → ¬ (get_or c 0 0 ≡ 1) → (h : List ℕ) → SkeletonComparable c s h → n ≡ m
-          → SkeletonCompared c s (Upto (record { first = 4; second = 4 }))
+          → SkeletonCompared c s (Some (record { first = 4; second = 4 }))
       unfolding SkeletonCompared
       compared_same o l h z b = (
         slices_leaf c o l z.skeleton,
@@ -280,19 +267,16 @@ module _ (c s : List ℕ) where
             (fits_refl x),
       )
 
-      pub skeleton_compared_other : ¬ (get_or c 0 0 ≡ 4) → ¬ (n ≡ m) → SkeletonCompared c s No
+      pub skeleton_compared_other : ¬ (get_or c 0 0 ≡ 4) → ¬ (n ≡ m) → SkeletonCompared c s None
       unfolding SkeletonCompared
       skeleton_compared_other v h = λ x y p q g.
           h (i ∙ number_at_lem c 0 x p ∙ fits_number x y (not_variable c 0 x p v) g ∙ sym (number_at_lem s 0 y q) ∙ sym j)
 
   -- what a walk says of the whole skeleton
-  pub may_be_fits : MayBe c s true
-  unfolding MayBe
-  may_be_fits = tt
-
-  pub may_be_not : (r : Pairing) → r ≡ No → SkeletonCompared c s r → MayBe c s false
-  unfolding MayBe
-  may_be_not r i q = refused c s r i q
+  pub may_be_says : (r : Option Places) → SkeletonCompared c s r → MayBe c s (is_some r)
+  unfolding MayBe SkeletonCompared
+  may_be_says (Some p) q = tt
+  may_be_says None q = q
 
 -- a part of a table, handed on as a slice, and its heights
 module _ (c s : List ℕ) (t : ℕ) where

@@ -7,6 +7,8 @@ use Prim.Native.Nat.{ℕ, ◌≤◌}
 use native.Mathlib.Omega.{arith}
 use lib.ListN.{get_or}
 use lib.Seq.{sets}
+use Rattle.std.specs.declared.option.Option.{Option}
+use Rattle.std.specs.declared.option.Option.TheVariants.{Some, None}
 use Rattle.terms.specs.Figures.{swept_records}
 use Rattle.terms.specs.Term.{Term, app, lam, var, size}
 use Rattle.terms.specs.Sweep.{contract}
@@ -17,8 +19,6 @@ use Rattle.matching.proofs.Skeletons.{fits_apply, fits_abstract, closed_apply}
 use Rattle.matching.proofs.Repeated.{closed_contract}
 use Rattle.records.specs.Tests.{Equals}
 use Rattle.records.proofs.Parts.{at_start}
-use Rattle.sweeping.specs.declared.Length.{Length}
-use Rattle.sweeping.specs.declared.Length.TheVariants.{Records, TooLong}
 use Rattle.sweeping.specs.Swept.{SweptBody, ContractsAbstraction, SweptParts, ContractsApplication, WrittenForm}
 use Rattle.skeletons.specs.Contracted.{ApplicationSkeleton, AbstractionSkeleton, Writes, WritesApplication, WritesAbstraction}
 use Rattle.skeletons.proofs.Tests.{not_variable}
@@ -46,20 +46,20 @@ record Answer (t : Term) (out : List ℕ) (n : ℕ) (after : List ℕ) : Type 0 
   few : n ≤ swept_records
   bytes : after ≡ sets out 0 (encode t)
 
-answer : (t : Term) (out : List ℕ) (r : Length) (n : ℕ) (after : List ℕ) → WrittenForm t out r after → r ≡ Records n
+answer : (t : Term) (out : List ℕ) (r : Option ℕ) (n : ℕ) (after : List ℕ) → WrittenForm t out r after → r ≡ Some n
     → Answer t out n after
 unfolding WrittenForm
 answer t out r n after w e =
-    let x : WrittenForm t out (Records n) after = subst (λ (q : Length). WrittenForm t out q after) e w in
+    let x : WrittenForm t out (Some n) after = subst (λ (q : Option ℕ). WrittenForm t out q after) e w in
     record { sized = x.0; few = x.1; bytes = x.2 }
 
-untouched : (t : Term) (out : List ℕ) (r : Length) (after : List ℕ) → WrittenForm t out r after → r ≡ TooLong → after ≡ out
+untouched : (t : Term) (out : List ℕ) (r : Option ℕ) (after : List ℕ) → WrittenForm t out r after → r ≡ None → after ≡ out
 unfolding WrittenForm
-untouched t out r after w e = let x : WrittenForm t out TooLong after = subst (λ (q : Length). WrittenForm t out q after) e w in x.1
+untouched t out r after w e = let x : WrittenForm t out None after = subst (λ (q : Option ℕ). WrittenForm t out q after) e w in x.1
 
 -- an application
-module _ (f a out : List ℕ) (r : Length) (mid : List ℕ) (w : ContractsApplication f a out r mid) where
-  pub applies_hole : r ≡ TooLong → (n : ℕ) (after : List ℕ) → Hole mid n after → WritesApplication f a out n after
+module _ (f a out : List ℕ) (r : Option ℕ) (mid : List ℕ) (w : ContractsApplication f a out r mid) where
+  pub applies_hole : r ≡ None → (n : ℕ) (after : List ℕ) → Hole mid n after → WritesApplication f a out n after
   applies_hole q n after h = record {
     written = λ x y e g. hole_writes (ApplicationSkeleton x y) out mid after n (any_application x y)
         (untouched (contract (app x y)) out r mid (w x y e g) q) h;
@@ -67,7 +67,7 @@ module _ (f a out : List ℕ) (r : Length) (mid : List ℕ) (w : ContractsApplic
     few = omega (arith, h.0);
   }
 
-  pub applies_contracted : SweptParts f a → ¬ (get_or f 0 0 ≡ 4) → (n : ℕ) → r ≡ Records n → WritesApplication f a out n mid
+  pub applies_contracted : SweptParts f a → ¬ (get_or f 0 0 ≡ 4) → (n : ℕ) → r ≡ Some n → WritesApplication f a out n mid
   applies_contracted p z n q = record {
     written = each;
     some = omega (arith, one.sized, size_pos (contract (app p.head p.argument)));
@@ -101,8 +101,8 @@ abstracts_unsure b out n after h = record {
   few = omega (arith, h.0);
 }
 
-module _ (b out : List ℕ) (r : Length) (mid : List ℕ) (w : ContractsAbstraction b out r mid) where
-  pub abstracts_hole : r ≡ TooLong → (n : ℕ) (after : List ℕ) → Hole mid n after → WritesAbstraction b out n after
+module _ (b out : List ℕ) (r : Option ℕ) (mid : List ℕ) (w : ContractsAbstraction b out r mid) where
+  pub abstracts_hole : r ≡ None → (n : ℕ) (after : List ℕ) → Hole mid n after → WritesAbstraction b out n after
   abstracts_hole q n after h = record {
     written =
         λ x e. hole_writes (AbstractionSkeleton x) out mid after n (any_abstraction x) (untouched (contract (lam x)) out r mid (w x e) q) h;
@@ -110,7 +110,7 @@ module _ (b out : List ℕ) (r : Length) (mid : List ℕ) (w : ContractsAbstract
     few = omega (arith, h.0);
   }
 
-  pub abstracts_contracted : SweptBody b → (t : Bool) → Equals b is_unsure t → t ≡ false → (n : ℕ) → r ≡ Records n
+  pub abstracts_contracted : SweptBody b → (t : Bool) → Equals b is_unsure t → t ≡ false → (n : ℕ) → r ≡ Some n
       → WritesAbstraction b out n mid
   abstracts_contracted p t test o n q = record {
     written = each;

@@ -1,23 +1,24 @@
 -- Tests of a skeleton: holes, and whether the abstraction over it is sure to contract or not. By the term's kind, which its first record
 -- shows. Assumes nothing.
 use mathlib.Core.Path.{◌≡◌, refl, sym, ap, ◌∙◌, subst}
-use mathlib.Core.Bool.{Bool, true, false, ◌&&◌, ◌||◌}
+use mathlib.Core.Bool.{Bool, true, false, not, ◌&&◌, ◌||◌}
 use mathlib.Core.Logic.{◌↔◌}
 use mathlib.Core.List.{List}
 use Prim.Native.Nat.{ℕ}
 use lib.Dec.{T, eqb}
 use lib.ListN.{get_or}
-use borrow.Author.Tests.{eq-eqb, ne_eqb}
+use borrow.Author.Tests.{eq-eqb, ne_eqb, not-true}
+use Rattle.std.specs.Prelude.{is_some, is_none}
+use Rattle.std.specs.declared.option.Option.{Option}
+use Rattle.std.specs.declared.option.Option.TheVariants.{Some, None}
 use Rattle.terms.specs.Term.{Term, app, lam, loc, con, var, is_innermost}
 use Rattle.terms.specs.Table.{encode}
 use Rattle.terms.proofs.Tests.{or_false}
 use Rattle.matching.specs.Skeletons.{has_variable, is_any, is_unsure}
 use Rattle.matching.proofs.Skeletons.{is_variable}
-use Rattle.records.specs.declared.Walk.{Walk}
-use Rattle.records.specs.declared.Walk.TheVariants.{Upto, No}
 use Rattle.records.specs.Record.{number_at}
 use Rattle.records.specs.Parts.{slice, Part, Whole, Tree}
-use Rattle.records.specs.Tests.{Tells, Equals, Walked}
+use Rattle.records.specs.Tests.{Equals, Walked}
 use Rattle.records.proofs.Parts.{kind_at, variable_at, at_start, application, tree_whole, whole_head}
 use Rattle.records.proofs.Slices.{part_slice}
 use Rattle.records.proofs.Tests.{not_false_true}
@@ -53,22 +54,11 @@ exact_two f a = (λ p. or_false (has_variable f) (has_variable a) p, λ p. rw (p
 pub exact_under : (b : Term) → Exact (lam b) ↔ Exact b
 exact_under b = (λ p. p, λ p. p)
 
-module _ (l : List ℕ) (at : ℕ) (P : Term → Type 0) (w : Walk) (x : Walked l at P w) (t : Term) (y : Part l at t) where
-  walked_yes : (h : ℕ) → w ≡ Upto h → P t
-  unfolding Walked
-  walked_yes h e = let z : Walked l at P (Upto h) = subst (Walked l at P) e x in z.1 t y
-
-  walked_not : w ≡ No → ¬ P t
-  unfolding Walked
-  walked_not e = let z : Walked l at P No = subst (Walked l at P) e x in z t y
-
--- a whole table
-module _ (l : List ℕ) (w : Walk) (x : Walked l 0 Exact w) where
-  pub exact_yes : (h : ℕ) → w ≡ Upto h → Tells l Exact true
-  exact_yes h e t b = walked_yes l 0 Exact w x t (at_start l t b) h e
-
-  pub exact_not : w ≡ No → Tells l Exact false
-  exact_not e t b = walked_not l 0 Exact w x t (at_start l t b) e
+-- what `is_none` answers
+pub none_is : (w : Option ℕ) (r : Bool) → is_some w ≡ not r → r ≡ is_none w
+none_is (Some n) r e = not-true r (sym e)
+none_is None true e = refl
+none_is None false e = absurd (subst T (sym e) tt)
 
 -- whether the abstraction is sure
 or_none : (b : Bool) → b ≡ (b || false)
@@ -119,19 +109,12 @@ module _ (b : List ℕ) where
             let v = application b 0 t (at_start b t e) z in
             rw (v.is, local_at g 0 m v.a (argument t e) k i, ne_eqb m 0 h)
 
-        module _ (h : m ≡ 0) (w : Walk) (x : Walked (slice b 4) 0 Exact w) where
-          pub sure_exact : (j : ℕ) → w ≡ Upto j → Equals b is_unsure false
-          sure_exact j q t e =
-              let v = application b 0 t (at_start b t e) z in
-              rw (
-                v.is,
-                local_at g 0 m v.a (argument t e) k i,
-                eq-eqb m 0 h,
-                walked_yes (slice b 4) 0 Exact w x v.f (part_slice b 4 v.f v.head) j q,
-              )
-
-          pub unsure_inexact : w ≡ No → Equals b is_unsure true
-          unsure_inexact q t e =
-              let v = application b 0 t (at_start b t e) z in
-              rw (v.is, local_at g 0 m v.a (argument t e) k i, eq-eqb m 0 h)
-              (not_false_true (has_variable v.f) (walked_not (slice b 4) 0 Exact w x v.f (part_slice b 4 v.f v.head) q))
+        pub sure_exact : m ≡ 0 → (w : Option ℕ) → Walked (slice b 4) 0 Exact w → Equals b is_unsure (is_none w)
+        unfolding Walked
+        sure_exact h (Some j) x t e =
+            let v = application b 0 t (at_start b t e) z in
+            rw (v.is, local_at g 0 m v.a (argument t e) k i, eq-eqb m 0 h, x.1 v.f (part_slice b 4 v.f v.head))
+        sure_exact h None x t e =
+            let v = application b 0 t (at_start b t e) z in
+            rw (v.is, local_at g 0 m v.a (argument t e) k i, eq-eqb m 0 h)
+            (not_false_true (has_variable v.f) (x v.f (part_slice b 4 v.f v.head)))

@@ -29,9 +29,9 @@ ghost use Rattle.skeletons.specs.Contracted.{WritesApplication, WritesAbstractio
 ghost use Rattle.skeletons.specs.Compared.{SkeletonCompared};
 
 use assignments::Entry;
-use instances::{Pairing, Places};
-use records::{Kind, RECORD, VARIABLES, Walk};
-use sweeping::{Length, SWEPT_BYTES};
+use instances::Places;
+use records::{Kind, RECORD, VARIABLES};
+use sweeping::SWEPT_BYTES;
 
 // The number of a hole that any term may stand in.
 const ANY: usize = 0;
@@ -65,34 +65,29 @@ fn apply_skeleton(head: &[u8], argument: &[u8], out: &mut [u8; SWEPT_BYTES]) -> 
     requires { SweptParts head.now argument.now × ¬ (get_or head.now 0 0 ≡ variable_kind) }
     ensures { WritesApplication head.now argument.now out.old result out.new }
 {
-    let length = sweeping::contract_application(head, argument, out);
-    let Length::Records(n) = length else {
-        return hole(ANY, out);
-    };
-    n
+    match sweeping::contract_application(head, argument, out) {
+        Some(n) => n,
+        None => hole(ANY, out),
+    }
 }
 
 // Walks over the part that s begins with if it has no hole.
-fn exact_part(s: &[u8]) -> Walk
+fn exact_part(s: &[u8]) -> Option<usize>
     requires { Whole s.now 0 × (length s.now ≤ table_bytes) }
     ensures { Walked s.now 0 Exact result }
 {
     let kind = s[0];
     if kind == Kind::APPLICATION.code {
-        let head = exact_part(&s[RECORD..]);
-        let Walk::Upto(h) = head else {
-            return Walk::No;
-        };
-        let next = RECORD + h;
-        return records::further(exact_part(&s[next..]), next);
+        let next = RECORD + exact_part(&s[RECORD..])?;
+        return Some(next + exact_part(&s[next..])?);
     }
     if kind == Kind::ABSTRACTION.code {
-        return records::further(exact_part(&s[RECORD..]), RECORD);
+        return Some(RECORD + exact_part(&s[RECORD..])?);
     }
     if kind == Kind::VARIABLE.code {
-        return Walk::No;
+        return None;
     }
-    Walk::Upto(RECORD)
+    Some(RECORD)
 }
 
 // Whether the skeleton c has no hole, so that whatever fits it is c itself.
@@ -100,11 +95,7 @@ pub fn is_exact(c: &[u8]) -> bool
     requires { Tree c.now × (length c.now ≤ table_bytes) }
     ensures { Tells c.now Exact result }
 {
-    let walk = exact_part(c);
-    match walk {
-        Walk::Upto(_) => true,
-        Walk::No => false,
-    }
+    exact_part(c).is_some()
 }
 
 // Whether the abstraction over what the skeleton b stands for may contract or not: b is a hole for any term, an application to such a hole,
@@ -130,11 +121,7 @@ fn is_unsure(body: &[u8]) -> bool
     if records::number_at(argument, 0) != 0 {
         return false;
     }
-    let head = exact_part(&body[RECORD..]);
-    match head {
-        Walk::Upto(_) => false,
-        Walk::No => true,
-    }
+    exact_part(&body[RECORD..]).is_none()
 }
 
 // Writes the skeleton of the abstraction over b, which is a skeleton.
@@ -145,11 +132,10 @@ fn abstract_over(body: &[u8], out: &mut [u8; SWEPT_BYTES]) -> usize
     if is_unsure(body) {
         return hole(ANY, out);
     }
-    let length = sweeping::contract_abstraction(body, out);
-    let Length::Records(n) = length else {
-        return hole(ANY, out);
-    };
-    n
+    match sweeping::contract_abstraction(body, out) {
+        Some(n) => n,
+        None => hole(ANY, out),
+    }
 }
 
 // Writes the skeleton of variable i: its value, which is normal and so its own swept form, or a hole for a closed term,
@@ -163,8 +149,7 @@ fn skeleton_variable(
     requires { Known values.now entries variable }
     ensures { Entered values.now entries variable out.old result out.new }
 {
-    let e = entries[variable];
-    match e {
+    match entries[variable] {
         Entry::Open => hole(CLOSED, out),
         Entry::Assigned(span) => {
             copying::copy_into(assignments::value_of(values, span), out, 0);
@@ -174,7 +159,7 @@ fn skeleton_variable(
 }
 
 // Writes the skeleton of an application: from its head's and its argument's. What a hole is applied to is lost in it, and isn't looked at.
-#[cycle(skeleton_skeleton_abstraction_skeleton_application)]
+#[cycle(skeleton)]
 fn skeleton_application(
     s: &[u8],
     values: &[u8],
@@ -197,7 +182,7 @@ fn skeleton_application(
 }
 
 // Writes the skeleton of an abstraction: from its body's.
-#[cycle(skeleton_skeleton_abstraction_skeleton_application)]
+#[cycle(skeleton)]
 fn skeleton_abstraction(
     s: &[u8],
     values: &[u8],
@@ -216,7 +201,7 @@ fn skeleton_abstraction(
 // Writes the skeleton of the part s, with the values that the entries have in the value table, into out from byte 0 on. Gives its number of
 // records.
 // Constants and locals are their own skeletons.
-#[cycle(skeleton_skeleton_abstraction_skeleton_application)]
+#[cycle(skeleton)]
 pub fn skeleton(
     s: &[u8],
     values: &[u8],
@@ -242,16 +227,16 @@ pub fn skeleton(
 
 // Passes the term that s begins with at the hole that c begins with, if it may stand there: at a hole for closed terms the height that is
 // kept of it tells.
-fn fits_hole(c: &[u8], s: &[u8], heights: &[u8]) -> Pairing
+fn fits_hole(c: &[u8], s: &[u8], heights: &[u8]) -> Option<Places>
     requires { SkeletonComparable c.now s.now heights.now × (get_or c.now 0 0 ≡ variable_kind) }
     ensures { SkeletonCompared c.now s.now result }
 {
     if records::number_at(c, 0) != ANY {
         if heights[0] != 0 {
-            return Pairing::No;
+            return None;
         }
     }
-    Pairing::Upto(Places {
+    Some(Places {
         first: RECORD,
         second: records::end_at(s, 0),
     })
@@ -259,7 +244,7 @@ fn fits_hole(c: &[u8], s: &[u8], heights: &[u8]) -> Pairing
 
 // Walks over the skeleton that c begins with and the term that s begins with together, as far as the term fits. At a hole it passes a whole
 // part of the term. The heights of the term's parts are lent beside it.
-fn fits(c: &[u8], s: &[u8], heights: &[u8]) -> Pairing
+fn fits(c: &[u8], s: &[u8], heights: &[u8]) -> Option<Places>
     requires { SkeletonComparable c.now s.now heights.now }
     ensures { SkeletonCompared c.now s.now result }
 {
@@ -268,29 +253,23 @@ fn fits(c: &[u8], s: &[u8], heights: &[u8]) -> Pairing
         return fits_hole(c, s, heights);
     }
     if kind != s[0] {
-        return Pairing::No;
+        return None;
     }
     if kind == Kind::APPLICATION.code {
-        let head = fits(&c[RECORD..], &s[RECORD..], &heights[1..]);
-        let Pairing::Upto(p) = head else {
-            return Pairing::No;
-        };
-        let n = RECORD + p.first;
-        let m = RECORD + p.second;
-        let argument = fits(&c[n..], &s[m..], &heights[m / RECORD..]);
-        return instances::both_further(argument, n, m);
+        let head = fits(&c[RECORD..], &s[RECORD..], &heights[1..])?;
+        let n = RECORD + head.first;
+        let m = RECORD + head.second;
+        let argument = fits(&c[n..], &s[m..], &heights[m / RECORD..])?;
+        return Some(argument.behind(n, m));
     }
     if kind == Kind::ABSTRACTION.code {
-        let body = fits(&c[RECORD..], &s[RECORD..], &heights[1..]);
-        return instances::both_further(body, RECORD, RECORD);
+        let body = fits(&c[RECORD..], &s[RECORD..], &heights[1..])?;
+        return Some(body.behind(RECORD, RECORD));
     }
     if records::number_at(c, 0) == records::number_at(s, 0) {
-        return Pairing::Upto(Places {
-            first: RECORD,
-            second: RECORD,
-        });
+        return Some(Places::RECORDS);
     }
-    Pairing::No
+    None
 }
 
 // Whether the term that s begins with, whose heights are lent beside it, may be the swept form of a part with the skeleton c.
@@ -298,11 +277,7 @@ pub fn may_be(c: &[u8], s: &[u8], heights: &[u8]) -> bool
     requires { SkeletonComparable c.now s.now heights.now }
     ensures { MayBe c.now s.now result }
 {
-    let walk = fits(c, s, heights);
-    match walk {
-        Pairing::Upto(_) => true,
-        Pairing::No => false,
-    }
+    fits(c, s, heights).is_some()
 }
 
 // Whether a part with the skeleton c, which is no hole, may be an abstraction that comes to the term that the target begins with, with

@@ -14,17 +14,14 @@ pub total_append : (xs ys : List ℕ) → total (xs ++ ys) ≡ total xs + total 
 total_append [] ys = omega arith
 total_append (x ∷ xs) ys = let h = total_append xs ys in omega arith
 
--- the sum in a loop, and at its end
-pub total_more : (ns : List ℕ) (i key sum n : ℕ) → key ≤ length ns → i < key → sum ≡ total (take i ns) → n ≡ get_or ns i 0
+-- the sum in a loop
+pub total_more : (ns : List ℕ) (i sum n : ℕ) → i < length ns → sum ≡ total (take i ns) → n ≡ get_or ns i 0
     → sum + n ≡ total (take (i + 1) ns)
-total_more ns i key sum n g h e f =
+total_more ns i sum n h e f =
     let p : total (take (i + 1) ns) ≡ total (take i ns) + total (get_or ns i 0 ∷ []) =
-    ap (λ (k : ℕ). total (take k ns)) (add-one i) ∙ ap total (take-suc ns i 0 (omega arith))
+    ap (λ (k : ℕ). total (take k ns)) (add-one i) ∙ ap total (take-suc ns i 0 h)
     ∙ total_append (take i ns) (get_or ns i 0 ∷ []) in
     omega arith
-
-pub total_done : (ns : List ℕ) (i key sum : ℕ) → i ≤ key → key ≤ i → sum ≡ total (take i ns) → sum ≡ total (take key ns)
-total_done ns i key sum h g e = e ∙ ap (λ (k : ℕ). total (take k ns)) (let z : i ≡ key = omega arith in z)
 
 pub total_all : (ns : List ℕ) → total (take (length ns) ns) ≡ total ns
 total_all ns = ap total (take_all (length ns) ns (omega arith))

@@ -20,10 +20,8 @@ pub fn records_before(counts: &[u8], key: usize) -> usize
     ensures { (result ≡ total (take key counts.now)) × (result ≤ 255 * key) }
 {
     let mut sum = 0;
-    let mut i = 0;
-    while i < key {
-        sum += records::wide(counts[i]);
-        i += 1;
+    for count in &counts[..key] {
+        sum += records::wide(*count);
     }
     sum
 }

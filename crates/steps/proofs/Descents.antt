@@ -110,7 +110,8 @@ module _ (W : List ℕ) (at o : ℕ) (x : Expandable W at o) where
         )
 
     pub expanded :
-        (U X R : List ℕ) (m : ℕ) → length Z ≡ target_bytes → U ≡ sets W o (record_bytes 0 0 []) → X ≡ sets U (o + 4) (take (n - 0) (drop 0 Y))
+        (U X R : List ℕ) (m : ℕ) → length Z ≡ target_bytes → U ≡ sets W o (record_bytes 0 0 [])
+        → X ≡ sets U (o + 4) (take (n - 0) (drop 0 Y))
         → R ≡ sets X m (record_bytes 2 0 [])
         → m ≡ o + 4 + n → Expanded W at o R (m + 4)
     expanded U X R m z e f g h = record {

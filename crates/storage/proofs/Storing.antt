@@ -67,7 +67,8 @@ module _ (k b : ℕ) (r d t : List ℕ) (h : Storable k b r d t) where
     counts_stored : counts_of d' ≡ set (counts_of d) b (length r / 4)
     counts_stored =
         ap counts_of s.directory
-        ∙ take_sets (counter_bytes (raised (count_at (set d b (length r / 4)) (counter_at k)))) (set d b (length r / 4)) buoys (counter_at k)
+        ∙ take_sets (counter_bytes (raised (count_at (set d b (length r / 4)) (counter_at k)))) (set d b (length r / 4)) buoys
+        (counter_at k)
         (omega arith)
         ∙ take-set-lt buoys d b (length r / 4) h.within
 

@@ -20,7 +20,7 @@ ghost use Rattle.storage.specs.Steps.{Directory, Shelf, Storable};
 
 use counters::COUNTER;
 use records::{BUOYS, RECORD, SHELF_RECORDS};
-use refusals::{Refusal, Verdict};
+use refusals::Refusal;
 
 // The bytes of a directory, and where its counters begin.
 pub const DIRECTORY_BYTES: usize = 24576;
@@ -28,61 +28,61 @@ pub const DIRECTORY_BYTES: usize = 24576;
 const COUNTERS_FROM: usize = BUOYS;
 
 // A buoy's number: 18.
-pub fn judge_buoy(buoy: usize) -> Verdict
+pub fn judge_buoy(buoy: usize) -> Result<(), Refusal>
     ensures { Judged (buoy_rows buoy) (buoy < buoys) result }
 {
     if BUOYS <= buoy {
-        return Verdict::Refused(Refusal::Buoy);
+        return Err(Refusal::Buoy);
     }
-    Verdict::Right
+    Ok(())
 }
 
 // The directory, its length and its counts of records together: 8.
 #[tactic(auto, using(crate::proofs::Judges::counts_bad))]
-pub fn judge_directory(directory: &[u8]) -> Verdict
+pub fn judge_directory(directory: &[u8]) -> Result<(), Refusal>
     ensures { Judged (directory_rows directory.now) (Directory directory.now) result }
 {
     if directory.len() != DIRECTORY_BYTES {
-        return Verdict::Refused(Refusal::Tables);
+        return Err(Refusal::Tables);
     }
     if SHELF_RECORDS < slots::records_before(&directory[0..BUOYS], BUOYS) {
-        return Verdict::Refused(Refusal::Tables);
+        return Err(Refusal::Tables);
     }
-    Verdict::Right
+    Ok(())
 }
 
 // The record table: 8.
-pub fn judge_record_table(table: &[u8]) -> Verdict
+pub fn judge_record_table(table: &[u8]) -> Result<(), Refusal>
     ensures { Judged (record_table_rows table.now) (length table.now ≡ 4 * shelf_records) result }
 {
     if table.len() != RECORD * SHELF_RECORDS {
-        return Verdict::Refused(Refusal::Tables);
+        return Err(Refusal::Tables);
     }
-    Verdict::Right
+    Ok(())
 }
 
 // Whether the buoy has a recipe: 18.
-pub fn judge_held(buoy: usize, directory: &[u8]) -> Verdict
+pub fn judge_held(buoy: usize, directory: &[u8]) -> Result<(), Refusal>
     requires { (buoy < buoys) × Directory directory.now }
     ensures { Judged (absent_rows buoy directory.now) (0 < get_or (counts_of directory.now) buoy 0) result }
 {
     if directory[buoy] == 0 {
-        return Verdict::Refused(Refusal::Buoy);
+        return Err(Refusal::Buoy);
     }
-    Verdict::Right
+    Ok(())
 }
 
 // Whether a recipe has room beside those of the other buoys: 19.
-pub fn judge_room(buoy: usize, recipe: &[u8], directory: &[u8], table: &[u8]) -> Verdict
+pub fn judge_room(buoy: usize, recipe: &[u8], directory: &[u8], table: &[u8]) -> Result<(), Refusal>
     requires { (buoy < buoys) × Shelf directory.now table.now }
     ensures { Judged (room_rows buoy recipe.now directory.now)
         (total (set (counts_of directory.now) buoy (length recipe.now / 4)) ≤ shelf_records) result }
 {
     let n = recipe.len() / RECORD;
     if slots::has_room(&directory[0..BUOYS], table, buoy, n) {
-        return Verdict::Right;
+        return Ok(());
     }
-    Verdict::Refused(Refusal::ShelfRoom)
+    Err(Refusal::ShelfRoom)
 }
 
 // The recipe of a buoy, as a part of the record table; no bytes if there is none.

@@ -10,6 +10,7 @@ use lib.Dec.{T, eqb}
 use lib.ListN.{length, get_or}
 use lib.Seq.{sets}
 use borrow.Author.Tests.{ne_eqb, eq-eqb}
+use Rattle.std.specs.declared.option.Option.TheVariants.{Some, None}
 use Rattle.terms.specs.Figures.{numbers, swept_records}
 use Rattle.terms.specs.Term.{Term, app, lam, loc, con, var, size, Closed, uses, substitute, unshift, is_abstraction, is_innermost, is_eta}
 use Rattle.terms.specs.Sweep.{contract, head_of}
@@ -24,7 +25,6 @@ use Rattle.records.specs.Record.{number_at}
 use Rattle.records.specs.Parts.{slice, Part, Whole}
 use Rattle.records.proofs.Parts.{whole, kind_at, at_start, Application, application, abstraction, argument_part}
 use Rattle.records.proofs.Slices.{part_slice, slice_ends, whole_slice}
-use Rattle.sweeping.specs.declared.Length.TheVariants.{Records, TooLong}
 use Rattle.substitution.specs.Writers.{substitute_for, count, NumbersFit, Wrote, Substitution, UsesCounted}
 use Rattle.sweeping.specs.Swept.{swept_bytes, WrittenForm, SweptParts, ContractsApplication, SweptBody, ContractsAbstraction}
 use Rattle.copying.proofs.Stores.{written_then}
@@ -33,11 +33,11 @@ use Rattle.substitution.proofs.Counts.{count_none, count_some, size_replaced}
 
 -- the two answers
 pub form_written : (t : Term) (out after : List ℕ) (n : ℕ) → 4 * n ≡ 4 * size t → n ≤ swept_records → after ≡ sets out 0 (encode t)
-    → WrittenForm t out (Records n) after
+    → WrittenForm t out (Some n) after
 unfolding WrittenForm
 form_written t out after n e h b = (omega arith, h, b)
 
-pub form_too_long : (t : Term) (out : List ℕ) → swept_records < size t → WrittenForm t out TooLong out
+pub form_too_long : (t : Term) (out : List ℕ) → swept_records < size t → WrittenForm t out None out
 unfolding WrittenForm
 form_too_long t out h = (h, refl)
 
@@ -68,12 +68,12 @@ not_abstraction l (con m) e n = tt
 not_abstraction l (var m) e n = tt
 
 module _ (f a out : List ℕ) (n : ¬ (get_or f 0 0 ≡ 1)) where
-  pub applied_too_long : swept_bytes < 4 + length f + length a → ContractsApplication f a out TooLong out
+  pub applied_too_long : swept_bytes < 4 + length f + length a → ContractsApplication f a out None out
   applied_too_long h x y e g =
       rw (contract_app x y (not_abstraction f x e n)) (form_too_long (app x y) out (omega (arith, table_length f x e, table_length a y g)))
 
   pub applied_written : (p q r : List ℕ) → 4 + length f + length a ≤ swept_bytes → p ≡ sets out 0 (record_bytes 0 0 []) → q ≡ sets p 4 f
-      → r ≡ sets q (4 + length f) a → ContractsApplication f a out (Records ((4 + length f + length a) / 4)) r
+      → r ≡ sets q (4 + length f) a → ContractsApplication f a out (Some ((4 + length f + length a) / 4)) r
   applied_written p q r h u v w x y e g =
       rw (contract_app x y (not_abstraction f x e n))
       (form_written (app x y) out r ((4 + length f + length a) / 4) (omega (arith, table_length f x e, table_length a y g)) (omega arith)
@@ -103,7 +103,7 @@ module _ (f a : List ℕ) (z : get_or f 0 0 ≡ 1) (next n : ℕ) (u : UsesCount
           let j : n * (length a - 4) ≡ 4 * (n * m) = ap (λ (i : ℕ). n * i) l ∙ mul_left_comm n 4 m in
           omega (arith, table_length f x e, ap size v.is)
 
-  pub redex_too_long : (out : List ℕ) → swept_bytes < length f - 4 + n * (length a - 4) → ContractsApplication f a out TooLong out
+  pub redex_too_long : (out : List ℕ) → swept_bytes < length f - 4 + n * (length a - 4) → ContractsApplication f a out None out
   redex_too_long out h x y e g = form_too_long (contract (app x y)) out (omega (arith, redex_size x y e g))
 
   pub redex_substitution : (out : List ℕ) → SweptParts f a → length f - 4 + n * (length a - 4) ≤ length out
@@ -134,7 +134,7 @@ module _ (f a : List ℕ) (z : get_or f 0 0 ≡ 1) (next n : ℕ) (u : UsesCount
 
   pub redex_written : (out after : List ℕ) (to end : ℕ) → length f - 4 + n * (length a - 4) ≤ swept_bytes
       → ((t : Term) → a ≡ encode t → Wrote (substitute_for t) (slice f 4) 0 0 out 0 after to end)
-      → ContractsApplication f a out (Records ((length f - 4 + n * (length a - 4)) / 4)) after
+      → ContractsApplication f a out (Some ((length f - 4 + n * (length a - 4)) / 4)) after
   redex_written out after to end m w x y e g =
       let s = redex_size x y e g in
       form_written (contract (app x y)) out after ((length f - 4 + n * (length a - 4)) / 4) (omega arith) (omega arith)
@@ -262,7 +262,7 @@ module _ (b : List ℕ) (r : Bool) (test : (t : Term) → b ≡ encode t → r �
 
     pub eta_written : (out after : List ℕ) (to end : ℕ) → length b ≤ swept_bytes
         → ((t : Term) → b ≡ encode t → Wrote (substitute_for t) (slice b 4) 0 0 out 0 after to end)
-        → ContractsAbstraction b out (Records (end / 4)) after
+        → ContractsAbstraction b out (Some (end / 4)) after
     eta_written out after to end h w t e =
         let y = at_term t e in
         let q = y.moved t in
@@ -274,11 +274,11 @@ module _ (b : List ℕ) (r : Bool) (test : (t : Term) → b ≡ encode t → r �
     kept : (t : Term) → b ≡ encode t → contract (lam t) ≡ lam t
     kept t e = rw (sym (test t e) ∙ no)
 
-    pub abstracted_too_long : (out : List ℕ) → swept_bytes < 4 + length b → ContractsAbstraction b out TooLong out
+    pub abstracted_too_long : (out : List ℕ) → swept_bytes < 4 + length b → ContractsAbstraction b out None out
     abstracted_too_long out h t e = rw (kept t e) (form_too_long (lam t) out (omega (arith, table_length b t e)))
 
     pub abstracted_written : (out p q : List ℕ) → 4 + length b ≤ swept_bytes → p ≡ sets out 0 (record_bytes 1 0 []) → q ≡ sets p 4 b
-        → ContractsAbstraction b out (Records ((4 + length b) / 4)) q
+        → ContractsAbstraction b out (Some ((4 + length b) / 4)) q
     abstracted_written out p q h u v t e =
         rw (kept t e)
         (form_written (lam t) out q ((4 + length b) / 4) (omega (arith, table_length b t e)) (omega arith)

@@ -10,6 +10,8 @@ use lib.Dec.{T, eqb}
 use lib.ListN.{length, get_or, take, drop}
 use lib.Seq.{sets, length-sets}
 use borrow.Author.Tests.{eq-eqb, eqb-true}
+use Rattle.std.specs.declared.option.Option.{Option}
+use Rattle.std.specs.declared.option.Option.TheVariants.{Some, None}
 use Rattle.terms.specs.Figures.{numbers, swept_records}
 use Rattle.terms.specs.Term.{Term, app, lam, loc, con, var, size, Closed, Normal, Occurs, Value}
 use Rattle.terms.specs.Sweep.{sweep, largest, fill}
@@ -23,11 +25,8 @@ use Rattle.records.specs.Record.{number_at}
 use Rattle.records.proofs.Parts.{kind_at, variable_at, at_start, leaf_size, application_of, abstraction_of}
 use Rattle.assignments.specs.Entries.{Given, Gives}
 use Rattle.assignments.specs.declared.Entry.{Entry}
-use Rattle.sweeping.specs.declared.Length.{Length}
-use Rattle.sweeping.specs.declared.Length.TheVariants.{Records, TooLong}
 use Rattle.sweeping.specs.Swept.{swept_bytes, WrittenForm, FormSwept, SweptParts, ContractsApplication, SweptBody}
-use Rattle.sweeping.specs.Swept.{ContractsAbstraction, HasValue, Sweepable, Fillable}
-use Rattle.sweeping.specs.Swept.{WritesSwept}
+use Rattle.sweeping.specs.Swept.{ContractsAbstraction, HasValue, Sweepable, Fillable, WritesSwept}
 use Rattle.copying.proofs.Stores.{stored}
 use Rattle.sweeping.proofs.Contraction.{form_written, table_length}
 use Rattle.sweeping.proofs.Values.{largest_normal}
@@ -133,11 +132,11 @@ pub record SweptTable (t : Term) (p : List ℕ) (n : ℕ) : Type 0 where
   pub fills : length (take (n * 4 - 0) (drop 0 p)) ≡ 4 * n
   pub within : n * 4 ≤ length p
 
-pub swept_table : (t : Term) (out p : List ℕ) (r : Length) (n : ℕ) → FormSwept t out r p → r ≡ Records n → length out ≡ swept_bytes
+pub swept_table : (t : Term) (out p : List ℕ) (r : Option ℕ) (n : ℕ) → FormSwept t out r p → r ≡ Some n → length out ≡ swept_bytes
     → SweptTable t p n
 unfolding FormSwept WrittenForm
 swept_table t out p r n x e h =
-    let y : FormSwept t out (Records n) p = subst (λ (q : Length). FormSwept t out q p) e x in
+    let y : FormSwept t out (Some n) p = subst (λ (q : Option ℕ). FormSwept t out q p) e x in
     let b = stored out p (encode (sweep t)) (n * 4) y.1.2 (omega (arith, y.1.0, encode_length (sweep t))) (omega (arith, y.1.1)) in
     record {
       records = y.1.0;
@@ -149,53 +148,54 @@ swept_table t out p r n x e h =
       within = omega (arith, y.1.1, ap length y.1.2, length-sets out 0 (encode (sweep t)));
     }
 
-pub swept_long : (t : Term) (out p : List ℕ) (r : Length) → FormSwept t out r p → r ≡ TooLong → swept_records < largest t
+pub swept_long : (t : Term) (out p : List ℕ) (r : Option ℕ) → FormSwept t out r p → r ≡ None → swept_records < largest t
 unfolding FormSwept
-swept_long t out p r x e = let y : FormSwept t out TooLong p = subst (λ (q : Length). FormSwept t out q p) e x in y.0
+swept_long t out p r x e = let y : FormSwept t out None p = subst (λ (q : Option ℕ). FormSwept t out q p) e x in y.0
 
-long : (t : Term) (out : List ℕ) → swept_records < largest t → FormSwept t out TooLong out
+long : (t : Term) (out : List ℕ) → swept_records < largest t → FormSwept t out None out
 unfolding FormSwept
 long t out h = (h, refl)
 
 -- a term that sweeps to u, from what was written for u
-whole_swept : (t u : Term) (out : List ℕ) (r : Length) (after : List ℕ) → sweep t ≡ u → (size u ≤ swept_records → largest t ≤ swept_records)
+whole_swept : (t u : Term) (out : List ℕ) (r : Option ℕ) (after : List ℕ) → sweep t ≡ u
+    → (size u ≤ swept_records → largest t ≤ swept_records)
     → size u ≤ largest t → WrittenForm u out r after → FormSwept t out r after
 unfolding FormSwept WrittenForm
-whole_swept t u out (Records n) after e f g w = (f (omega (arith, w.0, w.1)), rw e w)
-whole_swept t u out TooLong after e f g w = (omega (arith, w.0), w.1)
+whole_swept t u out (Some n) after e f g w = (f (omega (arith, w.0, w.1)), rw e w)
+whole_swept t u out None after e f g w = (omega (arith, w.0), w.1)
 
 -- what the sweeps of the parts are, for every term that the part can be
 module _ (s : List ℕ) (a : List Entry) (out : List ℕ) where
-  pub results : (m p : List ℕ) (r : Length) (n : ℕ) → WritesSwept m s a out r p → r ≡ Records n → length out ≡ swept_bytes
+  pub results : (m p : List ℕ) (r : Option ℕ) (n : ℕ) → WritesSwept m s a out r p → r ≡ Some n → length out ≡ swept_bytes
       → (t : Term) (φ : ℕ → Term) → m ≡ encode t → Gives s a φ t → SweptTable (fill φ t) p n
   results m p r n w e h t φ q g = swept_table (fill φ t) out p r n (w t φ q g) e h
 
-  pub sweepable_few : (m p : List ℕ) (r : Length) (n : ℕ) → WritesSwept m s a out r p → r ≡ Records n → length out ≡ swept_bytes
+  pub sweepable_few : (m p : List ℕ) (r : Option ℕ) (n : ℕ) → WritesSwept m s a out r p → r ≡ Some n → length out ≡ swept_bytes
       → Sweepable m s a → n ≤ swept_records
   sweepable_few m p r n w e h x = (results m p r n w e h x.tree x.φ x.bytes x.gives).few
 
-  pub sweepable_within : (m p : List ℕ) (r : Length) (n : ℕ) → WritesSwept m s a out r p → r ≡ Records n → length out ≡ swept_bytes
+  pub sweepable_within : (m p : List ℕ) (r : Option ℕ) (n : ℕ) → WritesSwept m s a out r p → r ≡ Some n → length out ≡ swept_bytes
       → Sweepable m s a → n * 4 ≤ length p
   sweepable_within m p r n w e h x = (results m p r n w e h x.tree x.φ x.bytes x.gives).within
 
 -- an application
 module _ (l s : List ℕ) (a : List Entry) (z : get_or l 0 0 ≡ 0) (m : List ℕ) (head : (f g : Term) → l ≡ encode (app f g) → m ≡ encode f)
-    (u p : List ℕ) (r : Length) (w : WritesSwept m s a u r p) where
-  pub head_long : (out : List ℕ) → r ≡ TooLong → WritesSwept l s a out TooLong out
+    (u p : List ℕ) (r : Option ℕ) (w : WritesSwept m s a u r p) where
+  pub head_long : (out : List ℕ) → r ≡ None → WritesSwept l s a out None out
   head_long out e t φ q g =
       let v = application_of l t q z in
       let h = swept_long (fill φ v.f) u p r (w v.f φ (head v.f v.a v.bytes) (gives_parts l s a z t φ q g).0) e in
       rw v.is (long (fill φ (app v.f v.a)) out (omega arith))
 
-  module _ (j : List ℕ) (argument : (f g : Term) → l ≡ encode (app f g) → j ≡ encode g) (c : List ℕ) (b : List ℕ) (o : Length)
+  module _ (j : List ℕ) (argument : (f g : Term) → l ≡ encode (app f g) → j ≡ encode g) (c : List ℕ) (b : List ℕ) (o : Option ℕ)
       (y : WritesSwept j s a c o b) where
-    pub argument_long : (out : List ℕ) → o ≡ TooLong → WritesSwept l s a out TooLong out
+    pub argument_long : (out : List ℕ) → o ≡ None → WritesSwept l s a out None out
     argument_long out e t φ q g =
         let v = application_of l t q z in
         let h = swept_long (fill φ v.a) c b o (y v.a φ (argument v.f v.a v.bytes) (gives_parts l s a z t φ q g).1) e in
         rw v.is (long (fill φ (app v.f v.a)) out (omega arith))
 
-    module _ (n k : ℕ) (e : r ≡ Records n) (d : o ≡ Records k) (h : length u ≡ swept_bytes) (i : length c ≡ swept_bytes) where
+    module _ (n k : ℕ) (e : r ≡ Some n) (d : o ≡ Some k) (h : length u ≡ swept_bytes) (i : length c ≡ swept_bytes) where
       both_swept : (t : Term) (φ : ℕ → Term) (q : l ≡ encode t) → Gives s a φ t
           → SweptTable (fill φ (application_of l t q z).f) p n × SweptTable (fill φ (application_of l t q z).a) b k
       both_swept t φ q g =
@@ -225,7 +225,7 @@ module _ (l s : List ℕ) (a : List Entry) (z : get_or l 0 0 ≡ 0) (m : List �
                 (closed_swept s a x.φ x.depth x.tree x.gives x.closed);
           }
 
-      pub sweeps_application : (out : List ℕ) (q : Length) (after : List ℕ)
+      pub sweeps_application : (out : List ℕ) (q : Option ℕ) (after : List ℕ)
           → ContractsApplication (take (n * 4 - 0) (drop 0 p)) (take (k * 4 - 0) (drop 0 b)) out q after → WritesSwept l s a out q after
       sweeps_application out q after x t φ g y =
           let v = application_of l t g z in
@@ -237,14 +237,14 @@ module _ (l s : List ℕ) (a : List Entry) (z : get_or l 0 0 ≡ 0) (m : List �
 
 -- an abstraction
 module _ (l s : List ℕ) (a : List Entry) (z : get_or l 0 0 ≡ 1) (m : List ℕ) (body : (b : Term) → l ≡ encode (lam b) → m ≡ encode b)
-    (u p : List ℕ) (r : Length) (w : WritesSwept m s a u r p) where
-  pub body_long : (out : List ℕ) → r ≡ TooLong → WritesSwept l s a out TooLong out
+    (u p : List ℕ) (r : Option ℕ) (w : WritesSwept m s a u r p) where
+  pub body_long : (out : List ℕ) → r ≡ None → WritesSwept l s a out None out
   body_long out e t φ q g =
       let v = abstraction_of l t q z in
       let h = swept_long (fill φ v.b) u p r (w v.b φ (body v.b v.bytes) (subst (Gives s a φ) v.is g)) e in
       rw v.is (long (fill φ (lam v.b)) out (omega arith))
 
-  module _ (n : ℕ) (e : r ≡ Records n) (h : length u ≡ swept_bytes) where
+  module _ (n : ℕ) (e : r ≡ Some n) (h : length u ≡ swept_bytes) where
     body_swept : (t : Term) (φ : ℕ → Term) (q : l ≡ encode t) → Gives s a φ t → SweptTable (fill φ (abstraction_of l t q z).b) p n
     body_swept t φ q g =
         let v = abstraction_of l t q z in
@@ -265,7 +265,7 @@ module _ (l s : List ℕ) (a : List Entry) (z : get_or l 0 0 ≡ 1) (m : List �
               (closed_swept s a x.φ x.depth x.tree x.gives x.closed);
         }
 
-    pub sweeps_abstraction : (out : List ℕ) (q : Length) (after : List ℕ) → ContractsAbstraction (take (n * 4 - 0) (drop 0 p)) out q after
+    pub sweeps_abstraction : (out : List ℕ) (q : Option ℕ) (after : List ℕ) → ContractsAbstraction (take (n * 4 - 0) (drop 0 p)) out q after
         → WritesSwept l s a out q after
     sweeps_abstraction out q after x t φ g y =
         let v = abstraction_of l t g z in
@@ -274,7 +274,7 @@ module _ (l s : List ℕ) (a : List Entry) (z : get_or l 0 0 ≡ 1) (m : List �
         (λ h. omega (arith, f.all)) (omega arith) (x (sweep (fill φ v.b)) f.bytes))
 
 -- a normal term, which sweeps to itself
-swept_normal : (t : Term) (out : List ℕ) (r : Length) (after : List ℕ) → Normal t → WrittenForm t out r after → FormSwept t out r after
+swept_normal : (t : Term) (out : List ℕ) (r : Option ℕ) (after : List ℕ) → Normal t → WrittenForm t out r after → FormSwept t out r after
 swept_normal t out r after n w =
     whole_swept t t out r after (sweep_normal t n) (λ h. omega (arith, largest_normal t n)) (omega (arith, largest_normal t n)) w
 
@@ -289,7 +289,7 @@ module _ (l s : List ℕ) (a : List Entry) where
         (variable_at l 0 i x.tree (at_start l x.tree x.bytes) k q) x.gives;
   }
 
-  pub sweeps_variable : (i : ℕ) (out : List ℕ) (r : Length) (after : List ℕ) → get_or l 0 0 ≡ 4 → i ≡ number_at l 0
+  pub sweeps_variable : (i : ℕ) (out : List ℕ) (r : Option ℕ) (after : List ℕ) → get_or l 0 0 ≡ 4 → i ≡ number_at l 0
       → ((v : Term) → Given s a i v → WrittenForm v out r after) → WritesSwept l s a out r after
   sweeps_variable i out r after k q w t φ e g =
       let v = variable_at l 0 i t (at_start l t e) k q in
@@ -301,15 +301,15 @@ module _ (l s : List ℕ) (a : List Entry) where
     sweepable_leaf_length x =
         omega (arith, table_length l x.tree x.bytes, leaf_size l 0 x.tree (at_start l x.tree x.bytes) n m)
 
-    pub sweeps_leaf : (out after : List ℕ) → ¬ (get_or l 0 0 ≡ 4) → after ≡ sets out 0 l → WritesSwept l s a out (Records 1) after
+    pub sweeps_leaf : (out after : List ℕ) → ¬ (get_or l 0 0 ≡ 4) → after ≡ sets out 0 l → WritesSwept l s a out (Some 1) after
     sweeps_leaf out after k w = go
       where
-        own : (t : Term) → l ≡ encode t → size t ≡ 1 → WrittenForm t out (Records 1) after
+        own : (t : Term) → l ≡ encode t → size t ≡ 1 → WrittenForm t out (Some 1) after
         own t e h = form_written t out after 1 (omega arith) (omega arith) (w ∙ ap (sets out 0) e)
 
-        go : WritesSwept l s a out (Records 1) after
+        go : WritesSwept l s a out (Some 1) after
         go (app f b) φ e g = absurd (n (kind_at l 0 (app f b) (at_start l (app f b) e)))
         go (lam b) φ e g = absurd (m (kind_at l 0 (lam b) (at_start l (lam b) e)))
-        go (loc i) φ e g = swept_normal (loc i) out (Records 1) after tt (own (loc i) e refl)
-        go (con i) φ e g = swept_normal (con i) out (Records 1) after tt (own (con i) e refl)
+        go (loc i) φ e g = swept_normal (loc i) out (Some 1) after tt (own (loc i) e refl)
+        go (con i) φ e g = swept_normal (con i) out (Some 1) after tt (own (con i) e refl)
         go (var i) φ e g = absurd (k (kind_at l 0 (var i) (at_start l (var i) e)))

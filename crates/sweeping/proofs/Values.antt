@@ -7,6 +7,7 @@ use native.Mathlib.Omega.{arith}
 use native.Mathlib.Decide.{dec_lt}
 use lib.ListN.{length, get_or, take, drop, length-take, length-drop, get_or-eq_default}
 use lib.Seq.{sets}
+use Rattle.std.specs.declared.option.Option.TheVariants.{Some}
 use Rattle.terms.specs.Figures.{swept_records}
 use Rattle.terms.specs.Term.{Term, app, lam, loc, con, var, size, Normal}
 use Rattle.terms.specs.Sweep.{largest}
@@ -16,7 +17,6 @@ use Rattle.assignments.specs.Entries.{Given}
 use Rattle.assignments.specs.declared.Span.{Span}
 use Rattle.assignments.specs.declared.Entry.{Entry}
 use Rattle.assignments.specs.declared.Entry.TheVariants.{Open, Assigned}
-use Rattle.sweeping.specs.declared.Length.TheVariants.{Records}
 use Rattle.sweeping.specs.Swept.{WrittenForm}
 use Rattle.sweeping.proofs.Contraction.{form_written, table_length}
 
@@ -56,7 +56,7 @@ given_below s a i v g = go (dec_lt i (length a))
 
 pub value_written : (s : List ℕ) (x : Span) (v : Term) (out b after : List ℕ) → ValueBytes s x v
     → b ≡ take (4 * x.count) (drop (4 * x.first) s)
-    → after ≡ sets out 0 b → WrittenForm v out (Records x.count) after
+    → after ≡ sets out 0 b → WrittenForm v out (Some x.count) after
 value_written s x v out b after h e q =
     form_written v out after x.count (omega (arith, h.exact)) h.most (q ∙ ap (sets out 0) (e ∙ h.bytes))
 

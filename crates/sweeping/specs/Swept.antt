@@ -13,6 +13,8 @@
 --   Sweepable l s a                        a part of a pattern, as a table, with values for its variables
 --   Fillable l s a                         a pattern, as a table, with values for its variables
 --   WritesSwept l s a out r after          what sweeping either leaves
+use Rattle.std.specs.declared.option.Option.{Option}
+use Rattle.std.specs.declared.option.Option.TheVariants.{Some, None}
 use Rattle.std.specs.Prelude.{◌≡◌, List, ℕ, ◌+◌, ◌*◌, ◌≤◌, ◌<◌, length}
 use Rattle.std.proofs.lemmas.List.Edits.{sets}
 use Rattle.terms.specs.Figures.{numbers, swept_records}
@@ -21,8 +23,6 @@ use Rattle.terms.specs.Sweep.{contract, sweep, largest, fill}
 use Rattle.terms.specs.Table.{encode, IsTable}
 use Rattle.assignments.specs.Entries.{Given, Gives}
 use Rattle.assignments.specs.declared.Entry.{Entry}
-use Rattle.sweeping.specs.declared.Length.{Length}
-use Rattle.sweeping.specs.declared.Length.TheVariants.{Records, TooLong}
 
 abbrev pub swept_bytes : ℕ
 swept_bytes = 4 * swept_records
@@ -32,14 +32,14 @@ swept_bytes = 4 * swept_records
 abbrev pub sweep_records : ℕ
 sweep_records = 384
 
-unfoldable pub WrittenForm : Term → List ℕ → Length → List ℕ → Type 0
-WrittenForm t out (Records n) after = (n ≡ size t) × (n ≤ swept_records) × (after ≡ sets out 0 (encode t))
-WrittenForm t out TooLong after = (swept_records < size t) × (after ≡ out)
+unfoldable pub WrittenForm : Term → List ℕ → Option ℕ → List ℕ → Type 0
+WrittenForm t out (Some n) after = (n ≡ size t) × (n ≤ swept_records) × (after ≡ sets out 0 (encode t))
+WrittenForm t out None after = (swept_records < size t) × (after ≡ out)
 
 -- cause 12: "The swept form of some part of the filled pattern is above 256 records"
-unfoldable pub FormSwept : Term → List ℕ → Length → List ℕ → Type 0
-FormSwept t out (Records n) after = (largest t ≤ swept_records) × WrittenForm (sweep t) out (Records n) after
-FormSwept t out TooLong after = (swept_records < largest t) × (after ≡ out)
+unfoldable pub FormSwept : Term → List ℕ → Option ℕ → List ℕ → Type 0
+FormSwept t out (Some n) after = (largest t ≤ swept_records) × WrittenForm (sweep t) out (Some n) after
+FormSwept t out None after = (swept_records < largest t) × (after ≡ out)
 
 pub record SweptParts (f a : List ℕ) : Type 0 where
   pub head : Term
@@ -54,7 +54,7 @@ pub record SweptParts (f a : List ℕ) : Type 0 where
   pub shallow : depth + swept_records ≤ numbers
   pub closed : Closed depth (contract (app head argument))
 
-abbrev pub ContractsApplication : List ℕ → List ℕ → List ℕ → Length → List ℕ → Type 0
+abbrev pub ContractsApplication : List ℕ → List ℕ → List ℕ → Option ℕ → List ℕ → Type 0
 ContractsApplication f a out r after = (x y : Term) → f ≡ encode x → a ≡ encode y → WrittenForm (contract (app x y)) out r after
 
 pub record SweptBody (b : List ℕ) : Type 0 where
@@ -66,7 +66,7 @@ pub record SweptBody (b : List ℕ) : Type 0 where
   pub shallow : depth + swept_records ≤ numbers
   pub closed : Closed depth (contract (lam body))
 
-abbrev pub ContractsAbstraction : List ℕ → List ℕ → Length → List ℕ → Type 0
+abbrev pub ContractsAbstraction : List ℕ → List ℕ → Option ℕ → List ℕ → Type 0
 ContractsAbstraction b out r after = (t : Term) → b ≡ encode t → WrittenForm (contract (lam t)) out r after
 
 pub record HasValue (s : List ℕ) (a : List Entry) (i : ℕ) : Type 0 where
@@ -90,5 +90,5 @@ pub record Fillable (l s : List ℕ) (a : List Entry) : Type 0 where
   pub φ : ℕ → Term
   pub gives : Gives s a φ tree
 
-abbrev pub WritesSwept : List ℕ → List ℕ → List Entry → List ℕ → Length → List ℕ → Type 0
+abbrev pub WritesSwept : List ℕ → List ℕ → List Entry → List ℕ → Option ℕ → List ℕ → Type 0
 WritesSwept l s a out r after = (t : Term) (φ : ℕ → Term) → l ≡ encode t → Gives s a φ t → FormSwept (fill φ t) out r after

@@ -22,15 +22,8 @@ use records::{Kind, RECORD, SWEPT_RECORDS, VARIABLES};
 // The bytes of the longest swept form that is written.
 pub const SWEPT_BYTES: usize = RECORD * SWEPT_RECORDS;
 
-// The records of a swept form, or that it has too many.
-#[derive(Clone, Copy)]
-pub enum Length {
-    Records(usize),
-    TooLong,
-}
-
 // Contracts the application of a head, which is an abstraction, to an argument, both swept.
-fn contract_redex(head: &[u8], argument: &[u8], out: &mut [u8; SWEPT_BYTES]) -> Length
+fn contract_redex(head: &[u8], argument: &[u8], out: &mut [u8; SWEPT_BYTES]) -> Option<usize>
     requires { SweptParts head.now argument.now × (get_or head.now 0 0 ≡ abstraction_kind) }
     ensures { ContractsApplication head.now argument.now out.old result out.new }
 {
@@ -39,14 +32,18 @@ fn contract_redex(head: &[u8], argument: &[u8], out: &mut [u8; SWEPT_BYTES]) -> 
     // each use is one record of the body, and all of the argument's records take its place
     let bytes = head.len() - RECORD + uses.count * (argument.len() - RECORD);
     if bytes > SWEPT_BYTES {
-        return Length::TooLong;
+        return None;
     }
     substitution::substitute_into(body, 0, argument, out, 0);
-    Length::Records(bytes / RECORD)
+    Some(bytes / RECORD)
 }
 
 // Contracts the application of a head to an argument, both swept.
-pub fn contract_application(head: &[u8], argument: &[u8], out: &mut [u8; SWEPT_BYTES]) -> Length
+pub fn contract_application(
+    head: &[u8],
+    argument: &[u8],
+    out: &mut [u8; SWEPT_BYTES],
+) -> Option<usize>
     requires { SweptParts head.now argument.now }
     ensures { ContractsApplication head.now argument.now out.old result out.new }
 {
@@ -55,12 +52,12 @@ pub fn contract_application(head: &[u8], argument: &[u8], out: &mut [u8; SWEPT_B
     }
     let n = RECORD + head.len() + argument.len();
     if n > SWEPT_BYTES {
-        return Length::TooLong;
+        return None;
     }
     records::put_record(out, 0, Kind::APPLICATION, 0);
     copying::copy_into(head, out, RECORD);
     copying::copy_into(argument, out, RECORD + head.len());
-    Length::Records(n / RECORD)
+    Some(n / RECORD)
 }
 
 // Whether the abstraction over the body contracts: the body is `M #0`, and M doesn't use that local and isn't itself an abstraction.
@@ -86,22 +83,22 @@ fn contracts(body: &[u8]) -> bool
 }
 
 // Contracts the abstraction over a body, which is swept.
-pub fn contract_abstraction(body: &[u8], out: &mut [u8; SWEPT_BYTES]) -> Length
+pub fn contract_abstraction(body: &[u8], out: &mut [u8; SWEPT_BYTES]) -> Option<usize>
     requires { SweptBody body.now }
     ensures { ContractsAbstraction body.now out.old result out.new }
 {
     if contracts(body) {
         // M doesn't use the local, so nothing is put for it, whatever is given here: M moves out
         let m = substitution::substitute_into(&body[RECORD..], 0, body, out, 0);
-        return Length::Records(m.end / RECORD);
+        return Some(m.end / RECORD);
     }
     let n = RECORD + body.len();
     if n > SWEPT_BYTES {
-        return Length::TooLong;
+        return None;
     }
     records::put_record(out, 0, Kind::ABSTRACTION, 0);
     copying::copy_into(body, out, RECORD);
-    Length::Records(n / RECORD)
+    Some(n / RECORD)
 }
 
 // Writes the value of a variable, which is normal and so its own swept form.
@@ -110,77 +107,62 @@ fn write_value(
     values: &[u8],
     entries: [Entry; VARIABLES],
     out: &mut [u8; SWEPT_BYTES],
-) -> Length
+) -> Option<usize>
     requires { HasValue values.now entries variable }
     ensures { (v : Term) → Given values.now entries variable v
         → WrittenForm v out.old result out.new }
 {
-    let e = entries[variable];
-    match e {
+    let Entry::Assigned(span) = entries[variable] else {
         // never so: a variable that occurs is assigned
-        Entry::Open => Length::TooLong,
-        Entry::Assigned(span) => {
-            copying::copy_into(assignments::value_of(values, span), out, 0);
-            Length::Records(span.count)
-        }
-    }
+        return None;
+    };
+    copying::copy_into(assignments::value_of(values, span), out, 0);
+    Some(span.count)
 }
 
 // Sweeps an application: its head, its argument, and then the two together.
-#[cycle(sweep_abstraction_sweep_application_sweep_part)]
+#[cycle(sweep)]
 fn sweep_application(
     s: &[u8],
     values: &[u8],
     entries: [Entry; VARIABLES],
     out: &mut [u8; SWEPT_BYTES],
-) -> Length
+) -> Option<usize>
     requires { Sweepable s.now values.now entries × (get_or s.now 0 0 ≡ application_kind) }
     ensures { WritesSwept s.now values.now entries out.old result out.new }
 {
     let mut head = [0u8; SWEPT_BYTES];
-    let first = sweep_part(records::head_of(s), values, entries, &mut head);
-    let Length::Records(n) = first else {
-        return Length::TooLong;
-    };
+    let n = sweep_part(records::head_of(s), values, entries, &mut head)? * RECORD;
     let mut argument = [0u8; SWEPT_BYTES];
-    let second = sweep_part(records::argument_of(s), values, entries, &mut argument);
-    let Length::Records(m) = second else {
-        return Length::TooLong;
-    };
-    let n = n * RECORD;
-    let m = m * RECORD;
+    let m = sweep_part(records::argument_of(s), values, entries, &mut argument)? * RECORD;
     contract_application(&head[0..n], &argument[0..m], out)
 }
 
 // Sweeps an abstraction: its body, and then the abstraction over it.
-#[cycle(sweep_abstraction_sweep_application_sweep_part)]
+#[cycle(sweep)]
 fn sweep_abstraction(
     s: &[u8],
     values: &[u8],
     entries: [Entry; VARIABLES],
     out: &mut [u8; SWEPT_BYTES],
-) -> Length
+) -> Option<usize>
     requires { Sweepable s.now values.now entries × (get_or s.now 0 0 ≡ abstraction_kind) }
     ensures { WritesSwept s.now values.now entries out.old result out.new }
 {
     let mut body = [0u8; SWEPT_BYTES];
-    let swept = sweep_part(records::body_of(s), values, entries, &mut body);
-    let Length::Records(n) = swept else {
-        return Length::TooLong;
-    };
-    let n = n * RECORD;
+    let n = sweep_part(records::body_of(s), values, entries, &mut body)? * RECORD;
     contract_abstraction(&body[0..n], out)
 }
 
 // Sweeps a part of the pattern by its kind. Constants and locals sweep to themselves. Abstractions come first: compiled in this order, the
 // tables of `sweep_application` are not in this function's frame, which halves the stack that a deep term takes.
-#[cycle(sweep_abstraction_sweep_application_sweep_part)]
+#[cycle(sweep)]
 fn sweep_part(
     s: &[u8],
     values: &[u8],
     entries: [Entry; VARIABLES],
     out: &mut [u8; SWEPT_BYTES],
-) -> Length
+) -> Option<usize>
     requires { Sweepable s.now values.now entries }
     ensures { WritesSwept s.now values.now entries out.old result out.new }
 {
@@ -195,7 +177,7 @@ fn sweep_part(
         return write_value(records::number_at(s, 0), values, entries, out);
     }
     copying::copy_into(s, out, 0);
-    Length::Records(1)
+    Some(1)
 }
 
 // Writes the swept form of the pattern s, filled with the values that the entries have in the value table, into out from byte 0 on.
@@ -204,7 +186,7 @@ pub fn sweep_filled(
     values: &[u8],
     entries: [Entry; VARIABLES],
     out: &mut [u8; SWEPT_BYTES],
-) -> Length
+) -> Option<usize>
     requires { Fillable s.now values.now entries }
     ensures { WritesSwept s.now values.now entries out.old result out.new }
 {

@@ -41,7 +41,8 @@ is_proper_substitute : (k : ℕ) (e t : Term) → T (not (is_proper t)) → T (n
 is_proper_substitute k e (app f a) h = rw (is_eta_substitute k e (app f a))
     (and_not (is_eta (app f a)) (is_abstraction f) (is_abstraction (substitute (suc k) e f)) (is_abstraction_substitute (suc k) e f) h)
 is_proper_substitute k e (lam b) h = tt
-is_proper_substitute k e (loc n) h = by_substitute (λ s. T (not (is_proper s))) (suc k) e n (λ l. tt) (λ l. rw (is_eta_below k e) tt) (λ l. tt)
+is_proper_substitute k e (loc n) h = by_substitute (λ s. T (not (is_proper s))) (suc k) e n (λ l. tt) (λ l. rw (is_eta_below k e) tt)
+    (λ l. tt)
 is_proper_substitute k e (con n) h = tt
 is_proper_substitute k e (var n) h = tt
 

@@ -24,18 +24,18 @@
 
 #![tactic(auto)]
 
-use enumeration::ListAnswer;
-use notation::{STDIN, build_field, field, find, lend_field, letter_of, say_heading};
+use notation::{STDIN, build_field, field, lend_field, letter_of, say_heading};
 use records::TABLE_BYTES;
+use refusals::Refusal;
 use test_book::apply;
-use test_report::{marked, say_listing, say_operation, say_unlisted, say_work, short};
+use test_report::{SHORT, filled, marked, say_listing, say_operation, say_unlisted, say_work};
 use test_rewriting::{check, rewrite, sweep};
 use test_shelf::walk;
 
-fn say_list(answer: ListAnswer, lines: &[u8], values: &[u8]) {
+fn say_list(answer: Result<usize, Refusal>, lines: &[u8], values: &[u8]) {
     match answer {
-        ListAnswer::Lines(n) => say_listing(n, lines, values),
-        ListAnswer::Refused(c) => say_unlisted(c, lines, values),
+        Ok(n) => say_listing(n, lines, values),
+        Err(c) => say_unlisted(c, lines, values),
     }
 }
 
@@ -45,8 +45,8 @@ fn run_list(pattern: &[u8], recipe: &[u8], lines: &mut [u8], values: &mut [u8], 
 }
 
 fn list(case: &[u8]) {
-    let mut p = short();
-    let mut r = short();
+    let mut p = filled::<SHORT>(0);
+    let mut r = filled::<SHORT>(0);
     let mut l = marked();
     let mut v = marked();
     let mut w = marked();
@@ -65,8 +65,7 @@ fn list(case: &[u8]) {
 }
 
 fn run(case: &[u8]) {
-    let letter = letter_of(field(case, 1));
-    match letter {
+    match letter_of(field(case, 1)) {
         b'l' => list(case),
         b'c' => check(case),
         b's' => sweep(case),
@@ -77,17 +76,10 @@ fn run(case: &[u8]) {
     }
 }
 
-fn run_all(cases: &[u8]) {
-    let mut at = 0;
-    while at < cases.len() {
-        let end = find(cases, at, b'\n');
-        run(&cases[at..end]);
-        at = end + 1;
-    }
-}
-
 fn main() {
     let mut cases = io::large_buffer();
     let n = io::read_full(STDIN, &mut cases);
-    run_all(&cases[..n]);
+    for line in cases[..n].split_inclusive(|c| *c == b'\n') {
+        run(line.strip_suffix(b"\n").unwrap_or(line));
+    }
 }

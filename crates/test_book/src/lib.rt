@@ -12,10 +12,11 @@
 ghost use Rattle.std.specs.Prelude.{◌≤◌, ◌≡◌, length};
 ghost use Rattle.terms.specs.Figures.{place_bytes};
 
-use book::BookAnswer;
-use notation::{STDOUT, build, build_field, bytes_in, field, find, lend_field, put_number, say};
+use book::NewRecipe;
+use notation::{STDOUT, build, build_field, bytes_in, field, lend_field, put_number, say};
 use records::{PATTERN_RECORDS, PLACE, RECORD, TABLE_BYTES};
-use test_report::{marked, say_operation, say_records, say_untouched, say_work, short};
+use refusals::Refusal;
+use test_report::{SHORT, filled, marked, say_operation, say_records, say_untouched, say_work};
 
 // The bytes of a rule's side.
 const SIDE: usize = RECORD * PATTERN_RECORDS;
@@ -25,12 +26,6 @@ const ROOM: usize = 253 * PLACE;
 
 // What stands behind the records of a rule's sides: nothing that is a record.
 const UNREAD: u8 = 255;
-
-fn room() -> [u8; ROOM]
-    ensures { 65780 ≡ length result }
-{
-    [UNREAD; ROOM]
-}
 
 // Puts a rule in its place: the records of both sides, and then their counts.
 fn put_rule(left: &[u8], right: &[u8], place: &mut [u8])
@@ -47,15 +42,14 @@ fn put_entry(entry: &[u8], places: &mut [u8], at: usize) -> usize
     requires { at ≤ length places.old }
     ensures { result ≤ length places.new }
 {
-    let arrow = find(entry, 0, b'>');
-    if arrow == entry.len() {
+    let Some(arrow) = entry.iter().position(|c| *c == b'>') else {
         return at + build(entry, &mut places[at..]);
-    }
+    };
     if places.len() - at < PLACE {
         return at;
     }
     put_rule(
-        &entry[0..arrow],
+        &entry[..arrow],
         &entry[arrow + 1..],
         &mut places[at..at + PLACE],
     );
@@ -64,53 +58,35 @@ fn put_entry(entry: &[u8], places: &mut [u8], at: usize) -> usize
 
 // How many times an entry stands in the book: the number before `x`. It has no sign, so that `build` takes it for no item.
 fn times_of(entry: &[u8]) -> usize {
-    let end = find(entry, 0, b'x');
-    if end == entry.len() {
-        return 1;
+    match entry.iter().position(|c| *c == b'x') {
+        Some(end) => bytes_in(&entry[..end], 1),
+        None => 1,
     }
-    bytes_in(&entry[0..end], 1)
-}
-
-fn put_entries(entry: &[u8], places: &mut [u8], at: usize) -> usize
-    requires { at ≤ length places.old }
-    ensures { result ≤ length places.new }
-{
-    let times = times_of(entry);
-    let mut end = at;
-    let mut i = 0;
-    while i < times {
-        end = put_entry(entry, places, end);
-        i += 1;
-    }
-    end
 }
 
 // Builds the book that a text writes, and gives its length.
 fn build_book(text: &[u8], places: &mut [u8]) -> usize
     ensures { result ≤ length places.new }
 {
-    let mut end = 0;
     let mut at = 0;
-    while at < text.len() {
-        let comma = find(text, at, b',');
-        end = put_entries(&text[at..comma], places, end);
-        at = comma + 1;
+    for entry in text.split(|c| *c == b',') {
+        for _ in 0..times_of(entry) {
+            at = put_entry(entry, places, at);
+        }
     }
-    end
+    at
 }
 
 // Prints the number of pairs, and then the new recipe.
-fn say_pairs(pairs: usize, n: usize, out: &[u8]) {
-    say(b"pairs ");
-    io::print_decimal(STDOUT, pairs as u64);
-    say(b", ");
-    say_records(n, out);
-}
-
-fn say_book(answer: BookAnswer, out: &[u8]) {
+fn say_book(answer: Result<NewRecipe, Refusal>, out: &[u8]) {
     match answer {
-        BookAnswer::Records(n, pairs) => say_pairs(pairs, n, out),
-        BookAnswer::Refused(c) => say_untouched(c, out),
+        Ok(new) => {
+            say(b"pairs ");
+            io::print_decimal(STDOUT, new.pairs as u64);
+            say(b", ");
+            say_records(new.records, out);
+        }
+        Err(c) => say_untouched(c, out),
     }
 }
 
@@ -129,10 +105,10 @@ fn apply_in(case: &[u8], places: &[u8], recipe: &[u8]) {
 }
 
 pub fn apply(case: &[u8]) {
-    let mut b = room();
-    let mut r = short();
+    let mut b = filled::<ROOM>(UNREAD);
+    let mut r = filled::<SHORT>(0);
     say_operation(case);
     let end = build_book(field(case, 2), &mut b);
     let recipe = build_field(case, 3, &mut r);
-    apply_in(case, &b[0..end], recipe);
+    apply_in(case, &b[..end], recipe);
 }

@@ -22,76 +22,74 @@
 
 #![tactic(auto)]
 
-use notation::{STDIN, bytes_in, field, find, letter_of, say_heading, within};
-use records::RECORD;
-use test_cases::entry_room;
+use notation::{STDIN, bytes_in, field, letter_of, say_heading, within};
+use test_cases::ENTRIES;
+use test_draw::generate::Shape;
 use test_groups::{try_example, try_group};
-use test_pool::widen;
-use test_totals::{NUMBERS, SIZE, add_all, say_example, say_group, say_line, tally_expected};
+use test_pool::{Terms, widen};
+use test_report::filled;
+use test_totals::Totals;
 
-// The number of the refusal that is expected, or 0.
-fn refusal_in(case: &[u8]) -> usize {
-    bytes_in(field(case, 5), 0) % NUMBERS
+fn run_example(case: &[u8], terms: Terms<'_>, all: &mut Totals) {
+    let mut totals = Totals::NONE;
+    let count = try_example(case, terms, &mut totals);
+    let expected = bytes_in(field(case, 4), 0);
+    let refusal = bytes_in(field(case, 5), 0);
+    totals.tally_expected(count, expected, refusal);
+    totals.say_example(field(case, 0), refusal);
+    all.add(&totals);
 }
 
-fn run_example(case: &[u8], entries: &[u8], values: &[u8], all: &mut [u64; SIZE]) {
-    let mut totals = [0u64; SIZE];
-    let count = try_example(case, entries, values, &mut totals);
-    let refusal = refusal_in(case);
-    tally_expected(count, bytes_in(field(case, 4), 0), refusal, &mut totals);
-    say_example(field(case, 0), &totals, refusal);
-    add_all(all, &totals);
-}
-
-fn run_group(case: &[u8], entries: &[u8], values: &[u8], all: &mut [u64; SIZE]) {
-    let mut totals = [0u64; SIZE];
-    let shape = bytes_in(field(case, 2), 0);
+fn run_group(case: &[u8], terms: Terms<'_>, all: &mut Totals) {
+    let mut totals = Totals::NONE;
+    let shape = Shape::numbered(bytes_in(field(case, 2), 0));
     let seed = bytes_in(field(case, 3), 0) as u64;
     let cases = bytes_in(field(case, 4), 0);
-    try_group(shape, seed, cases, entries, values, &mut totals);
-    say_group(field(case, 0), &totals);
-    add_all(all, &totals);
+    try_group(shape, seed, cases, terms, &mut totals);
+    totals.say_group(field(case, 0));
+    all.add(&totals);
 }
 
-fn run(case: &[u8], entries: &[u8], values: &[u8], wide: &[u8], all: &mut [u64; SIZE]) {
-    let letter = letter_of(field(case, 1));
-    match letter {
-        b'l' => run_example(case, entries, values, all),
-        b'w' => run_example(case, entries, wide, all),
-        b'r' => run_group(case, entries, wide, all),
-        b't' => say_line(field(case, 0), all, bytes_in(field(case, 2), 0)),
+fn run(case: &[u8], terms: Terms<'_>, wide: Terms<'_>, all: &mut Totals) {
+    match letter_of(field(case, 1)) {
+        b'l' => run_example(case, terms, all),
+        b'w' => run_example(case, wide, all),
+        b'r' => run_group(case, wide, all),
+        b't' => all.say_line(field(case, 0), bytes_in(field(case, 2), 0)),
         _ => say_heading(case),
     }
 }
 
-fn run_all(cases: &[u8], entries: &[u8], values: &[u8], wide: &[u8], all: &mut [u64; SIZE]) {
-    let mut at = 0;
-    while at < cases.len() {
-        let end = find(cases, at, b'\n');
-        run(&cases[at..end], entries, values, wide, all);
-        at = end + 1;
-    }
-}
-
-// Fills the part of the value table that list is not lent, and gives the bytes of the entries.
-fn fill_pool(values: &mut [u8], entries: &mut [u8]) -> usize {
-    let lent = within(test_tables::LENT, values);
-    test_pool::fill(&mut values[lent..], entries, test_tables::LENT / RECORD)
-}
-
-fn run_with(entries: &[u8], values: &[u8], wide: &[u8]) {
+fn run_with(terms: Terms<'_>, wide: Terms<'_>) {
     let mut cases = io::large_buffer();
-    let mut all = [0u64; SIZE];
+    let mut all = Totals::NONE;
     let n = io::read_full(STDIN, &mut cases);
-    run_all(&cases[..n], entries, values, wide, &mut all);
+    for line in cases[..n].split_inclusive(|c| *c == b'\n') {
+        run(
+            line.strip_suffix(b"\n").unwrap_or(line),
+            terms,
+            wide,
+            &mut all,
+        );
+    }
 }
 
 fn main() {
     let mut values = io::large_buffer();
-    let mut wide = io::large_buffer();
-    let mut entries = entry_room();
-    let filled = fill_pool(&mut values, &mut entries);
-    let end = within(filled, &entries);
-    widen(&values, &mut wide);
-    run_with(&entries[..end], &values, &wide);
+    let mut room = filled::<ENTRIES>(0);
+    // The part of the value table that list is not lent.
+    let end = test_pool::fill(test_tables::LENT, &mut values, &mut room);
+    let mut wide = values;
+    widen(&mut wide);
+    let entries = &room[..within(end, &room)];
+    run_with(
+        Terms {
+            entries,
+            values: &values,
+        },
+        Terms {
+            entries,
+            values: &wide,
+        },
+    );
 }

@@ -2,345 +2,222 @@
 
 ghost use Rattle.std.specs.Prelude.{◌≤◌, length};
 
-use crate::random::draw;
-use notation::put_record;
-use records::{Kind, VARIABLES};
+use crate::random::Random;
+use notation::within;
+use records::VARIABLES;
 use test_pool::wide_constant;
-use test_scan::scan::{is_in, past, under};
+use test_pool::writer::Writer;
+use test_scan::scan::{Locals, Node};
 
-// What a pattern is to have many of; 0 is nothing special.
-pub const BETA: usize = 1;
+// What a term is to have many of.
+#[derive(Clone, Copy, PartialEq, Eq)]
+pub enum Shape {
+    // Nothing special.
+    Plain,
+    Beta,
+    Eta,
+    // Redexes of both kinds.
+    Both,
+    // The same variables.
+    Repeated,
+    Locals,
+    // Each variable.
+    All,
+    // No variable at all: a recipe, though perhaps not a normal one.
+    Ground,
+}
 
-pub const ETA: usize = 2;
-
-pub const BOTH: usize = 3;
-
-pub const REPEATED: usize = 4;
-
-pub const LOCALS: usize = 5;
-
-pub const ALL: usize = 6;
-
-// No variable at all: a recipe, though perhaps not a normal one.
-pub const GROUND: usize = 7;
+impl Shape {
+    // The shape of patterns that the file of the cases names by this number.
+    pub fn numbered(number: usize) -> Shape {
+        match number {
+            1 => Shape::Beta,
+            2 => Shape::Eta,
+            3 => Shape::Both,
+            4 => Shape::Repeated,
+            5 => Shape::Locals,
+            6 => Shape::All,
+            _ => Shape::Plain,
+        }
+    }
+}
 
 // How a part is made.
-const ABSTRACTION_PART: usize = 0;
-
-const APPLICATION_PART: usize = 1;
-
-const BETA_REDEX: usize = 2;
-
-const ETA_REDEX: usize = 3;
-
-// A record with no part behind it.
 #[derive(Clone, Copy)]
-struct Leaf {
-    kind: u8,
-    number: usize,
+enum Way {
+    Abstraction,
+    Application,
+    BetaRedex,
+    EtaRedex,
 }
 
-// The way of a part of four or more records.
-fn way_of(shape: usize, size: usize, seed: &mut u64) -> usize {
-    let d = draw(seed, 6);
-    match shape {
-        BETA => redex_or(d, 3, 0),
-        ETA => redex_or(d, 0, 2),
-        BOTH => redex_or(d, 2, 4),
-        ALL => all_way(size),
-        LOCALS => abstraction_or(d, 4),
-        _ => abstraction_or(d, 5),
-    }
+// A term that is being drawn: where it is written, its shape, and the next of all variables.
+#[derive(Drop)]
+struct Drawing<'a> {
+    out: Writer<'a>,
+    random: &'a mut Random,
+    shape: Shape,
+    next: usize,
 }
 
-// All leaves are variables and each variable is to be one of them, so there are few abstractions.
-fn all_way(size: usize) -> usize {
-    if size % 2 == 0 {
-        return ABSTRACTION_PART;
-    }
-    APPLICATION_PART
-}
-
-fn redex_or(d: usize, beta: usize, eta: usize) -> usize {
-    if d < beta {
-        return BETA_REDEX;
-    }
-    if d < eta {
-        return ETA_REDEX;
-    }
-    abstraction_or(d, 5)
-}
-
-fn abstraction_or(d: usize, least: usize) -> usize {
-    if d < least {
-        return APPLICATION_PART;
-    }
-    ABSTRACTION_PART
+// Puts a closed term of just `size` records, and gives its bytes. Where it has all variables, they start with `next`.
+pub fn put_term(
+    shape: Shape,
+    size: usize,
+    next: usize,
+    random: &mut Random,
+    out: &mut [u8],
+) -> usize
+    ensures { result ≤ length out.new }
+{
+    let mut drawing = Drawing {
+        out: Writer::behind(0, out),
+        random,
+        shape,
+        next,
+    };
+    drawing.put_part(size, Locals::NONE);
+    let end = drawing.out.at;
+    within(end, out)
 }
 
 // A local of a set, from `start` on if there is one.
-fn local_from(locals: u64, start: usize) -> usize {
-    let mut i = 0;
-    while i < 64 {
-        let n = (start % 64 + i) % 64;
-        if is_in(locals, n) {
-            return n;
-        }
-        i += 1;
-    }
-    0
+fn local_from(locals: Locals, start: usize) -> usize {
+    (start..64)
+        .chain(0..start)
+        .find(|n| locals.contains(*n))
+        .unwrap_or(0)
 }
 
-fn draw_variable(shape: usize, seed: &mut u64) -> Leaf {
-    if shape == REPEATED {
-        return Leaf {
-            kind: Kind::VARIABLE.code,
-            number: draw(seed, 2),
-        };
+// An application if a number that is drawn is below a bound, or else an abstraction.
+fn application_or(d: usize, bound: usize) -> Way {
+    if d < bound {
+        return Way::Application;
     }
-    Leaf {
-        kind: Kind::VARIABLE.code,
-        number: draw(seed, 4),
-    }
+    Way::Abstraction
 }
 
-// The next of all variables.
-fn next_variable(next: &mut usize) -> Leaf {
-    let v = *next % VARIABLES;
-    *next = v + 3;
-    Leaf {
-        kind: Kind::VARIABLE.code,
-        number: v,
+// A redex if a number that is drawn is below the bound of its kind, or else a part that is none.
+fn redex_or(d: usize, beta: usize, eta: usize) -> Way {
+    if d < beta {
+        return Way::BetaRedex;
     }
+    if d < eta {
+        return Way::EtaRedex;
+    }
+    application_or(d, 5)
 }
 
-fn draw_local(locals: u64, seed: &mut u64) -> Leaf {
-    Leaf {
-        kind: Kind::LOCAL.code,
-        number: local_from(locals, draw(seed, 4)),
-    }
-}
-
-fn draw_constant(seed: &mut u64) -> Leaf {
-    Leaf {
-        kind: Kind::CONSTANT.code,
-        number: wide_constant(draw(seed, 3)),
-    }
-}
-
-fn draw_leaf(shape: usize, locals: u64, seed: &mut u64, next: &mut usize) -> Leaf {
-    if shape == ALL {
-        return next_variable(next);
-    }
-    let d = draw(seed, 6);
-    if 0 < locals {
-        if d < 2 {
-            return draw_local(locals, seed);
+impl<'a> Drawing<'a> {
+    // The way of a part of four or more records.
+    fn way_of(&mut self, size: usize) -> Way {
+        let d = self.random.draw(6);
+        match self.shape {
+            Shape::Beta => redex_or(d, 3, 0),
+            Shape::Eta => redex_or(d, 0, 2),
+            Shape::Both => redex_or(d, 2, 4),
+            // All leaves are variables and each variable is to be one of them, so there are few abstractions.
+            Shape::All if size % 2 == 0 => Way::Abstraction,
+            Shape::All => Way::Application,
+            Shape::Locals => application_or(d, 4),
+            Shape::Plain | Shape::Repeated | Shape::Ground => application_or(d, 5),
         }
     }
-    if shape == GROUND {
-        return draw_constant(seed);
+
+    fn draw_variable(&mut self) -> Node {
+        let bound = if self.shape == Shape::Repeated { 2 } else { 4 };
+        Node::Variable(self.random.draw(bound))
     }
-    if d < 5 {
-        return draw_variable(shape, seed);
+
+    // The next of all variables.
+    fn next_variable(&mut self) -> Node {
+        let v = self.next % VARIABLES;
+        self.next = v + 3;
+        Node::Variable(v)
     }
-    draw_constant(seed)
-}
 
-fn put(out: &mut [u8], at: usize, leaf: Leaf) -> usize
-    requires { at ≤ length out.old }
-    ensures { result ≤ length out.new }
-{
-    put_record(out, at, leaf.kind, leaf.number)
-}
-
-fn put_leaf(
-    out: &mut [u8],
-    at: usize,
-    shape: usize,
-    locals: u64,
-    seed: &mut u64,
-    next: &mut usize,
-) -> usize
-    requires { at ≤ length out.old }
-    ensures { result ≤ length out.new }
-{
-    put(out, at, draw_leaf(shape, locals, seed, next))
-}
-
-// Puts a variable applied to a local.
-fn put_applied(out: &mut [u8], at: usize, shape: usize, locals: u64, seed: &mut u64) -> usize
-    requires { at ≤ length out.old }
-    ensures { result ≤ length out.new }
-{
-    let head = put_record(out, at, Kind::APPLICATION.code, 0);
-    let argument = put(out, head, draw_variable(shape, seed));
-    put(out, argument, draw_local(locals, seed))
-}
-
-// Puts an abstraction over a leaf.
-fn put_under(
-    out: &mut [u8],
-    at: usize,
-    shape: usize,
-    locals: u64,
-    seed: &mut u64,
-    next: &mut usize,
-) -> usize
-    requires { at ≤ length out.old }
-    ensures { result ≤ length out.new }
-{
-    let body = put_record(out, at, Kind::ABSTRACTION.code, 0);
-    put_leaf(out, body, shape, under(locals), seed, next)
-}
-
-// Puts a leaf applied to a leaf.
-fn put_pair(
-    out: &mut [u8],
-    at: usize,
-    shape: usize,
-    locals: u64,
-    seed: &mut u64,
-    next: &mut usize,
-) -> usize
-    requires { at ≤ length out.old }
-    ensures { result ≤ length out.new }
-{
-    let head = put_record(out, at, Kind::APPLICATION.code, 0);
-    let argument = put_leaf(out, head, shape, locals, seed, next);
-    put_leaf(out, argument, shape, locals, seed, next)
-}
-
-// Puts a part of one to three records.
-fn put_small(
-    out: &mut [u8],
-    at: usize,
-    shape: usize,
-    size: usize,
-    locals: u64,
-    seed: &mut u64,
-    next: &mut usize,
-) -> usize
-    requires { at ≤ length out.old }
-    ensures { result ≤ length out.new }
-{
-    if size < 2 {
-        return put_leaf(out, at, shape, locals, seed, next);
+    fn draw_local(&mut self, locals: Locals) -> Node {
+        Node::Local(local_from(locals, self.random.draw(4)))
     }
-    if size == 2 {
-        return put_under(out, at, shape, locals, seed, next);
+
+    fn draw_constant(&mut self) -> Node {
+        Node::Constant(wide_constant(self.random.draw(3)))
     }
-    if 0 < locals {
-        if shape == LOCALS {
-            return put_applied(out, at, shape, locals, seed);
+
+    fn draw_leaf(&mut self, locals: Locals) -> Node {
+        if self.shape == Shape::All {
+            return self.next_variable();
+        }
+        let d = self.random.draw(6);
+        if d < 2 && !locals.is_empty() {
+            return self.draw_local(locals);
+        }
+        if d < 5 && self.shape != Shape::Ground {
+            return self.draw_variable();
+        }
+        self.draw_constant()
+    }
+
+    fn put_leaf(&mut self, locals: Locals) {
+        let leaf = self.draw_leaf(locals);
+        self.out.put_node(leaf);
+    }
+
+    // Puts a variable applied to a local.
+    fn put_applied(&mut self, locals: Locals) {
+        let head = self.draw_variable();
+        let argument = self.draw_local(locals);
+        self.out.put_node(Node::Application);
+        self.out.put_node(head);
+        self.out.put_node(argument);
+    }
+
+    // Puts a part of one to three records: a leaf, an abstraction over one, or one applied to another.
+    fn put_small(&mut self, size: usize, locals: Locals) {
+        match size {
+            0 | 1 => self.put_leaf(locals),
+            2 => {
+                self.out.put_node(Node::Abstraction);
+                self.put_leaf(locals.under());
+            }
+            _ if self.shape == Shape::Locals && !locals.is_empty() => self.put_applied(locals),
+            _ => {
+                self.out.put_node(Node::Application);
+                self.put_leaf(locals);
+                self.put_leaf(locals);
+            }
         }
     }
-    put_pair(out, at, shape, locals, seed, next)
-}
 
-// The kind of a part's first record, and of its second where that is given by the way too.
-fn first_kind(way: usize) -> u8 {
-    match way {
-        APPLICATION_PART | BETA_REDEX => Kind::APPLICATION.code,
-        _ => Kind::ABSTRACTION.code,
+    // Puts a part of just `size` records, whose loose locals are in the set.
+    fn put_part(&mut self, size: usize, locals: Locals) {
+        if size < 4 {
+            return self.put_small(size, locals);
+        }
+        match self.way_of(size) {
+            Way::Abstraction => {
+                self.out.put_node(Node::Abstraction);
+                self.put_part(size - 1, locals.under());
+            }
+            Way::Application => {
+                let first = 1 + self.random.draw(size - 2);
+                self.out.put_node(Node::Application);
+                self.put_part(first, locals);
+                self.put_part(size - 1 - first, locals);
+            }
+            Way::BetaRedex => {
+                let first = 1 + self.random.draw(size - 3);
+                self.out.put_node(Node::Application);
+                self.out.put_node(Node::Abstraction);
+                self.put_part(first, locals.under());
+                self.put_part(size - 2 - first, locals);
+            }
+            Way::EtaRedex => {
+                self.out.put_node(Node::Abstraction);
+                self.out.put_node(Node::Application);
+                self.put_part(size - 3, locals.past());
+                self.out.put_node(Node::Local(0));
+            }
+        }
     }
-}
-
-fn second_kind(way: usize) -> u8 {
-    match way {
-        BETA_REDEX => Kind::ABSTRACTION.code,
-        _ => Kind::APPLICATION.code,
-    }
-}
-
-// Puts the records before the first part.
-fn put_front(out: &mut [u8], at: usize, way: usize) -> usize
-    requires { at ≤ length out.old }
-    ensures { result ≤ length out.new }
-{
-    let next = put_record(out, at, first_kind(way), 0);
-    if way < BETA_REDEX {
-        return next;
-    }
-    put_record(out, next, second_kind(way), 0)
-}
-
-// The locals that the first part may use.
-fn first_locals(way: usize, locals: u64) -> u64 {
-    match way {
-        APPLICATION_PART => locals,
-        ETA_REDEX => past(locals),
-        _ => under(locals),
-    }
-}
-
-// How many records the first part has.
-fn first_size(way: usize, size: usize, seed: &mut u64) -> usize {
-    if size < 4 {
-        return 0;
-    }
-    match way {
-        ABSTRACTION_PART => size - 1,
-        APPLICATION_PART => 1 + draw(seed, size - 2),
-        BETA_REDEX => 1 + draw(seed, size - 3),
-        _ => size - 3,
-    }
-}
-
-// How many are left for an argument.
-fn rest_size(way: usize, size: usize, first: usize) -> usize {
-    if size <= first {
-        return 0;
-    }
-    if size - first < 2 {
-        return 0;
-    }
-    if way == BETA_REDEX {
-        return size - first - 2;
-    }
-    size - first - 1
-}
-
-// Puts a part of just `size` records, whose loose locals are in the set.
-pub fn put_part(
-    out: &mut [u8],
-    at: usize,
-    shape: usize,
-    size: usize,
-    locals: u64,
-    seed: &mut u64,
-    next: &mut usize,
-) -> usize
-    requires { at ≤ length out.old }
-    ensures { result ≤ length out.new }
-{
-    if size < 4 {
-        return put_small(out, at, shape, size, locals, seed, next);
-    }
-    let way = way_of(shape, size, seed);
-    let first = first_size(way, size, seed);
-    let rest = rest_size(way, size, first);
-    if size <= first {
-        return at;
-    }
-    if size <= rest {
-        return at;
-    }
-    let front = put_front(out, at, way);
-    let end = put_part(
-        out,
-        front,
-        shape,
-        first,
-        first_locals(way, locals),
-        seed,
-        next,
-    );
-    if way == ABSTRACTION_PART {
-        return end;
-    }
-    if way == ETA_REDEX {
-        return put_record(out, end, Kind::LOCAL.code, 0);
-    }
-    put_part(out, end, shape, rest, locals, seed, next)
 }

@@ -11,21 +11,22 @@ const STEP: u64 = 12345;
 // The low bits of such a generator repeat soon, so they are left out.
 const LOW: u64 = 65536;
 
-// A number below a bound, or 0.
-fn below(number: usize, bound: usize) -> usize
-    ensures { result ≤ bound - 1 }
-{
-    if bound == 0 {
-        return 0;
-    }
-    number % bound
+#[derive(Drop)]
+pub struct Random {
+    state: u64,
 }
 
-// The next number of the generator, below a bound.
-pub fn draw(seed: &mut u64, bound: usize) -> usize
-    ensures { result ≤ bound - 1 }
-{
-    let next = (*seed % MODULUS * FACTOR + STEP) % MODULUS;
-    *seed = next;
-    below((next / LOW) as usize, bound)
+impl Random {
+    pub fn new(seed: u64) -> Random {
+        Random { state: seed }
+    }
+
+    // The next number of the generator, below a bound, or 0.
+    pub fn draw(&mut self, bound: usize) -> usize
+        ensures { result ≤ bound - 1 }
+    {
+        self.state = (self.state % MODULUS * FACTOR + STEP) % MODULUS;
+        let number = (self.state / LOW) as usize;
+        number.checked_rem(bound).unwrap_or(0)
+    }
 }

@@ -4,8 +4,7 @@
 
 #![tactic(auto)]
 
-ghost use Rattle.std.specs.Prelude.{◌+◌, ◌*◌, ◌≡◌, length};
-ghost use Rattle.terms.specs.Figures.{variables, table_bytes};
+ghost use Rattle.std.specs.Prelude.{◌≡◌, length};
 
 use notation::{STDOUT, field, find, is_all, say, within};
 use records::{LINE, RECORD, TABLE_BYTES};
@@ -18,42 +17,28 @@ pub const LENT: usize = TABLE_BYTES + LINE;
 pub const SHORT: usize = 512;
 
 // What the bytes of an output table and a work area are before a call.
-const MARK: u8 = 238;
+pub const MARK: u8 = 238;
 
-// Room for tables that are read. Each large array is from a function of its own: a proof then has its length, and no literal to compute
+// A table all of whose bytes are the same. Each large array is from this function: a proof then has its length, and no literal to compute
 // with.
-pub fn short() -> [u8; SHORT]
-    ensures { 512 ≡ length result }
+pub fn filled<const N: usize>(byte: u8) -> [u8; N]
+    ensures { N ≡ length result }
 {
-    [0; SHORT]
-}
-
-pub fn long() -> [u8; LENT]
-    ensures { table_bytes + 4 * variables ≡ length result }
-{
-    [0; LENT]
+    [byte; N]
 }
 
 // A table that is written, or a work area, before a call.
-pub fn marked() -> [u8; LENT]
-    ensures { table_bytes + 4 * variables ≡ length result }
-{
-    [MARK; LENT]
-}
-
-fn wide(b: u8) -> u64 {
-    b as u64
+pub fn marked() -> [u8; LENT] {
+    filled(MARK)
 }
 
 // Prints the records of a table.
 fn say_table(table: &[u8]) {
-    let mut i = 0;
-    while i < table.len() {
-        if i % RECORD == 0 {
-            say(b" ");
+    for record in table.chunks(RECORD) {
+        say(b" ");
+        for byte in record {
+            io::print_hex(STDOUT, u64::from(*byte), 2);
         }
-        io::print_hex(STDOUT, wide(table[i]), 2);
-        i += 1;
     }
 }
 
@@ -75,7 +60,7 @@ fn say_rest() {
 
 // Prints a count of records, the records and what became of the bytes behind.
 pub fn say_records(n: usize, out: &[u8]) {
-    let bytes = n % TABLE_BYTES * RECORD;
+    let bytes = n.saturating_mul(RECORD);
     say(b"records ");
     io::print_decimal(STDOUT, n as u64);
     say_front(out, bytes);
@@ -98,7 +83,7 @@ fn say_lines(bytes: usize, lines: &[u8], values: &[u8]) {
 pub fn say_listing(n: usize, lines: &[u8], values: &[u8]) {
     say(b"lines ");
     io::print_decimal(STDOUT, n as u64);
-    say_lines(n % TABLE_BYTES * LINE, lines, values);
+    say_lines(n.saturating_mul(LINE), lines, values);
 }
 
 pub fn say_refused(c: Refusal) {
@@ -117,6 +102,14 @@ pub fn say_untouched(c: Refusal, out: &[u8]) {
     say_refused(c);
     say_rest();
     say_left(out);
+}
+
+// Prints the answer of an operation that writes records.
+pub fn say_written(answer: Result<usize, Refusal>, out: &[u8]) {
+    match answer {
+        Ok(n) => say_records(n, out),
+        Err(c) => say_untouched(c, out),
+    }
 }
 
 // Prints what became of bytes that held MARK.

@@ -5,172 +5,115 @@
 
 #![tactic(auto)]
 
-use notation::{build_field, lend_field, say};
+use notation::{build_field, bytes_in, field, lend_field, say, within};
 use records::TABLE_BYTES;
-use rewriting::{CheckAnswer, RewriteAnswer, SweepAnswer};
-use test_report::{
-    long, marked, say_operation, say_records, say_refused, say_untouched, say_work, short,
-};
+use refusals::Refusal;
+use test_report::{LENT, SHORT, filled, marked, say_operation, say_refused, say_work, say_written};
 
-// A field that no case has.
-const NONE: usize = 9;
-
-// Which fields an operation's cases have these tables in.
+// Which fields an operation's cases have these tables in; check has no output.
 #[derive(Clone, Copy)]
 struct Fields {
     line: usize,
     values: usize,
-    output: usize,
+    output: Option<usize>,
     work: usize,
 }
 
-fn say_yes() {
-    say(b"yes");
+// The tables of a case that are read. The first three are the operation's own, in its order, as far as it has so many.
+#[derive(Clone, Copy)]
+struct Tables<'a> {
+    first: &'a [u8],
+    second: &'a [u8],
+    third: &'a [u8],
+    line: &'a [u8],
+    values: &'a [u8],
 }
 
-fn say_no() {
-    say(b"no");
-}
-
-fn say_check(answer: CheckAnswer) {
+fn say_check(answer: Result<bool, Refusal>) {
     match answer {
-        CheckAnswer::Yes => say_yes(),
-        CheckAnswer::No => say_no(),
-        CheckAnswer::Refused(c) => say_refused(c),
+        Ok(true) => say(b"yes"),
+        Ok(false) => say(b"no"),
+        Err(c) => say_refused(c),
     }
 }
 
-fn run_check(pattern: &[u8], recipe: &[u8], line: &[u8], values: &[u8], work: &mut [u8]) {
-    say_check(rewriting::check(pattern, recipe, line, values, work));
+fn run_check(t: Tables<'_>, _: &mut [u8], work: &mut [u8]) {
+    say_check(rewriting::check(t.first, t.second, t.line, t.values, work));
 }
 
-fn say_sweep(answer: SweepAnswer, out: &[u8]) {
-    match answer {
-        SweepAnswer::Records(n) => say_records(n, out),
-        SweepAnswer::Refused(c) => say_untouched(c, out),
-    }
+fn run_sweep(t: Tables<'_>, out: &mut [u8], work: &mut [u8]) {
+    let answer = rewriting::sweep(t.first, t.line, t.values, out, work);
+    say_written(answer, out);
 }
 
-fn run_sweep(pattern: &[u8], line: &[u8], values: &[u8], out: &mut [u8], work: &mut [u8]) {
-    let answer = rewriting::sweep(pattern, line, values, out, work);
-    say_sweep(answer, out);
-}
-
-fn say_rewrite(answer: RewriteAnswer, out: &[u8]) {
-    match answer {
-        RewriteAnswer::Records(n) => say_records(n, out),
-        RewriteAnswer::Refused(c) => say_untouched(c, out),
-    }
-}
-
-fn run_rewrite(
-    left: &[u8],
-    right: &[u8],
-    recipe: &[u8],
-    line: &[u8],
-    values: &[u8],
-    out: &mut [u8],
-    work: &mut [u8],
-) {
-    let answer = rewriting::rewrite(left, right, recipe, line, values, out, work);
-    say_rewrite(answer, out);
-}
-
-// Runs check, sweep or rewrite. The first three tables of a case are the operation's own, in its order, as far as it has so many.
-fn operate(
-    letter: u8,
-    first: &[u8],
-    second: &[u8],
-    third: &[u8],
-    line: &[u8],
-    values: &[u8],
-    out: &mut [u8],
-    work: &mut [u8],
-) {
-    match letter {
-        b'c' => run_check(first, second, line, values, work),
-        b's' => run_sweep(first, line, values, out, work),
-        _ => run_rewrite(first, second, third, line, values, out, work),
-    }
+fn run_rewrite(t: Tables<'_>, out: &mut [u8], work: &mut [u8]) {
+    let answer = rewriting::rewrite(t.first, t.second, t.third, t.line, t.values, out, work);
+    say_written(answer, out);
 }
 
 // The tables of a case are made in two functions, as a proof takes longer the more of them one function has.
-fn operate_in(
+fn operate_in<F: FnOnce(Tables<'_>, &mut [u8], &mut [u8])>(
     case: &[u8],
-    letter: u8,
     fields: Fields,
-    first: &[u8],
-    second: &[u8],
-    third: &[u8],
-    line: &[u8],
-    values: &[u8],
-) {
+    tables: Tables<'_>,
+    run: F,
+)
+    requires { F.IsAlwaysCallable run }
+{
     let mut o = marked();
     let mut w = marked();
+    let output = fields.output.map_or(0, |k| bytes_in(field(case, k), 0));
+    let end = within(output, &o);
     let work = lend_field(case, fields.work, TABLE_BYTES, &mut w);
-    operate(
-        letter,
-        first,
-        second,
-        third,
-        line,
-        values,
-        lend_field(case, fields.output, 0, &mut o),
-        work,
-    );
+    run(tables, &mut o[..end], work);
     say_work(work);
 }
 
-fn operate_on(case: &[u8], letter: u8, fields: Fields) {
-    let mut p = short();
-    let mut q = short();
-    let mut r = short();
-    let mut l = short();
-    let mut v = long();
+fn operate_on<F: FnOnce(Tables<'_>, &mut [u8], &mut [u8])>(case: &[u8], fields: Fields, run: F)
+    requires { F.IsAlwaysCallable run }
+{
+    let mut p = filled::<SHORT>(0);
+    let mut q = filled::<SHORT>(0);
+    let mut r = filled::<SHORT>(0);
+    let mut l = filled::<SHORT>(0);
+    let mut v = filled::<LENT>(0);
     say_operation(case);
-    let first = build_field(case, 2, &mut p);
-    let second = build_field(case, 3, &mut q);
-    let third = build_field(case, 4, &mut r);
-    let line = build_field(case, fields.line, &mut l);
-    let values = build_field(case, fields.values, &mut v);
-    operate_in(case, letter, fields, first, second, third, line, values);
+    let tables = Tables {
+        first: build_field(case, 2, &mut p),
+        second: build_field(case, 3, &mut q),
+        third: build_field(case, 4, &mut r),
+        line: build_field(case, fields.line, &mut l),
+        values: build_field(case, fields.values, &mut v),
+    };
+    operate_in(case, fields, tables, run);
 }
 
 pub fn check(case: &[u8]) {
-    operate_on(
-        case,
-        b'c',
-        Fields {
-            line: 4,
-            values: 5,
-            output: NONE,
-            work: 6,
-        },
-    );
+    let fields = Fields {
+        line: 4,
+        values: 5,
+        output: None,
+        work: 6,
+    };
+    operate_on(case, fields, run_check);
 }
 
 pub fn sweep(case: &[u8]) {
-    operate_on(
-        case,
-        b's',
-        Fields {
-            line: 3,
-            values: 4,
-            output: 5,
-            work: 6,
-        },
-    );
+    let fields = Fields {
+        line: 3,
+        values: 4,
+        output: Some(5),
+        work: 6,
+    };
+    operate_on(case, fields, run_sweep);
 }
 
 pub fn rewrite(case: &[u8]) {
-    operate_on(
-        case,
-        b'r',
-        Fields {
-            line: 5,
-            values: 6,
-            output: 7,
-            work: 8,
-        },
-    );
+    let fields = Fields {
+        line: 5,
+        values: 6,
+        output: Some(7),
+        work: 8,
+    };
+    operate_on(case, fields, run_rewrite);
 }

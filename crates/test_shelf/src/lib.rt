@@ -17,13 +17,13 @@
 
 #![tactic(auto)]
 
-ghost use Rattle.std.specs.Prelude.{◌≤◌, ◌≡◌, length};
+ghost use Rattle.std.specs.Prelude.{◌≤◌};
 
-use notation::{STDOUT, build, bytes_in, field, find, letter_of, put, say, within};
+use notation::{STDOUT, build, bytes_in, field, letter_of, say, within};
 use records::{RECIPE_RECORDS, RECORD, SHELF_RECORDS};
-use shelf::{CountAnswer, PutAnswer, ReadAnswer, TakeOutAnswer};
+use refusals::Refusal;
 use storage::DIRECTORY_BYTES;
-use test_report::{long, marked, say_records, say_refused, say_untouched, short};
+use test_report::{LENT, SHORT, filled, marked, say_refused, say_written};
 
 // Room for a directory that is one record too long.
 const ROOM: usize = DIRECTORY_BYTES + RECORD;
@@ -32,35 +32,19 @@ const SHELF_BYTES: usize = RECORD * SHELF_RECORDS;
 
 const LONGEST: usize = RECORD * RECIPE_RECORDS;
 
-fn room() -> [u8; ROOM]
-    ensures { 24580 ≡ length result }
-{
-    [0; ROOM]
+// The k-th part of a text that a sign divides, from 0; empty if it has none.
+fn part(text: &[u8], sign: u8, k: usize) -> &[u8] {
+    text.split(|c| *c == sign).nth(k).unwrap_or(&[])
 }
 
-// What stands behind the first `sign` of a text.
-fn behind(text: &[u8], sign: u8) -> &[u8] {
-    let end = find(text, 0, sign);
-    if end == text.len() {
-        return &text[end..];
-    }
-    &text[end + 1..]
-}
-
-// The first part of a call, or of what is left of one.
-fn first(call: &[u8]) -> &[u8] {
-    let end = find(call, 0, b',');
-    &call[0..end]
-}
-
-// What is left of a call behind its first part.
-fn rest(call: &[u8]) -> &[u8] {
-    behind(call, b',')
+// The k-th part of a call.
+fn part_of(call: &[u8], k: usize) -> &[u8] {
+    part(call, b',', k)
 }
 
 // The number in a call's first part, which has a word before it.
 fn number_in(call: &[u8]) -> usize {
-    bytes_in(first(call), 0)
+    bytes_in(part_of(call, 0), 0)
 }
 
 // As many bytes of a table as a part lends.
@@ -69,24 +53,10 @@ fn lend<'a>(part: &[u8], none: usize, table: &'a mut [u8]) -> &'a mut [u8] {
     &mut table[..end]
 }
 
-fn say_put(answer: PutAnswer) {
+fn say_change(answer: Result<(), Refusal>) {
     match answer {
-        PutAnswer::Yes => say(b"yes"),
-        PutAnswer::Refused(c) => say_refused(c),
-    }
-}
-
-fn say_take_out(answer: TakeOutAnswer) {
-    match answer {
-        TakeOutAnswer::Yes => say(b"yes"),
-        TakeOutAnswer::Refused(c) => say_refused(c),
-    }
-}
-
-fn say_read(answer: ReadAnswer, out: &[u8]) {
-    match answer {
-        ReadAnswer::Records(n) => say_records(n, out),
-        ReadAnswer::Refused(c) => say_untouched(c, out),
+        Ok(()) => say(b"yes"),
+        Err(c) => say_refused(c),
     }
 }
 
@@ -94,31 +64,31 @@ fn say_number(n: usize) {
     io::print_decimal(STDOUT, n as u64);
 }
 
-fn say_count(answer: CountAnswer) {
+fn say_count(answer: Result<usize, Refusal>) {
     match answer {
-        CountAnswer::Count(n) => say_number(n),
-        CountAnswer::Refused(c) => say_refused(c),
+        Ok(n) => say_number(n),
+        Err(c) => say_refused(c),
     }
 }
 
 fn run_put(call: &[u8], directory: &mut [u8], table: &mut [u8]) {
-    let mut r = short();
-    let end = build(first(rest(call)), &mut r);
-    let answer = shelf::put(number_in(call), &r[0..end], directory, table);
-    say_put(answer);
+    let mut r = filled::<SHORT>(0);
+    let end = build(part_of(call, 1), &mut r);
+    let answer = shelf::put(number_in(call), &r[..end], directory, table);
+    say_change(answer);
 }
 
 fn run_read(call: &[u8], directory: &[u8], table: &[u8]) {
     let mut o = marked();
-    let out = lend(first(rest(call)), LONGEST, &mut o);
+    let out = lend(part_of(call, 1), LONGEST, &mut o);
     let answer = shelf::read(number_in(call), directory, table, out);
-    say_read(answer, out);
+    say_written(answer, out);
 }
 
 // Gives a recipe the buoy's number for its last byte.
 fn name_by(buoy: usize, recipe: &mut [u8]) {
-    if recipe.len() != 0 {
-        put(recipe, recipe.len() - 1, buoy);
+    if let Some(last) = recipe.last_mut() {
+        *last = (buoy % 256) as u8;
     }
 }
 
@@ -129,8 +99,8 @@ fn fill_buoy(buoy: usize, recipe: &mut [u8], directory: &mut [u8], table: &mut [
     name_by(buoy, recipe);
     let answer = shelf::put(buoy, recipe, directory, table);
     match answer {
-        PutAnswer::Yes => 1,
-        PutAnswer::Refused(_) => 0,
+        Ok(()) => 1,
+        Err(_) => 0,
     }
 }
 
@@ -143,38 +113,34 @@ fn fill_range(
     table: &mut [u8],
 ) -> usize {
     let mut yes = 0;
-    let mut buoy = from;
-    while buoy < end {
+    for buoy in from..end {
         yes += fill_buoy(buoy, recipe, directory, table);
-        buoy += 1;
     }
     yes
 }
 
 fn run_fill(call: &[u8], directory: &mut [u8], table: &mut [u8]) {
-    let mut r = short();
-    let n = build(first(rest(call)), &mut r);
-    let range = first(call);
-    let dots = find(range, 0, b'.');
-    let from = bytes_in(&range[0..dots], 0);
-    let end = bytes_in(&range[dots..], 0);
-    say_number(fill_range(from, end, &mut r[0..n], directory, table));
+    let mut r = filled::<SHORT>(0);
+    let n = build(part_of(call, 1), &mut r);
+    let range = part_of(call, 0);
+    let from = bytes_in(part(range, b'.', 0), 0);
+    let end = bytes_in(part(range, b'.', 2), 0);
+    say_number(fill_range(from, end, &mut r[..n], directory, table));
     say(b" yes");
 }
 
 // Writes bytes to the directory from a byte on.
 fn run_bytes(call: &[u8], directory: &mut [u8]) {
     let from = within(number_in(call), directory);
-    build(first(rest(call)), &mut directory[from..]);
+    build(part_of(call, 1), &mut directory[from..]);
     say(b"written");
 }
 
 // Runs a call on the tables that it is lent.
 fn run_lent(call: &[u8], directory: &mut [u8], table: &mut [u8]) {
-    let letter = letter_of(call);
-    match letter {
+    match letter_of(call) {
         b'p' => run_put(call, directory, table),
-        b't' => say_take_out(shelf::take_out(number_in(call), directory, table)),
+        b't' => say_change(shelf::take_out(number_in(call), directory, table)),
         b'r' => run_read(call, directory, table),
         b'c' => say_count(shelf::count(directory)),
         b'f' => run_fill(call, directory, table),
@@ -185,32 +151,24 @@ fn run_lent(call: &[u8], directory: &mut [u8], table: &mut [u8]) {
 
 // Prints a call's first part, runs the call and prints its answer.
 fn run(call: &[u8], directory: &mut [u8], table: &mut [u8]) {
-    let parts = rest(rest(call));
     say(b" |");
-    say(first(call));
+    say(part_of(call, 0));
     say(b": ");
     run_lent(
         call,
-        lend(first(parts), DIRECTORY_BYTES, directory),
-        lend(first(rest(parts)), SHELF_BYTES, table),
+        lend(part_of(call, 2), DIRECTORY_BYTES, directory),
+        lend(part_of(call, 3), SHELF_BYTES, table),
     );
 }
 
-fn run_all(calls: &[u8], directory: &mut [u8], table: &mut [u8]) {
-    let mut at = 0;
-    while at < calls.len() {
-        let end = find(calls, at, b';');
-        run(&calls[at..end], directory, table);
-        at = end + 1;
-    }
-}
-
 pub fn walk(case: &[u8]) {
-    let mut d = room();
-    let mut t = long();
+    let mut directory = filled::<ROOM>(0);
+    let mut table = filled::<LENT>(0);
     say(field(case, 0));
     say(b":");
     say(field(case, 1));
-    run_all(behind(behind(case, b';'), b';'), &mut d, &mut t);
+    for call in case.split(|c| *c == b';').skip(2) {
+        run(call, &mut directory, &mut table);
+    }
     say(b"\n");
 }

@@ -4,174 +4,179 @@
 
 #![tactic(auto)]
 
+ghost use Rattle.std.specs.Prelude.{◌<◌};
+
 use notation::{STDOUT, say};
 
-// What was compared.
-pub const CASES: usize = 0;
-
-pub const ASSIGNMENTS: usize = 1;
-
-pub const MATCHES: usize = 2;
-
-pub const LINES: usize = 3;
-
-pub const OPEN_LINES: usize = 4;
-
-pub const NO_LINE: usize = 5;
-
-pub const FILLINGS: usize = 6;
-
-pub const TOO_LONG: usize = 7;
-
-// Refusals of list by number, of which there are fewer than `NUMBERS`; 0 is for none.
-pub const REFUSED: usize = 8;
-
-pub const NUMBERS: usize = 16;
-
-// What the patterns had.
-pub const WITH_BETA: usize = 24;
-
-pub const WITH_ETA: usize = 25;
-
-pub const WITH_REPEATED: usize = 26;
-
-pub const WITH_APPLIED: usize = 27;
-
-pub const WITH_ALL: usize = 28;
-
-pub const WITH_NONE: usize = 29;
-
-// Disagreements.
-pub const CHECK_AND_SWEEP: usize = 32;
-
-pub const IN_NO_LINE: usize = 33;
-
-pub const IN_TWO_LINES: usize = 34;
-
-pub const NO_MATCH_IN_LINE: usize = 35;
-
-pub const FILLING: usize = 36;
-
-pub const ORDER: usize = 37;
-
-pub const LAYOUT: usize = 38;
-
-pub const BEHIND: usize = 39;
-
-pub const AREA: usize = 40;
-
-pub const REFUSAL: usize = 41;
-
-pub const NUMBER: usize = 42;
-
-pub const SIZE: usize = 43;
-
-// No count gets near this.
-const MOST: u64 = 1000000000000;
-
-fn sum(a: u64, b: u64) -> u64 {
-    if MOST < a {
-        return a;
-    }
-    if MOST < b {
-        return a;
-    }
-    a + b
+#[derive(Clone, Copy)]
+pub enum Total {
+    // What was compared.
+    Cases,
+    Assignments,
+    Matches,
+    Lines,
+    OpenLines,
+    NoLine,
+    Fillings,
+    TooLong,
+    // Listings by the number of their refusal, which is below `REFUSALS`; 0 is for none.
+    Refused(usize),
+    // What the patterns had.
+    WithBeta,
+    WithEta,
+    WithRepeated,
+    WithApplied,
+    WithAll,
+    WithNone,
+    // Disagreements.
+    CheckAndSweep,
+    InNoLine,
+    InTwoLines,
+    NoMatchInLine,
+    Filling,
+    Order,
+    Layout,
+    Behind,
+    Area,
+    Refusal,
+    Number,
 }
 
-pub fn add(totals: &mut [u64; SIZE], what: usize, n: u64) {
-    if what < SIZE {
-        totals[what] = sum(totals[what], n);
-    }
+// The number of the first refusal's total, and how many there are.
+const FIRST_REFUSAL: usize = 8;
+
+const REFUSALS: usize = 16;
+
+// The number of the first disagreement, and of all totals.
+const FIRST_DISAGREEMENT: usize = 32;
+
+const SIZE: usize = 43;
+
+// Each total at its number.
+#[derive(Clone, Copy)]
+pub struct Totals {
+    counts: [u64; SIZE],
 }
 
-pub fn tally(totals: &mut [u64; SIZE], what: usize) {
-    add(totals, what, 1);
-}
-
-pub fn tally_if(totals: &mut [u64; SIZE], what: usize, ok: bool) {
-    if ok {
-        add(totals, what, 1);
+impl Total {
+    // The number by which the file of the examples names a total.
+    fn number(self) -> usize
+        ensures { result < 43 }
+    {
+        match self {
+            Total::Cases => 0,
+            Total::Assignments => 1,
+            Total::Matches => 2,
+            Total::Lines => 3,
+            Total::OpenLines => 4,
+            Total::NoLine => 5,
+            Total::Fillings => 6,
+            Total::TooLong => 7,
+            Total::Refused(refusal) => FIRST_REFUSAL + refusal % REFUSALS,
+            Total::WithBeta => 24,
+            Total::WithEta => 25,
+            Total::WithRepeated => 26,
+            Total::WithApplied => 27,
+            Total::WithAll => 28,
+            Total::WithNone => 29,
+            Total::CheckAndSweep => FIRST_DISAGREEMENT,
+            Total::InNoLine => 33,
+            Total::InTwoLines => 34,
+            Total::NoMatchInLine => 35,
+            Total::Filling => 36,
+            Total::Order => 37,
+            Total::Layout => 38,
+            Total::Behind => 39,
+            Total::Area => 40,
+            Total::Refusal => 41,
+            Total::Number => 42,
+        }
     }
 }
 
-pub fn total(totals: &[u64; SIZE], what: usize) -> u64 {
-    if what < SIZE {
-        return totals[what];
+impl Totals {
+    pub const NONE: Totals = Totals { counts: [0; SIZE] };
+
+    pub fn tally(&mut self, what: Total) {
+        let n = &mut self.counts[what.number()];
+        *n = n.saturating_add(1);
     }
-    0
-}
 
-// Adds the totals of some cases to those of all.
-pub fn add_all(all: &mut [u64; SIZE], some: &[u64; SIZE]) {
-    let mut i = 0;
-    while i < SIZE {
-        add(all, i, total(some, i));
-        i += 1;
+    pub fn tally_if(&mut self, what: Total, ok: bool) {
+        if ok {
+            self.tally(what);
+        }
+    }
+
+    // Counts a count of lines, which is 0 if the listing is refused, or a refusal that is not the one expected.
+    pub fn tally_expected(&mut self, count: Option<usize>, expected: usize, refusal: usize) {
+        let refused = self.of(Total::Refused(refusal));
+        self.tally_if(Total::Number, count.unwrap_or(0) != expected);
+        self.tally_if(Total::Number, refused != 1);
+    }
+
+    // Adds the totals of some cases.
+    pub fn add(&mut self, some: &Totals) {
+        for (n, more) in self.counts.iter_mut().zip(&some.counts) {
+            *n = n.saturating_add(*more);
+        }
+    }
+
+    fn of(&self, what: Total) -> u64 {
+        self.counts[what.number()]
+    }
+
+    fn disagreements(&self) -> u64 {
+        self.counts[FIRST_DISAGREEMENT..]
+            .iter()
+            .fold(0, |n: u64, more| n.saturating_add(*more))
+    }
+
+    fn say_total(&self, text: &[u8], what: Total) {
+        say_number(text, self.of(what));
+    }
+
+    // Prints what was compared, behind the number of lines.
+    fn say_compared(&self) {
+        self.say_total(b", of which open ", Total::OpenLines);
+        self.say_total(b"; assignments ", Total::Assignments);
+        self.say_total(b", matches ", Total::Matches);
+        self.say_total(b"; fillings ", Total::Fillings);
+        self.say_disagreements();
+    }
+
+    fn say_disagreements(&self) {
+        say_number(b"; disagreements ", self.disagreements());
+        say(b"\n");
+    }
+
+    pub fn say_example(&self, name: &[u8], refusal: usize) {
+        say(name);
+        if refusal == 0 {
+            self.say_total(b": lines ", Total::Lines);
+            self.say_compared();
+        } else {
+            say_number(b": refused ", refusal as u64);
+            self.say_disagreements();
+        }
+    }
+
+    pub fn say_group(&self, name: &[u8]) {
+        say(name);
+        self.say_total(b": cases ", Total::Cases);
+        self.say_total(b"; lines ", Total::Lines);
+        self.say_compared();
+    }
+
+    // Prints the total with a number, which is 0 if there is none.
+    pub fn say_line(&self, name: &[u8], number: usize) {
+        say(name);
+        say_number(b": ", self.counts.get(number).copied().unwrap_or(0));
+        say(b"\n");
     }
 }
 
-pub fn disagreements(totals: &[u64; SIZE]) -> u64 {
-    let mut n = 0;
-    let mut i = CHECK_AND_SWEEP;
-    while i < SIZE {
-        n = sum(n, total(totals, i));
-        i += 1;
-    }
-    n
-}
-
-fn say_number(n: u64) {
-    io::print_decimal(STDOUT, n);
-}
-
-fn say_total(totals: &[u64; SIZE], what: usize, text: &[u8]) {
+fn say_number(text: &[u8], n: u64) {
     say(text);
-    say_number(total(totals, what));
-}
-
-// Prints what was compared, behind the number of lines.
-fn say_compared(totals: &[u64; SIZE]) {
-    say_total(totals, OPEN_LINES, b", of which open ");
-    say_total(totals, ASSIGNMENTS, b"; assignments ");
-    say_total(totals, MATCHES, b", matches ");
-    say_total(totals, FILLINGS, b"; fillings ");
-    say(b"; disagreements ");
-    say_number(disagreements(totals));
-    say(b"\n");
-}
-
-pub fn say_example(name: &[u8], totals: &[u64; SIZE], refusal: usize) {
-    say(name);
-    if refusal == 0 {
-        say_total(totals, LINES, b": lines ");
-        say_compared(totals);
-        return;
-    }
-    say(b": refused ");
-    say_number(refusal as u64);
-    say(b"; disagreements ");
-    say_number(disagreements(totals));
-    say(b"\n");
-}
-
-// Counts a count of lines, or a refusal, that is not the one expected.
-pub fn tally_expected(count: usize, expected: usize, refusal: usize, totals: &mut [u64; SIZE]) {
-    let refused = total(totals, REFUSED + refusal % NUMBERS);
-    tally_if(totals, NUMBER, count != expected);
-    tally_if(totals, NUMBER, refused != 1);
-}
-
-pub fn say_group(name: &[u8], totals: &[u64; SIZE]) {
-    say(name);
-    say_total(totals, CASES, b": cases ");
-    say_total(totals, LINES, b"; lines ");
-    say_compared(totals);
-}
-
-// Prints one total.
-pub fn say_line(name: &[u8], totals: &[u64; SIZE], what: usize) {
-    say(name);
-    say_total(totals, what, b": ");
-    say(b"\n");
+    io::print_decimal(STDOUT, n);
 }

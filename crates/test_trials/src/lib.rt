@@ -1,112 +1,90 @@
 // One pattern and one recipe tried: its listing set against all assignments over enumerated values, and what came of it counted.
 //
 // It promises that it is safe and ends. A disagreement is counted, and the program prints the counts. It rests on `matcher`, which is
-// tried, on `test_matches`, which tries each line and each assignment, and on `test_tables`, which lends the tables and tries their
-// layout.
+// tried, on `test_matches`, which tries each line and each assignment, and on `test_tables`, which tries the layout.
 
 #![tactic(auto)]
 
-use enumeration::ListAnswer;
 use notation::{is_all, within};
-use test_matches::{try_assignments, try_lines};
+use records::TABLE_BYTES;
+use refusals::Refusal;
+use test_matches::Trial;
+use test_pool::Terms;
+use test_report::{MARK, filled};
 use test_tables::{
-    LENT, MARK, behind_lines, first_lines, lent_values, marked, marked_lines, tally_listing,
-    tally_pattern, tally_refusal, try_layout,
+    LENT, LINES_BYTES, divide, lent_values, tally_listing, tally_pattern, tally_refusal, try_layout,
 };
-use test_totals::{SIZE, tally_if};
-
-fn byte_at(table: &[u8], i: usize) -> u8 {
-    if table.len() <= i {
-        return MARK;
-    }
-    table[i]
-}
+use test_totals::{Total, Totals};
 
 // Puts the terms of the enumeration behind the bytes that are lent.
 fn put_terms(values: &[u8], table: &mut [u8]) {
-    let mut i = LENT;
-    while i < table.len() {
-        table[i] = byte_at(values, i);
-        i += 1;
+    for (to, from) in table.iter_mut().zip(values).skip(LENT) {
+        *to = *from;
     }
 }
 
-fn try_listing(
-    pattern: &[u8],
-    recipe: &[u8],
-    n: usize,
-    lines: &[u8],
-    terms: &[u8],
-    values: &[u8],
-    work: &mut [u8],
-    totals: &mut [u64; SIZE],
-) {
-    let found = first_lines(lines, n);
-    tally_listing(recipe, n, totals);
-    try_layout(
-        pattern,
-        found,
-        behind_lines(lines, n),
-        lent_values(values),
-        totals,
-    );
-    try_lines(pattern, recipe, found, terms, values, work, totals);
-    try_assignments(pattern, recipe, terms, found, values, work, totals);
-    tally_if(totals, test_totals::AREA, !is_all(work, 0));
+fn try_listing(trial: Trial<'_>, n: usize, lines: &[u8], work: &mut [u8], totals: &mut Totals) {
+    let (found, behind) = divide(lines, n);
+    let values = lent_values(trial.terms.values);
+    tally_listing(trial.recipe, n, totals);
+    try_layout(trial.pattern, found, behind, values, totals);
+    trial.try_lines(found, work, totals);
+    trial.try_assignments(found, work, totals);
+    totals.tally_if(Total::Area, !is_all(work, 0));
 }
 
-// What came of a listing. Gives the count, or 0 for a refusal.
+// What came of a listing. Gives the count of its lines, if it isn't refused.
 fn try_answer(
-    answer: ListAnswer,
-    pattern: &[u8],
-    recipe: &[u8],
+    answer: Result<usize, Refusal>,
+    trial: Trial<'_>,
     lines: &[u8],
-    terms: &[u8],
-    values: &[u8],
     work: &mut [u8],
-    totals: &mut [u64; SIZE],
-) -> usize {
+    totals: &mut Totals,
+) -> Option<usize> {
     match answer {
-        ListAnswer::Lines(n) => {
-            try_listing(pattern, recipe, n, lines, terms, values, work, totals);
-            n
+        Ok(n) => {
+            try_listing(trial, n, lines, work, totals);
+            Some(n)
         }
-        ListAnswer::Refused(c) => {
-            tally_refusal(recipe, c, lines, values, totals);
-            0
+        Err(c) => {
+            tally_refusal(trial.recipe, c, lines, trial.terms.values, totals);
+            None
         }
     }
 }
 
 fn try_tables(
-    pattern: &[u8],
-    recipe: &[u8],
-    terms: &[u8],
+    trial: Trial<'_>,
     lines: &mut [u8],
     values: &mut [u8],
     work: &mut [u8],
-    totals: &mut [u64; SIZE],
-) -> usize {
+    totals: &mut Totals,
+) -> Option<usize> {
     let lent = within(LENT, values);
-    let answer = matcher::list(pattern, recipe, lines, &mut values[..lent], work);
-    tally_if(totals, test_totals::AREA, !is_all(work, 0));
-    try_answer(answer, pattern, recipe, lines, terms, values, work, totals)
+    let answer = matcher::list(
+        trial.pattern,
+        trial.recipe,
+        lines,
+        &mut values[..lent],
+        work,
+    );
+    totals.tally_if(Total::Area, !is_all(work, 0));
+    let listed = Trial {
+        terms: Terms {
+            entries: trial.terms.entries,
+            values,
+        },
+        ..trial
+    };
+    try_answer(answer, listed, lines, work, totals)
 }
 
-// Lists into marked tables, and tries everything. The terms' values are in `values`.
-pub fn try_case(
-    pattern: &[u8],
-    recipe: &[u8],
-    terms: &[u8],
-    values: &[u8],
-    totals: &mut [u64; SIZE],
-) -> usize {
-    let mut lines = marked_lines();
-    let mut table = marked();
-    let mut work = marked();
-    put_terms(values, &mut table);
-    tally_pattern(pattern, totals);
-    try_tables(
-        pattern, recipe, terms, &mut lines, &mut table, &mut work, totals,
-    )
+// Lists into marked tables, and tries everything.
+pub fn try_case(trial: Trial<'_>, totals: &mut Totals) -> Option<usize> {
+    let mut lines = filled::<LINES_BYTES>(MARK);
+    let mut table = filled::<TABLE_BYTES>(MARK);
+    let mut work = filled::<TABLE_BYTES>(MARK);
+    put_terms(trial.terms.values, &mut table);
+    tally_pattern(trial.pattern, totals);
+    try_tables(trial, &mut lines, &mut table, &mut work, totals)
 }

@@ -8,14 +8,14 @@ use Rattle.abstractions.proofs.Bodies.{choosing_argument, choosing_body}
 use borrow.Author.Rules.{rules}
 use Rattle.abstractions.proofs.+body_into.Goals as goal
 
-pub copy_length-copy-requires : goal.copy_length-copy-requires
-copy_length-copy-requires t c = search (rules, choosing_compares)
+pub copy_length-requires : goal.copy_length-requires
+copy_length-requires t c = search (rules, choosing_compares)
 
 pub choice_into-end-requires : goal.choice_into-end-requires
 choice_into-end-requires t c = (search rules, search (rules, choosing_choice))
 
-pub returns-in-Upto : goal.returns-in-Upto
-returns-in-Upto t c = search (rules, body_copy, choosing_whole)
+pub returns-in-Some : goal.returns-in-Some
+returns-in-Some t c = search (rules, body_copy, choosing_whole, c.in-Some.ensures)
 
 pub body_into-head-requires : goal.body_into-head-requires
 body_into-head-requires t c = (search (rules, shorter), search (rules, choosing_head))
@@ -34,7 +34,7 @@ built_further-requires t c =
 
 pub returns-then-kind : goal.returns-then-kind
 returns-then-kind t c =
-    body_application _ _ _ _ _ _ _ (no_copy _ _ _ _ c.in_default.is c.copy_length-copy.ensures) _ _ _ _ _ _ _ _ _
+    body_application _ _ _ _ _ _ _ (no_copy _ _ _ c.in_default.ensures) _ _ _ _ _ _ _ _ _
     c.if-kind.true c.put_record.ensures c.body_into-head.ensures c.body_into-argument.ensures _ _ _
     c.built_further.ensures.0 c.built_further.ensures.1 c.built_further.ensures.2
 
@@ -45,7 +45,7 @@ pub built_further-requires-then-kind-2 : goal.built_further-requires-then-kind-2
 built_further-requires-then-kind-2 t c = search (rules, body_fits)
 
 pub returns-then-kind-2 : goal.returns-then-kind-2
-returns-then-kind-2 t c = search (rules, body_abstraction, no_copy)
+returns-then-kind-2 t c = search (rules, body_abstraction, no_copy, c.in_default.ensures)
 
 pub returns : goal.returns
-returns t c = search (rules, body_other, no_copy, choosing_whole)
+returns t c = search (rules, body_other, no_copy, c.in_default.ensures, choosing_whole)

@@ -6,11 +6,11 @@ use Rattle.abstractions.proofs.Bodies.{counting_head, counting_argument, countin
 use borrow.Author.Rules.{rules}
 use Rattle.abstractions.proofs.+copies.Goals as goal
 
-pub copy_length-walk-requires : goal.copy_length-walk-requires
-copy_length-walk-requires t c = search (rules, counting_compares)
+pub copy_length-requires : goal.copy_length-requires
+copy_length-requires t c = search (rules, counting_compares)
 
-pub returns-in-Upto : goal.returns-in-Upto
-returns-in-Upto t c = search (rules, counts_copy)
+pub returns-in-Some : goal.returns-in-Some
+returns-in-Some t c = counts_copy _ _ _ _ c.in-Some.ensures
 
 pub copies-head-requires : goal.copies-head-requires
 copies-head-requires t c = (search (rules, shorter), search (rules, counting_head))
@@ -20,13 +20,13 @@ copies-argument-requires t c =
     (search (rules, shorter_behind), counting_argument _ _ _ c.requires _ _ c.if-kind.true c.copies-head.ensures)
 
 pub returns-then-kind : goal.returns-then-kind
-returns-then-kind t c = search (rules, counts_application, no_copy)
+returns-then-kind t c = search (rules, counts_application, no_copy, c.in_default.ensures)
 
 pub copies-body-requires : goal.copies-body-requires
 copies-body-requires t c = (search (rules, shorter), search (rules, counting_body))
 
 pub returns-then-kind-2 : goal.returns-then-kind-2
-returns-then-kind-2 t c = search (rules, counts_abstraction, no_copy)
+returns-then-kind-2 t c = search (rules, counts_abstraction, no_copy, c.in_default.ensures)
 
 pub returns : goal.returns
-returns t c = search (rules, counts_leaf, no_copy)
+returns t c = search (rules, counts_leaf, no_copy, c.in_default.ensures)

@@ -1,7 +1,7 @@
 -- `arranging::compare_entries` meets its contract: an entry is read as what the line has, and two values go by their bytes. Assumes
 -- nothing.
 use mathlib.Core.Path.{sym, ◌∙◌}
-use Rattle.arranging.proofs.Comparing.{value_within, open_against_lem, open_later, by_values}
+use Rattle.arranging.proofs.Comparing.{value_within, open_against_lem, open_later, by_values, bytes_compared}
 use Rattle.arranging.proofs.compare_entries.Goals as goal
 
 pub returns-in_default : goal.returns-in_default
@@ -25,4 +25,4 @@ value_of-requires-2 c =
 pub returns : goal.returns
 returns c =
     by_values _ _ _ _ _ _ (sym c.entry_at-x.ensures ∙ c.in-Assigned.is) (sym c.entry_at-y.ensures ∙ c.in-Assigned-y.is) _ _
-    c.value_of.ensures c.value_of-2.ensures _ c.compare.ensures
+    c.value_of.ensures c.value_of-2.ensures _ (bytes_compared _ _ _ c.cmp.ensures)

@@ -1,6 +1,5 @@
 -- `arranging::merge` meets its contract. The loop's invariant: lines stand in both tables from the places reached on, and merging them
 -- behind what is written merges the whole. Assumes nothing.
-use Prim.Native.Nat.{◌-◌}
 use native.Mathlib.Omega.{arith}
 use Rattle.arranging.proofs.Merging.{going_on, merging_end}
 use borrow.Author.Rules.{rules}

@@ -1,26 +1,33 @@
 -- `book::rewrite_first` meets its contract. Assumes nothing.
+use mathlib.Core.Path.{ap, ◌∙◌}
+use Rattle.std.proofs.lemmas.Result.{err_from_is_err_and}
+use Rattle.std.specs.declared.result.Result.TheVariants.{Ok}
 use Rattle.book.proofs.Answers.{answered_refused, answered_nothing, form_few, form_stands, answered_form}
 use borrow.Author.Rules.{rules}
 use Rattle.book.proofs.rewrite_first.Goals as goal
 
 pub overflow_mul-n : goal.overflow_mul-n
 overflow_mul-n c =
-    let few = form_few _ _ _ c.requires _ _ c.search-found.ensures _ _ _ c.in-Form.is in
+    let few = form_few _ _ _ c.requires _ _ c.search.ensures _ _ _ (c.in_ok-pairs.was ∙ ap Ok c.in-Form.is) in
     search rules
 
 pub slice_bounds-write_whole-end : goal.slice_bounds-write_whole-end
 slice_bounds-write_whole-end c =
-    let few = form_few _ _ _ c.requires _ _ c.search-found.ensures _ _ _ c.in-Form.is in
+    let few = form_few _ _ _ c.requires _ _ c.search.ensures _ _ _ (c.in_ok-pairs.was ∙ ap Ok c.in-Form.is) in
     search rules
 
 pub write_whole-requires : goal.write_whole-requires
-write_whole-requires c = search (rules, form_stands)
+write_whole-requires c = form_stands _ _ _ c.requires _ _ c.search.ensures _ _ _ (c.in_ok-pairs.was ∙ ap Ok c.in-Form.is)
 
-pub returns-in-Refused : goal.returns-in-Refused
-returns-in-Refused c = search (rules, answered_refused)
+pub returns-in_err-pairs : goal.returns-in_err-pairs
+returns-in_err-pairs c =
+    let p = err_from_is_err_and c.from_residual.result c.from_residual.ensures.1 in
+    rw (p.1, p.2) (answered_refused _ _ _ c.requires _ _ c.search.ensures _ c.in_err-pairs.was _)
 
 pub returns-in-Nothing : goal.returns-in-Nothing
-returns-in-Nothing c = search (rules, answered_nothing)
+returns-in-Nothing c =
+    answered_nothing _ _ _ c.requires _ _ c.search.ensures _ (c.in_ok-pairs.was ∙ ap Ok c.in-Nothing.is) _ _ _ c.write_recipe.ensures
 
 pub returns-in-Form : goal.returns-in-Form
-returns-in-Form c = search (rules, answered_form)
+returns-in-Form c =
+    answered_form _ _ _ c.requires _ _ c.search.ensures _ _ _ (c.in_ok-pairs.was ∙ ap Ok c.in-Form.is) _ _ _ c.write_whole.ensures

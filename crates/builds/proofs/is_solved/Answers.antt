@@ -1,24 +1,24 @@
 -- `builds::is_solved` meets its contract. The head's first record, the walk over its body and the walk over body and target decide
 -- one condition each. Assumes nothing.
-use Rattle.builds.proofs.Solutions.{solved_other, asking, substituting, solved_unused, solved_yes, solved_no}
+use Rattle.builds.proofs.Solutions.{solved_other, asking, substituting, solved_unused, solved_says}
 use borrow.Author.Rules.{rules}
 use Rattle.builds.proofs.is_solved.Goals as goal
 
 pub returns-then-head : goal.returns-then-head
 returns-then-head c = solved_other _ _ _ c.if-head.true
 
-pub ask_part-unused-requires : goal.ask_part-unused-requires
-ask_part-unused-requires c =
+pub ask_part-requires : goal.ask_part-requires
+ask_part-requires c =
     asking _ _ _ c.if-head.false c.requires
 
-pub returns-in-Upto : goal.returns-in-Upto
-returns-in-Upto c = search (rules, solved_unused)
+pub returns-then-is_some : goal.returns-then-is_some
+returns-then-is_some c =
+    solved_unused _ _ _ c.if-head.false _ _ c.is_some.ensures c.if-is_some.true c.ask_part.ensures
 
-pub is_substituted-pairing-requires : goal.is_substituted-pairing-requires
-is_substituted-pairing-requires c = search (rules, substituting)
+pub is_substituted-requires : goal.is_substituted-requires
+is_substituted-requires c = search (rules, substituting)
 
-pub returns-in-Upto-pairing : goal.returns-in-Upto-pairing
-returns-in-Upto-pairing c = search (rules, solved_yes)
-
-pub returns-in-No : goal.returns-in-No
-returns-in-No c = search (rules, solved_no)
+pub returns : goal.returns
+returns c =
+    rw c.is_some-2.ensures
+    (solved_says _ _ _ c.if-head.false _ _ c.is_some.ensures c.if-is_some.false c.ask_part.ensures _ c.is_substituted.ensures)

@@ -1,4 +1,5 @@
 -- `builds::plan` meets its contract. Each way out is one law: one body is left, or the bodies are counted. Assumes nothing.
+use mathlib.Core.Path.{refl}
 use lib.ListN.{get_or-replicate}
 use Rattle.terms.specs.Figures.{value_records}
 use Rattle.builds.proofs.Building.{build_part_within, build_target_within, build_argument_within}
@@ -21,11 +22,11 @@ slice_bounds-lacks_local-start-2 c = search (rules, build_argument_within)
 pub lacks_local-requires : goal.lacks_local-requires
 lacks_local-requires c = search (rules, build_locals)
 
-pub returns-in-Failed : goal.returns-in-Failed
-returns-in-Failed c = search (rules, forced_body_failed, get_or-replicate, value_records)
+pub returns-in-None : goal.returns-in-None
+returns-in-None c = search (rules, forced_body_failed, get_or-replicate, value_records, c.in-None.ensures, refl)
 
-pub returns-in-Next : goal.returns-in-Next
-returns-in-Next c = search (rules, forced_body_next, get_or-replicate, value_records)
+pub returns-in-Some : goal.returns-in-Some
+returns-in-Some c = search (rules, forced_body_next, get_or-replicate, value_records, c.in-Some.ensures, refl)
 
 pub slice_bounds-copies-count : goal.slice_bounds-copies-count
 slice_bounds-copies-count c = search (rules, build_target_within)

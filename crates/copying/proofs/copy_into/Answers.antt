@@ -1,16 +1,15 @@
--- `copying::copy_into` meets its contract. The loop's invariant: the bytes passed are stored from o on. Assumes nothing.
-use mathlib.Core.Path.{refl}
-use native.Mathlib.Omega.{arith}
-use lib.ListN.{length-set}
-use Rattle.copying.proofs.Stores.{copied_more, copied_all}
-use borrow.Author.Rules.{rules}
+-- `copying::copy_into` meets its contract. Assumes nothing.
+use Rattle.std.proofs.Common.{length, ap, ◌∙◌, arith}
+use Rattle.std.proofs.lemmas.List.{take_all}
+use Rattle.std.proofs.lemmas.List.Edits.{sets}
+use Rattle.std.proofs.lemmas.Slice.{put_mid-paste}
+use Rattle.copying.proofs.Stores.{pasted}
 use Rattle.copying.proofs.copy_into.Goals as goal
 
-pub loop-i-init : goal.loop-i-init
-loop-i-init c = (omega arith, refl, refl)
-
-pub loop-i-preserved : goal.loop-i-preserved
-loop-i-preserved c = search (rules, length-set, copied_more)
-
 pub returns : goal.returns
-returns c = search (rules, copied_all)
+returns c =
+    let s = c.args.src.now in
+    let n = length s in
+    let out = c.args.out.now in
+    put_mid-paste c.args.o _ out _ s n c.copy_from_slice.ensures.after (omega arith) (omega arith)
+    ∙ pasted out s c.args.o n n (omega arith) (omega arith) c.requires ∙ ap (sets out c.args.o) (take_all n s (omega arith))

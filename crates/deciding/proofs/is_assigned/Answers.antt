@@ -1,28 +1,22 @@
--- `deciding::is_assigned` meets its contract. The loop's invariant: no record passed is an open variable. Assumes nothing.
-use Prim.Native.Nat.{◌-◌}
+-- `deciding::is_assigned` meets its contract: it asks each record of the part whether it is an open variable. Assumes nothing.
+use Prim.Native.Nat.{ℕ, ◌/◌}
 use mathlib.Core.Path.{refl}
 use native.Mathlib.Omega.{arith}
-use borrow.Author.Count.{below_more}
-use Rattle.records.proofs.Tests.{says}
-use Rattle.deciding.specs.Deciding.{OpenAt}
-use Rattle.deciding.proofs.Decisions.{open_here, none_open}
+use lib.ListN.{length}
 use borrow.Author.Rules.{rules}
+use borrow.Author.Tests.{tests}
+use Rattle.std.proofs.lemmas.Iterator.{cases_from_all, YieldsList-from_range}
+use Rattle.records.proofs.Tests.{says}
+use Rattle.agenda.proofs.Ranges.{all_below}
+use Rattle.deciding.specs.Deciding.{OpenAt}
+use Rattle.deciding.proofs.Decisions.{assigned_told}
 use Rattle.deciding.proofs.is_assigned.Goals as goal
 
-pub loop-k-init : goal.loop-k-init
-loop-k-init c = (refl, omega arith, λ j h. absurd (omega arith))
-
-pub returns-then-is_open : goal.returns-then-is_open
-returns-then-is_open c =
-    open_here _ c.loop-k.k (omega arith) _
-    (says (OpenAt _ _ _) _ _ c.is_open.ensures c.if-is_open.true)
-
-pub loop-k-preserved : goal.loop-k-preserved
-loop-k-preserved c = (
-  refl,
-  omega arith,
-  below_more _ _ c.loop-k.invariant.2 (says (OpenAt _ _ _) _ _ c.is_open.ensures c.if-is_open.false),
-)
-
 pub returns : goal.returns
-returns c = search (rules, none_open)
+returns c =
+    let l = c.args.part.now in
+    let yes = λ (k : ℕ). ¬ OpenAt l c.args.entries k in
+    let no = λ (k : ℕ). OpenAt l c.args.entries k in
+    assigned_told l c.args.entries c.all.result (all_below (length l / 4) yes no _
+    (cases_from_all _ _ _ yes no c.all.ensures.ran (YieldsList-from_range 0 _ (length l / 4) refl (omega arith))
+    (λ x q k. (search rules, search (rules, tests, says))) (λ x q k. search (rules, tests, says))))

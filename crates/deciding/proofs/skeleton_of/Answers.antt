@@ -9,7 +9,7 @@ returns-in_default c = search (rules, hole_sketch)
 
 pub slice_bounds-skeleton-end : goal.slice_bounds-skeleton-end
 slice_bounds-skeleton-end c =
-    let z = part_ends _ _ _ c.requires.0 _ c.requires.1 _ c.in-Upto.is in
+    let z = part_ends _ _ _ c.requires.0 _ c.requires.1 _ c.in-Some.is in
     search rules
 
 pub skeleton-count-requires : goal.skeleton-count-requires

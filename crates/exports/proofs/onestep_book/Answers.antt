@@ -6,28 +6,26 @@ use borrow.Author.Rules.{rules}
 use Rattle.exports.proofs.onestep_book.Goals as goal
 
 pub overflow_cast-result : goal.overflow_cast-result
-overflow_cast-result c = search (rules, fits_records, booked_few)
+overflow_cast-result c = fits_records _ (booked_few _ _ _ _ _ _ c.apply.ensures.answer _ c.in-Ok.is)
 
-pub returns-in-Records : goal.returns-in-Records
-returns-in-Records c = record {
+pub returns-in-Ok : goal.returns-in-Ok
+returns-in-Ok c = record {
   answer = (
-    c.apply-answer.result,
-    c.apply-answer.ensures.answer,
-    handed_on _ _ refl (fits_records _ (booked_few _ _ _ _ _ _ c.apply-answer.ensures.answer _ _ c.in-Records.is))
-        ∙ sym (ap book_code c.in-Records.is),
-    sym (ap (pairs_after _) c.in-Records.is),
+    c.apply.result,
+    c.apply.ensures.answer,
+    handed_on _ _ refl (fits_records _ (booked_few _ _ _ _ _ _ c.apply.ensures.answer _ c.in-Ok.is)) ∙ sym (ap book_code c.in-Ok.is),
+    sym (ap (pairs_after _) c.in-Ok.is),
   );
   area = search rules;
 }
 
-pub returns-in-Refused : goal.returns-in-Refused
-returns-in-Refused c = record {
+pub returns-in-Err : goal.returns-in-Err
+returns-in-Err c = record {
   answer = (
-    c.apply-answer.result,
-    c.apply-answer.ensures.answer,
-    handed_on _ _ c.refusal_code.ensures (fits_refusal c.in-Refused.c)
-        ∙ sym (ap book_code c.in-Refused.is),
-    sym (ap (pairs_after _) c.in-Refused.is),
+    c.apply.result,
+    c.apply.ensures.answer,
+    handed_on _ _ c.refusal_code.ensures (fits_refusal c.in-Err.refusal) ∙ sym (ap book_code c.in-Err.is),
+    sym (ap (pairs_after _) c.in-Err.is),
   );
   area = search rules;
 }

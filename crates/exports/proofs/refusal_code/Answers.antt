@@ -1,4 +1,4 @@
--- `exports::refusal_code` meets its contract: the number is one of seventeen, so that it fits, and so does minus it. Assumes nothing.
+-- `exports::refusal_code` meets its contract: the number is one of nineteen, so that it fits, and so does minus it. Assumes nothing.
 use mathlib.Core.Path.{sym, subst}
 use native.Mathlib.Omega.{arith}
 use mir.Syntax.{w64}

@@ -1,5 +1,4 @@
 -- `fit_table::clear_column` meets its contract. The loop's invariant: the entries of the buoys passed are written. Assumes nothing.
-use Prim.Native.Nat.{◌-◌}
 use Rattle.fit_table.proofs.Entries.{zero_marks}
 use Rattle.fit_table.proofs.Writing.{column_start, column_more, column_done}
 use borrow.Author.Rules.{rules}

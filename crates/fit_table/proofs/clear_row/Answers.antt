@@ -1,15 +1,8 @@
--- `fit_table::clear_row` meets its contract. The loop's invariant: the entries of the places passed are written. Assumes nothing.
-use Prim.Native.Nat.{◌-◌}
-use Rattle.fit_table.proofs.Entries.{zero_marks}
-use Rattle.fit_table.proofs.Writing.{row_start, row_more, row_done}
+-- `fit_table::clear_row` meets its contract: the buoy's row is one part of the table. Assumes nothing.
+use native.Mathlib.Omega.{arith}
 use borrow.Author.Rules.{rules}
+use Rattle.fit_table.proofs.Writing.{row_cleared}
 use Rattle.fit_table.proofs.clear_row.Goals as goal
 
-pub loop-i-init : goal.loop-i-init
-loop-i-init c = search (rules, row_start)
-
-pub loop-i-preserved : goal.loop-i-preserved
-loop-i-preserved c = search (rules, row_more, zero_marks)
-
 pub returns : goal.returns
-returns c = search (rules, row_done)
+returns c = row_cleared c.args.buoy _ c.args.fit.now c.fill.new.self (search rules) (search rules) (omega arith) (search rules)

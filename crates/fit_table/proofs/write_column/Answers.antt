@@ -1,5 +1,4 @@
 -- `fit_table::write_column` meets its contract. The loop's invariant: the entries of the buoys passed are written. Assumes nothing.
-use Prim.Native.Nat.{◌-◌}
 use lib.ListN.{length-set}
 use Rattle.storage.specs.Storage.{recipe_of}
 use Rattle.fit_table.specs.FitTable.{Fits}

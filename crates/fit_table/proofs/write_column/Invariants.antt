@@ -1,8 +1,6 @@
 -- `fit_table::write_column` meets its contract. The loop's invariant: the entries of the buoys passed are written. Assumes nothing.
 use mathlib.Core.Path.{◌≡◌}
-use Prim.Native.Nat.{◌-◌}
 use lib.ListN.{length}
-use Rattle.terms.specs.Figures.{buoys}
 use Rattle.storage.specs.Storage.{recipe_of}
 use Rattle.fit_table.specs.FitTable.{Fits}
 use Rattle.fit_table.proofs.Writing.{ColumnBelow}
@@ -12,6 +10,3 @@ abbrev pub invariant-loop-b : goal.invariant-loop-b
 invariant-loop-b l =
     (length l.fit ≡ length l.initial.fit) × (length l.work ≡ length l.initial.work)
     × ColumnBelow l.place l.b (λ c. Fits l.left (recipe_of c l.directory l.table)) l.initial.fit l.fit
-
-abbrev pub decreases-loop-b : goal.decreases-loop-b
-decreases-loop-b l = buoys - l.b

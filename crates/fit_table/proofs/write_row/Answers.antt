@@ -1,5 +1,4 @@
 -- `fit_table::write_row` meets its contract. The loop's invariant: the entries of the places passed are written. Assumes nothing.
-use Prim.Native.Nat.{◌-◌}
 use Rattle.fit_table.proofs.Writing.{row_start, row_more, row_done}
 use borrow.Author.Rules.{rules}
 use Rattle.fit_table.proofs.write_row.Goals as goal

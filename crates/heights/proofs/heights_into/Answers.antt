@@ -1,5 +1,4 @@
--- `heights::heights_into` meets its contract. The invariant: the heights from record i on are written, and those of the row there are kept;
--- the measure is the number of records that are left. Assumes nothing.
+-- `heights::heights_into` meets its contract. Assumes nothing.
 use borrow.Author.Rules.{rules}
 use Rattle.heights.proofs.Rows.{passed_start, passed_behind, passed_room, passed_step, passed_all}
 use Rattle.heights.proofs.heights_into.Goals as goal

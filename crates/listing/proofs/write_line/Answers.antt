@@ -1,18 +1,10 @@
--- `listing::write_line` meets its contract. The loop's invariant: once the entries that are left are written behind those passed the line
--- is; the measure is the number of entries left. Assumes nothing.
-use native.Mathlib.Omega.{arith}
+-- `listing::write_line` meets its contract. Assumes nothing.
 use Rattle.listing.proofs.Writers.{writing_start, writing_entry, writing_more, writing_done}
 use borrow.Author.Rules.{rules}
 use Rattle.listing.proofs.write_line.Goals as goal
 
 pub loop-i-init : goal.loop-i-init
 loop-i-init c = search (rules, writing_start)
-
-pub overflow_mul-i : goal.overflow_mul-i
-overflow_mul-i c = omega arith
-
-pub overflow_add-at : goal.overflow_add-at
-overflow_add-at c = omega arith
 
 pub write_entry-next-requires : goal.write_entry-next-requires
 write_entry-next-requires c = search (rules, writing_entry)

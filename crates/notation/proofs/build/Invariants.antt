@@ -1,12 +1,6 @@
--- `notation::build` meets its contract. The loop's invariant: the text is read up to `i` and the end is within the table, which keeps its
--- length. Assumes nothing.
-use Prim.Native.Nat.{◌≤◌, ◌-◌}
-use mathlib.Core.Path.{◌≡◌}
-use lib.ListN.{length}
+-- `notation::build` meets its contract. The loop's invariant: the end is within the table. Assumes nothing.
+use Rattle.std.proofs.Common.{length, ◌≤◌}
 use Rattle.notation.proofs.build.Given as goal
 
-abbrev pub invariant-loop-i : goal.invariant-loop-i
-invariant-loop-i l = (l.i ≤ length l.text) × (l.end ≤ length l.out) × (length l.out ≡ length l.initial.out)
-
-abbrev pub decreases-loop-i : goal.decreases-loop-i
-decreases-loop-i l = length l.text - l.i
+abbrev pub invariant-loop-c : goal.invariant-loop-c
+invariant-loop-c l = l.end ≤ length l.out

@@ -6,5 +6,5 @@ use Rattle.program.proofs.print_answer.Goals as goal
 
 pub print_listing-requires : goal.print_listing-requires
 print_listing-requires c =
-    listed_printable _ _ _ _ _ _ _ _ c.list-answer.ensures.answer _ c.in-Lines.is (omega (arith, c.list-answer.auto.lines))
+    listed_printable _ _ _ _ _ _ _ _ c.list-answer.ensures.answer _ c.in-Ok.is (omega (arith, c.list-answer.auto.lines))
     (omega (arith, c.list-answer.auto.values))

@@ -1,13 +1,13 @@
--- `records::good_records` meets its contract. The invariant: the table's records are good exactly if those from `at` on are; the measure
--- is what is left of the table. Assumes nothing.
-use mathlib.Core.Path.{◌≡◌}
-use Prim.Native.Nat.{◌-◌, ◌≤◌}
-use lib.ListN.{length, drop}
+-- `records::good_records` meets its contract. The invariant: the table's records are good exactly if those that are left are. Assumes
+-- nothing.
+use Rattle.std.proofs.Common.{◌≡◌, ◌%◌, length}
+use Rattle.std.specs.Slice.Iter.{chunks_exact_size, chunks_exact_rest}
 use Rattle.terms.specs.Table.{good_records}
 use Rattle.records.proofs.good_records.Given as goal
 
-abbrev pub invariant-loop-at : goal.invariant-loop-at
-invariant-loop-at l = (l.at ≤ length l.s) × (good_records l.variables l.s ≡ good_records l.variables (drop l.at l.s))
-
-abbrev pub decreases-loop-at : goal.decreases-loop-at
-decreases-loop-at l = length l.s - l.at
+abbrev pub invariant-loop-record : goal.invariant-loop-record
+invariant-loop-record l = record {
+  size : chunks_exact_size l.record-iterator ≡ 4;
+  rest : length (chunks_exact_rest l.record-iterator) % 4 ≡ length l.s % 4;
+  good : good_records l.variables l.s ≡ good_records l.variables (chunks_exact_rest l.record-iterator);
+}

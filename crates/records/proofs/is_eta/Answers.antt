@@ -13,20 +13,19 @@ returns-then-s c = eta_no_application _ c.if-s.true
 pub returns-then-not-innermost_at : goal.returns-then-not-innermost_at
 returns-then-not-innermost_at c = eta_other_last _ c.if-s.false (sym c.innermost_at.ensures ∙ c.if-not-innermost_at.true)
 
-pub ask_part-head-requires : goal.ask_part-head-requires
-ask_part-head-requires c =
+pub ask_part-requires : goal.ask_part-requires
+ask_part-requires c =
     let n = slice_length c.args.s.now 4 in
     (search (rules, head_slice, tree_whole), omega (arith, n))
 
 pub overflow_add-result : goal.overflow_add-result
 overflow_add-result c =
-    let e = slice_end c.args.s.now _ _ _ c.in-Upto.is c.ask_part-head.ensures in
+    let e = slice_end c.args.s.now 4 _ _ c.in-Some.ensures in
     omega (arith, e.within)
 
-pub returns-in-Upto : goal.returns-in-Upto
-returns-in-Upto c =
-    eta_ends_slice c.args.s.now c.if-s.false _ c.ask_part-head.ensures _
-    (sym c.innermost_at.ensures ∙ c.if-not-innermost_at.false) c.in-Upto.is
+pub returns-in-Some : goal.returns-in-Some
+returns-in-Some c =
+    eta_ends_slice c.args.s.now c.if-s.false _ (sym c.innermost_at.ensures ∙ c.if-not-innermost_at.false) c.in-Some.ensures
 
-pub returns-in-No : goal.returns-in-No
-returns-in-No c = search (rules, eta_used_slice)
+pub returns-in-None : goal.returns-in-None
+returns-in-None c = eta_used_slice c.args.s.now c.if-s.false c.in-None.ensures

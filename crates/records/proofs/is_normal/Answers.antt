@@ -1,16 +1,12 @@
 -- `records::is_normal` meets its contract. The walk over the whole table came to its end exactly if the term is normal. Assumes nothing.
 use native.Mathlib.Omega.{arith}
-use Rattle.terms.specs.Term.{Normal}
 use Rattle.records.proofs.Parts.{tree_whole}
-use Rattle.records.proofs.Tests.{walked_table, walked_table_no}
+use Rattle.records.proofs.Tests.{walked_table}
 use borrow.Author.Rules.{rules}
 use Rattle.records.proofs.is_normal.Goals as goal
 
-pub normal_part-walk-requires : goal.normal_part-walk-requires
-normal_part-walk-requires c = (search (rules, tree_whole), omega arith)
+pub normal_part-requires : goal.normal_part-requires
+normal_part-requires c = (search (rules, tree_whole), omega arith)
 
-pub returns-in-Upto : goal.returns-in-Upto
-returns-in-Upto c = walked_table _ Normal _ _ c.in-Upto.is c.normal_part-walk.ensures
-
-pub returns-in-No : goal.returns-in-No
-returns-in-No c = search (rules, walked_table_no)
+pub returns : goal.returns
+returns c = rw c.is_some.ensures (walked_table _ _ _ c.normal_part.ensures)

@@ -1,29 +1,39 @@
--- `records::pass_part` meets its contract. The invariant: as many terms stand at `at` as parts are missing there; the measure is what is
--- left of the table. Assumes nothing.
-use mathlib.Core.Path.{ap, ◌∙◌}
-use lib.ListN.{get_or}
-use native.Mathlib.Omega.{arith}
-use Rattle.records.specs.Record.{read_parts}
+-- `records::pass_part` meets its contract. Assumes nothing.
+use Rattle.std.proofs.Common.{get_or, length, ap, ◌∙◌, length-drop, arith, rules}
+use Rattle.std.proofs.lemmas.Slice.{between_to_end}
 use Rattle.records.proofs.Record.{read_parts_lem}
-use Rattle.records.proofs.Passing.{passing_start, passing_step, reached_end, reached_short}
-use borrow.Author.Rules.{rules}
+use Rattle.records.proofs.Passing.{passing_start, chunk_within, passing_chunk, reached}
 use Rattle.records.proofs.pass_part.Goals as goal
 
-pub loop-missing-init : goal.loop-missing-init
-loop-missing-init c = search (rules, passing_start)
-
-pub returns-then-s-at-lt-RECORD : goal.returns-then-s-at-lt-RECORD
-returns-then-s-at-lt-RECORD c = search (rules, reached_short)
+pub loop-record-init : goal.loop-record-init
+loop-record-init c = record { size = search rules; passing = (passing_start _ _ c.requires, search (rules, between_to_end)) }
 
 pub overflow_add-missing : goal.overflow_add-missing
-overflow_add-missing c = omega arith
+overflow_add-missing c = omega (arith, c.loop-record.invariant.passing.0.few)
 
-pub loop-missing-preserved : goal.loop-missing-preserved
-loop-missing-preserved c =
-    passing_step _ _ _ _ c.loop-missing.invariant c.loop-missing-test.true (omega arith)
-    (λ i. omega (arith, c.type_inv.s i)) _ (c.following.ensures.0
-    ∙ ap read_parts c.from_byte-read.ensures ∙ read_parts_lem (get_or c.args.s.now c.loop-missing.at 0))
-    c.following.ensures.1
+pub overflow_add-at : goal.overflow_add-at
+overflow_add-at c =
+    let step = c.in-Some.ensures.steps.1 in
+    let i = c.loop-record.invariant in
+    omega (arith, chunk_within _ _ _ _ _ _ _ i.passing step.0 (step.1 ∙ i.size))
 
-pub returns : goal.returns
-returns c = search (rules, reached_end)
+pub loop-record-preserved : goal.loop-record-preserved
+loop-record-preserved c =
+    let step = c.in-Some.ensures.steps.1 in
+    let i = c.loop-record.invariant in
+    record {
+      size = c.in-Some.ensures.steps.0 ∙ i.size;
+      passing = passing_chunk _ _ _ _ _ _ _ i.passing step.0 (step.1 ∙ i.size) _ c.if-missing-eq0.false (λ k. omega (arith, c.type_inv.s k))
+          (c.parts_behind.ensures.0 ∙ read_parts_lem (get_or c.in-Some.record.now 0 0))
+          c.parts_behind.ensures.1;
+    }
+
+pub returns-in-None : goal.returns-in-None
+returns-in-None c =
+    let i = c.loop-record.invariant in
+    let few = c.in-None.ensures.steps.1.0 in
+    reached _ _ _ _ c.requires i.passing.0
+    (λ h. omega (arith, i.size, few, ap length i.passing.1, length-drop c.loop-record.at c.args.s.now))
+
+pub returns-then-missing-eq0 : goal.returns-then-missing-eq0
+returns-then-missing-eq0 c = search (rules, reached)

@@ -1,21 +1,19 @@
 -- `rewriting::check` meets its contract, from the verdict on its tables and from the match. Assumes nothing.
-use Rattle.refusals.proofs.Judging.{right_known}
-use Rattle.rewriting.proofs.Answers.{checked_lent, checked_yes, checked_no, checked_long}
-use borrow.Author.Rules.{rules}
+use Rattle.std.proofs.lemmas.Result.{err_from_is_err_and}
+use Rattle.refusals.proofs.Judging.{known}
+use Rattle.rewriting.proofs.Answers.{checked_lent, checked_matched}
 use Rattle.rewriting.proofs.check.Goals as goal
 
-pub returns-in-Refused : goal.returns-in-Refused
-returns-in-Refused c = search (rules, checked_lent)
+pub returns-in_err-verdict-clause-answer : goal.returns-in_err-verdict-clause-answer
+returns-in_err-verdict-clause-answer c =
+    let p = err_from_is_err_and c.from_residual.result c.from_residual.ensures.1 in
+    rw (p.1, p.2) (checked_lent c.args.pattern.now c.args.recipe.now c.args.line.now c.args.values.now c.args.work.now _ _
+    c.in_err-verdict.ensures)
 
-pub match_recipe-found-requires : goal.match_recipe-found-requires
-match_recipe-found-requires c =
-    right_known _ _ _ c.judge_check-verdict.ensures c.in-Right.is
+pub match_recipe-requires : goal.match_recipe-requires
+match_recipe-requires c = known _ _ c.in_ok-verdict.ensures
 
-pub returns-in-Yes : goal.returns-in-Yes
-returns-in-Yes c = search (rules, checked_yes)
-
-pub returns-in-No : goal.returns-in-No
-returns-in-No c = search (rules, checked_no)
-
-pub returns-in-TooLong : goal.returns-in-TooLong
-returns-in-TooLong c = search (rules, checked_long)
+pub returns-clause-answer : goal.returns-clause-answer
+returns-clause-answer c =
+    checked_matched c.args.pattern.now c.args.recipe.now c.args.line.now c.args.values.now c.args.work.now _ _ c.in_ok-verdict.ensures
+    c.match_recipe.ensures

@@ -1,23 +1,21 @@
 -- `rewriting::judge_check` meets its contract: the last step refuses where the rows of the steps before it passed. Assumes nothing.
-use Rattle.refusals.proofs.Judging.{judged_first, judged_stop, judged_next, right_known}
-use borrow.Author.Rules.{rules}
+use Rattle.refusals.proofs.Judging.{judged_on, judged_and}
+use Rattle.rewriting.proofs.Judges.{check_stop, check_known, check_judged}
 use Rattle.rewriting.proofs.judge_check.Goals as goal
 
-pub returns-in-Refused : goal.returns-in-Refused
-returns-in-Refused c =
-    judged_stop _ _ _ (judged_first _ _ _ _ _ _ _ c.judge_tables.ensures
-    (judged_first _ _ _ _ _ _ _ c.judge_pattern.ensures c.judge_recipe.ensures c.first-sides.ensures)
-    c.first-lent.ensures) _ _ _ c.in-Refused.is
+pub returns-in_err-and : goal.returns-in_err-and
+returns-in_err-and c =
+    judged_on _ _ _ _ c.from_residual.ensures.1
+    (check_stop _ _ _ _ c.judge_tables-tables.ensures c.args.pattern.now c.args.recipe.now _
+    (rw c.and-terms.ensures (judged_and _ _ _ _ _ _ c.judge_pattern.ensures c.judge_recipe.ensures)) _ c.in_err-and.ensures)
 
 pub judge_assignment-requires : goal.judge_assignment-requires
 judge_assignment-requires c =
-    let x = right_known _ _ _ (judged_first _ _ _ _ _ _ _ c.judge_tables.ensures
-    (judged_first _ _ _ _ _ _ _ c.judge_pattern.ensures c.judge_recipe.ensures c.first-sides.ensures)
-    c.first-lent.ensures) c.in-Right.is in
-    search rules
+    check_known _ _ _ _ c.judge_tables-tables.ensures c.args.pattern.now c.args.recipe.now _
+    (rw c.and-terms.ensures (judged_and _ _ _ _ _ _ c.judge_pattern.ensures c.judge_recipe.ensures)) c.in_ok-and.ensures
 
 pub returns : goal.returns
 returns c =
-    judged_next _ _ _ (judged_first _ _ _ _ _ _ _ c.judge_tables.ensures
-    (judged_first _ _ _ _ _ _ _ c.judge_pattern.ensures c.judge_recipe.ensures c.first-sides.ensures)
-    c.first-lent.ensures) _ _ _ _ c.in-Right.is (λ w x. (x, w.1.1)) c.judge_assignment.ensures
+    check_judged _ _ _ _ c.judge_tables-tables.ensures c.args.pattern.now c.args.recipe.now _
+    (rw c.and-terms.ensures (judged_and _ _ _ _ _ _ c.judge_pattern.ensures c.judge_recipe.ensures)) c.in_ok-and.ensures
+    _ c.judge_assignment.ensures

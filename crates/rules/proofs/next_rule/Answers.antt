@@ -1,17 +1,18 @@
--- `rules::next_rule` meets its contract. The loop's invariant: the places passed are empty. Assumes nothing.
-use Rattle.rules.proofs.Places.{reached_start, reached_more, reached_rule, reached_end}
-use borrow.Author.Tests.{not-true, not-false}
+-- `rules::next_rule` meets its contract: the places before the one that is found are empty. Assumes nothing.
+use Prim.Native.Nat.{ℕ}
+use mathlib.Core.Bool.{true, false}
+use mathlib.Core.Path.{◌≡◌}
 use borrow.Author.Rules.{rules}
+use borrow.Author.Tests.{tests}
+use Rattle.std.proofs.lemmas.Iterator.{first_from_Range}
+use Rattle.rules.specs.Rules.{is_empty}
+use Rattle.rules.proofs.Places.{found}
 use Rattle.rules.proofs.next_rule.Goals as goal
 
-pub loop-i-init : goal.loop-i-init
-loop-i-init c = search (rules, reached_start)
-
-pub returns-then-not-is_empty : goal.returns-then-not-is_empty
-returns-then-not-is_empty c = search (rules, reached_rule, not-true)
-
-pub loop-i-preserved : goal.loop-i-preserved
-loop-i-preserved c = search (rules, reached_more, not-false)
-
 pub returns : goal.returns
-returns c = search (rules, reached_end)
+returns c =
+    let b = c.args.book.now in
+    let f = found b c.args.from c.find.result c.requires
+    (first_from_Range _ _ _ _ (λ (i : ℕ). is_empty b i ≡ false) (λ (i : ℕ). is_empty b i ≡ true) c.find.ensures.ran
+    (λ x q k. search (rules, tests)) (λ x q k. search (rules, tests))) in
+    rw c.unwrap_or.ensures f

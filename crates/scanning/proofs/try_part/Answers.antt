@@ -14,7 +14,6 @@ is_closed-requires c =
 pub try_rules-requires : goal.try_rules-requires
 try_rules-requires c = (
   c.requires.0,
-  search rules,
   here_recipe _ c.requires.1 _ c.requires.2 _ c.end_at-end.ensures _ c.is_closed.ensures c.if-is_closed.true,
   pairs_most _ c.requires.1 _ c.requires.2 _ c.requires.3,
 )

@@ -7,8 +7,8 @@ use Rattle.skeletons.proofs.abstract_over.Goals as goal
 pub returns-then-is_unsure : goal.returns-then-is_unsure
 returns-then-is_unsure c = abstracts_unsure _ _ _ _ c.hole.ensures
 
-pub returns-in_default : goal.returns-in_default
-returns-in_default c = search (rules, abstracts_hole)
+pub returns-in-None : goal.returns-in-None
+returns-in-None c = search (rules, abstracts_hole)
 
-pub returns : goal.returns
-returns c = search (rules, abstracts_contracted)
+pub returns-in-Some : goal.returns-in-Some
+returns-in-Some c = search (rules, abstracts_contracted)

@@ -3,8 +3,8 @@ use Rattle.skeletons.proofs.Contractions.{applies_hole, applies_contracted}
 use borrow.Author.Rules.{rules}
 use Rattle.skeletons.proofs.apply_skeleton.Goals as goal
 
-pub returns-in_default : goal.returns-in_default
-returns-in_default c = search (rules, applies_hole)
+pub returns-in-None : goal.returns-in-None
+returns-in-None c = search (rules, applies_hole)
 
-pub returns : goal.returns
-returns c = search (rules, applies_contracted)
+pub returns-in-Some : goal.returns-in-Some
+returns-in-Some c = search (rules, applies_contracted)

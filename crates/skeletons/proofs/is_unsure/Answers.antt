@@ -3,7 +3,7 @@
 use native.Mathlib.Omega.{arith}
 use Rattle.records.proofs.Slices.{whole_slice, slice_length}
 use Rattle.skeletons.proofs.Tests.{unsure_hole, sure_other, tree_head_whole, unsure_argument, sure_argument, sure_outer}
-use Rattle.skeletons.proofs.Tests.{sure_exact, unsure_inexact}
+use Rattle.skeletons.proofs.Tests.{none_is, sure_exact}
 use borrow.Author.Rules.{rules}
 use Rattle.skeletons.proofs.is_unsure.Goals as goal
 
@@ -23,12 +23,9 @@ returns-then-argument-2 c =
 pub returns-then-number_at-ne0 : goal.returns-then-number_at-ne0
 returns-then-number_at-ne0 c = search (rules, sure_outer)
 
-pub exact_part-head-requires : goal.exact_part-head-requires
-exact_part-head-requires c =
+pub exact_part-requires : goal.exact_part-requires
+exact_part-requires c =
     (search (rules, whole_slice, tree_head_whole), omega (arith, slice_length c.args.body.now 4))
 
-pub returns-in-Upto : goal.returns-in-Upto
-returns-in-Upto c = search (rules, sure_exact)
-
-pub returns-in-No : goal.returns-in-No
-returns-in-No c = search (rules, unsure_inexact)
+pub returns : goal.returns
+returns c = rw (none_is _ _ c.is_none.ensures) (search (rules, sure_exact))

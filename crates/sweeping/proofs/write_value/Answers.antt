@@ -22,8 +22,8 @@ copy_into-requires c =
     let h = given_bytes _ _ _ _ c.requires.given _ c.in-Assigned.is in
     omega (arith, h.most, h.exact, ap length c.value_of.ensures ∙ ap length h.bytes ∙ encode_length c.requires.value)
 
-pub returns-in-Open : goal.returns-in-Open
-returns-in-Open c = λ v g. open_not _ _ _ _ g c.in-Open.is
+pub returns-in_default : goal.returns-in_default
+returns-in_default c = λ v g. open_not _ _ _ _ g c.in_default.is
 
-pub returns-in-Assigned : goal.returns-in-Assigned
-returns-in-Assigned c = search (rules, value_written, given_bytes)
+pub returns : goal.returns
+returns c = search (rules, value_written, given_bytes)

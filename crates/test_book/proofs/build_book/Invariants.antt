@@ -1,12 +1,9 @@
--- `test_book::build_book` meets its contract. The loop's invariant: the end is within the book, which keeps its length. Each turn passes an
--- entry, so the measure is what is left of the text. Assumes nothing.
-use Prim.Native.Nat.{◌≤◌, ◌-◌}
-use mathlib.Core.Path.{◌≡◌}
-use lib.ListN.{length}
+-- `test_book::build_book` meets its contract. The invariant of both loops: the end is within the book. Assumes nothing.
+use Rattle.std.proofs.Common.{◌≤◌, length}
 use Rattle.test_book.proofs.build_book.Given as goal
 
-abbrev pub invariant-loop-at : goal.invariant-loop-at
-invariant-loop-at l = (l.end ≤ length l.places) × (length l.places ≡ length l.initial.places)
+abbrev pub invariant-loop : goal.invariant-loop
+invariant-loop l = l.at ≤ length l.places
 
-abbrev pub decreases-loop-at : goal.decreases-loop-at
-decreases-loop-at l = length l.text - l.at
+abbrev pub invariant-loop-entry : goal.invariant-loop-entry
+invariant-loop-entry l = l.at ≤ length l.places

@@ -20,7 +20,7 @@ overflow_mul-m t c =
     omega (
       arith,
       contracted_few c.requires c.if-n-eq0.false _ _ _ c.contract_abstraction-length.ensures
-          (omega arith) _ c.in-Records.is,
+          (omega arith) _ c.in-Some.is,
     )
 
 pub slice_bounds-enclose_into-end : goal.slice_bounds-enclose_into-end

@@ -1,6 +1,7 @@
 -- `joins::pairs::add_pair` meets its contract. Each test is a condition for one pair more, and the look-up has the last one.
 -- Assumes nothing.
 use Rattle.joins.proofs.Spines.{adds_nothing, adds_pair}
+use Rattle.records.proofs.Options.{none_found}
 use borrow.Author.Rules.{rules}
 use Rattle.joins.proofs.pairs.add_pair.Goals as goal
 
@@ -13,8 +14,8 @@ returns-then-pattern-j c = adds_nothing _ _
 pub returns-then-m-n : goal.returns-then-m-n
 returns-then-m-n c = adds_nothing _ _
 
-pub returns-in-Local : goal.returns-in-Local
-returns-in-Local c = adds_nothing _ _
+pub returns-then-is_some : goal.returns-then-is_some
+returns-then-is_some c = adds_nothing _ _
 
-pub returns-in-Nothing : goal.returns-in-Nothing
-returns-in-Nothing c = search (rules, adds_pair)
+pub returns : goal.returns
+returns c = search (rules, adds_pair, none_found)

@@ -1,5 +1,5 @@
 -- `joins::pairs::find_pair` meets its contract. The loop's invariant: the constants are none of the pairs passed, each of which stands for
--- one local; the measure is how many pairs are left. Assumes nothing.
+-- one local. Assumes nothing.
 use Rattle.joins.proofs.Spines.{pairs_passed_first, passed_pair, passed_next, pairs_passed}
 use borrow.Author.Rules.{rules}
 use Rattle.joins.proofs.pairs.find_pair.Goals as goal
