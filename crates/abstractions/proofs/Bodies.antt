@@ -89,14 +89,6 @@ module _ (s : List ℕ) (d : ℕ) (e : List ℕ) where
 
   -- what counting the parts needs
   module _ (x : Counting s d e) where
-    pub counting_compares : PartsComparable s e 0 d
-    counting_compares = record {
-      first = x.target;
-      second = x.argument;
-      shallow = omega (arith, x.shallow);
-      few = omega (arith, x.shallow);
-    }
-
     pub counting_head : get_or s 0 0 ≡ 0 → Counting (slice s 4) d e
     counting_head z = record {
       target = head_slice s x.target z;
@@ -119,18 +111,6 @@ module _ (s : List ℕ) (d : ℕ) (e : List ℕ) where
       argument = x.argument;
       shallow = omega (arith, x.shallow, x.target.least, slice_length s 4);
     }
-
--- a copy written by its choice
-module _ (s : List ℕ) (d : ℕ) (m : List ℕ) (k : ℕ) (out : List ℕ) (o : ℕ) where
-  pub chose_kept : (p : List ℕ) (r end : ℕ) → get_or m k 0 ≡ 0 → Wrote (shift 1) s 0 d out o p r end → Chose s d m k out o p end
-  chose_kept p r end z w =
-      let c : chosen_in m k ≡ false = le-ltb 0 (get_or m k 0) (omega arith) in
-      record { exact = λ t u. rw c (w.exact t u); bytes = λ t u. rw c (w.bytes t u) }
-
-  pub chose_local : (p : List ℕ) → ¬ (get_or m k 0 ≡ 0) → p ≡ sets out o (record_bytes 2 d []) → Chose s d m k out o p (o + 4)
-  chose_local p z w =
-      let c : chosen_in m k ≡ true = lt-ltb 0 (get_or m k 0) (omega arith) in
-      record { exact = λ t u. rw c (omega arith); bytes = λ t u. rw c w }
 
 -- the bytes of a body, part by part
 module _ (s : List ℕ) (d : ℕ) (e m : List ℕ) (k : ℕ) (out : List ℕ) (o : ℕ) where
@@ -253,17 +233,6 @@ module _ (s : List ℕ) (d : ℕ) (e : List ℕ) (last k room o : ℕ) (x : Body
   pub choosing_whole : Whole s 0
   choosing_whole = whole s 0 x.source.tree x.source.part
 
-  pub choosing_compares : PartsComparable s e 0 d
-  choosing_compares = record {
-    first = choosing_whole;
-    second = x.argument;
-    shallow = omega (arith, x.most);
-    few = omega (arith, x.source.shallow);
-  }
-
-  pub choosing_choice : k < last
-  choosing_choice = omega (arith, x.choices, x.source.part.some)
-
   module _ (rest : ℕ) (same_room : rest ≡ room) where
     pub choosing_head : get_or s 0 0 ≡ 0 → BodySource (slice s 4) d e last k rest (o + 4)
     choosing_head z =
@@ -295,14 +264,6 @@ module _ (s : List ℕ) (d : ℕ) (e : List ℕ) (last k room o : ℕ) (x : Body
         choosing (slice s 4) (d + 1) e last k rest (o + 4) a.b a.body x.argument (omega (arith, x.most, slice_length s 4))
         (subst (λ (j : ℕ). NumbersFit (shift 1 j a.b)) (sym (add-one d)) f)
         (omega (arith, b.shallow)) (omega (arith, b.enough, size_shift 1 d b.tree)) (omega (arith, x.choices))
-
--- where the parts end, in a table of few bytes
-pub body_fits : (s : List ℕ) (r : ℕ) → length s ≤ table_bytes → 4 ≤ length s → Ends (slice s 4) 0 r → 4 + r ≤ table_bytes
-body_fits s r h i e = omega (arith, e.within, slice_length s 4)
-
-pub argument_fits : (s : List ℕ) (h r : ℕ) → length s ≤ table_bytes → Ends (slice s 4) 0 h → Ends (slice s (4 + h)) 0 r
-    → 4 + h + r ≤ table_bytes
-argument_fits s h r n e d = omega (arith, e.more, e.within, d.within, slice_length s 4, slice_length s (4 + h))
 
 -- parts of tables, handed on as slices
 module _ (l m : List ℕ) (at e : ℕ) (d : ℕ) where

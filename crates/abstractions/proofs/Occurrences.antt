@@ -99,14 +99,6 @@ none_before s goal e d left w g q = let m : CopyBefore s goal e d (Some left) = 
 
 -- what looking for a copy needs of the parts
 module _ (s e : List ℕ) (d : ℕ) (x : Looks s e d) where
-  pub looks_compares : PartsComparable s e 0 d
-  looks_compares = record {
-    first = x.first;
-    second = x.second;
-    shallow = omega (arith, x.shallow);
-    few = omega (arith, x.shallow);
-  }
-
   pub looks_head : get_or s 0 0 ≡ 0 → Looks (slice s 4) e d
   looks_head z = record {
     first = head_slice s x.first z;

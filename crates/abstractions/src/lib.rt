@@ -165,7 +165,8 @@ fn is_copy(s: &[u8], e: &[u8], d: usize) -> bool
 }
 
 // Looks for a copy of the part that e begins with among the first `goal` parts of the part that s begins with, above which d binders stand.
-// It stops at the first. Where some are left behind a head, the others are its records and the application's own.
+// It stops at the first, and gives none; else how many of the parts are left behind it. Where some are left behind a head, the others are
+// its records and the application's own.
 fn copy_before(s: &[u8], goal: usize, e: &[u8], d: usize) -> Option<usize>
     requires { Looks s.now e.now d }
     ensures { CopyBefore s.now goal e.now d result }

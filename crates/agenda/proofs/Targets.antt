@@ -60,10 +60,6 @@ module _ (W : List ℕ) (at end : ℕ) (x : WrittenTarget W at end) where
     bytes_of : (t : Term) → Part W at t → take (end - at) (drop at W) ≡ encode t
     bytes_of t y = part_bytes W at (end - at) t y (omega (arith, x.end_is, ap size (part_one W at x.tree t x.part y)))
 
-    pub heights_room : n ≤ length B
-    heights_room =
-        omega (arith, m, l, x.end_is, x.few, length_stored (heights x.tree) A B 0 (f x.tree (bytes_of x.tree x.part)))
-
     pub heights_copied : (X : List ℕ) → X ≡ sets W (at - height_bytes) (take (n - 0) (drop 0 B)) → (t : Term) → Part W at t
         → X ≡ sets W (at - height_bytes) (heights t)
     heights_copied X e t y =

@@ -47,7 +47,8 @@ pub struct Binding {
     pub agenda: Agenda,
 }
 
-// What taking the first easy goal comes to: no assignment satisfies it, or the agenda that is left, perhaps with a variable assigned.
+// What taking the first easy goal comes to: no assignment satisfies it, or the agenda that is left, perhaps with a variable assigned. Like
+// the two enums below it has three outcomes, so that no Option says it.
 #[derive(Clone, Copy)]
 pub enum Step {
     Failed,

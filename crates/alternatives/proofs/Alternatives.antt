@@ -133,11 +133,6 @@ module _ (P W : List ℕ) (s : Agenda) (a : List Entry) (x : ApplicationDeferred
     no_parts k = way_failed P W s a x r y 0 W refl (λ f b t gs hs l φ v w p.
         alternative_no_parts φ f b t (λ q. k (kind_at W r.target t v.target.part ∙ q)) p.1.0)
 
-pub at_way :
-    (P W : List ℕ) (s : Agenda) (a : List Entry) (i j : ℕ) (X : List ℕ) (r : Option Agenda) → i ≡ j → Branched P W s a (Way j) X r
-    → Branched P W s a (Way i) X r
-at_way P W s a i j X r e x = subst (λ (n : ℕ). Branched P W s a (Way n) X r) (sym e) x
-
 -- the goals that the target's own parts leave
 module _ (P W : List ℕ) (s : Agenda) (a : List Entry) (r : StoredGoal) (h e : ℕ) (Y X : List ℕ) (bounds : Bounds P W s)
     (eh : Ends P (r.part + 4) h) (ee : Ends W (r.target + 4) e)

@@ -106,7 +106,8 @@ fn constant_head(
     Some(builds::push_abstraction(work, agenda, head, &b[0..n]))
 }
 
-// The way with this number in which the first deferred goal, an application, comes to its target.
+// The way with this number in which the first deferred goal, an application, comes to its target; none, if it doesn't. A number and no
+// enum, since the search counts through the ways.
 pub fn way(
     pattern: &[u8],
     work: &mut [u8],

@@ -112,14 +112,8 @@ module _ (P W : List ℕ) (s : Agenda) (a : List Entry) where
           from_application (Whole P h) (λ gs hs l f b t z. whole P h b
           (argument_from P r.part h f b e (application_site r gs hs l f b t y z).part))
 
-      pub application_argument_within : (h : ℕ) → Ends P (r.part + 4) h → h ≤ length P
-      application_argument_within h e = omega (arith, e.within)
-
       pub argument_whole_slice : (h : ℕ) → Ends P (r.part + 4) h → Whole (slice P h) 0
       argument_whole_slice h e = whole_slice P h (application_argument_whole h e)
-
-      pub head_place : r.part + 4 ≤ length P
-      head_place = omega (arith, stored_bounds.part_low)
 
       pub application_target_within : r.target ≤ length W
       application_target_within = omega (arith, stored_bounds.target.least)
@@ -153,9 +147,6 @@ branch_failed P W s a Q X x = x
 -- a goal that is written
 pub stored_as : (W Y : List ℕ) (at : ℕ) (i j : StoredGoal) → i ≡ j → Y ≡ sets W at (stored_bytes i) → Y ≡ sets W at (stored_bytes j)
 stored_as W Y at i j p q = q ∙ ap (λ (k : StoredGoal). sets W at (stored_bytes k)) p
-
-pub fits_as : (i j : StoredGoal) → i ≡ j → StoredFits j → StoredFits i
-fits_as i j p x = subst StoredFits (sym p) x
 
 pub fits_build :
     (i : StoredGoal) (part origin target next argument : ℕ) → i ≡ stored_build part origin target next argument → part < part_limit

@@ -80,11 +80,6 @@ module _ (W : List ℕ) (top at j : ℕ) where
     number_within : (t : Term) → Part W at t → j < size t
     number_within t p = subst (λ (u : Term). j < size u) (part_one W at x.tree t x.part p) x.within
 
-    pub argument_part_within : at + 4 * j ≤ length W
-    argument_part_within =
-        let q = part_at_lem W at 0 x.tree j x.part (number_within x.tree x.part) in
-        omega (arith, q.within)
-
     pub lowers : (room : ℕ) → room ≡ target_bytes → Lowers (slice W (at + 4 * j)) 0 d room 0
     lowers room r =
         let t = x.tree in
@@ -121,9 +116,6 @@ module _ (W : List ℕ) (top at j : ℕ) where
             let t = x.tree in
             let m = number_within t x.part in
             omega (arith, walked_upto.0.exact (part_at 0 t j).1 (part_at_lem W at 0 t j x.part m), part_most t j m, x.few)
-
-        pub copied_room : length out ≡ target_bytes → top + height_bytes + length (take (n - 0) (drop 0 after)) ≤ length W
-        copied_room o = omega (arith, moved_end, x.room, length-take (n - 0) (drop 0 after))
 
         module _ (o : length out ≡ target_bytes) where
           moved_out : MovedOut j after n x.tree
@@ -533,13 +525,3 @@ module _ (P W : List ℕ) (s : Agenda) (a : List Entry) (x : ApplicationDeferred
         subst (λ (q : Agenda). Branched P W s a (Way (suc (suc j))) Z (Some q)) (sym d.agenda)
         (branch_next P W s a (Way (suc (suc j))) Z (record { top = end + 2 * goal_bytes; easy = end + goal_bytes; deferred = end })
         (argument_move h eh (subst (Earlier (slice X r.target) j (slice X (target_start s))) c b) _ Z refl d.stored))
-
--- the two goals as they were made
-pub argument_pushed : (W : List ℕ) (s : Agenda) (r : StoredGoal) (h end : ℕ) (i k : StoredGoal) (Y Z : List ℕ)
-    → i ≡ head_goal s r → Y ≡ sets W end (stored_bytes i) → k ≡ argument_goal s h → Z ≡ sets Y (end + goal_bytes) (stored_bytes k)
-    → ArgumentPushed W s r h end Z (record { top = end + 2 * goal_bytes; easy = end + goal_bytes; deferred = end })
-argument_pushed W s r h end i k Y Z p first q second = record {
-  stored = stored_as Y Z (end + goal_bytes) k (argument_goal s h) q second
-      ∙ ap (λ (l : List ℕ). sets l (end + goal_bytes) (stored_bytes (argument_goal s h))) (stored_as W Y end i (head_goal s r) p first);
-  agenda = refl;
-}

@@ -186,14 +186,6 @@ pub record LinesCompared (A B : List ℕ) (i : ℕ) (X : List ℕ) (r : Bool) : 
 
 -- lines compared, from variable i on
 module _ (A B : List ℕ) (i : ℕ) (X : List ℕ) where
-  no_entries : i ≡ variables → LinesCompared A B i X false
-  no_entries e = record { exact = λ l m s t. go l m (omega (arith, s.entries)) (omega (arith, t.entries)) }
-    where
-      go : (l m : Line) → length l ≡ 0 → length m ≡ 0 → ¬ Less l m
-      go [] [] p q h = h
-      go [] (y ∷ m) p q h = omega arith
-      go (x ∷ l) m p q h = omega arith
-
   module _ (h : i < variables) where
     -- both lines have an entry for variable i
     by_entries :
@@ -298,9 +290,6 @@ module _ (A B X : List ℕ) where
   undecided_start x = record { comparable = begin_comparable x; decides = compared_ordered }
 
   module _ (i : ℕ) (x : Undecided i) where
-    pub undecided_end : variables ≤ i → Ordered A B X false
-    undecided_end h = x.decides false (no_entries A B i X (omega (arith, x.comparable.most)))
-
     module _ (h : i < variables) (c : Ordering) (y : EntriesCompared A B i X c) where
       pub decided_earlier : c ≡ Ordering.Less → Ordered A B X true
       decided_earlier e = x.decides true (line_earlier A B i X h c e y)

@@ -281,15 +281,6 @@ pub record MergingOn (A B X out : List ℕ) (i j : ℕ) (now : List ℕ) : Type 
   pub merged : (final : List ℕ) → Merged (drop i A) (drop j B) X now (i + j) final → Merged A B X out 0 final
 
 module _ (A B X out : List ℕ) where
-  pub going_on :
-      (i j k m : ℕ) (now after : List ℕ) → MergingOn A B X out i j now → length after ≡ length now → MergedLine A i B j X now after k m
-      → MergingOn A B X out k m after
-  going_on i j k m now after g n s = record {
-    merging = s.merging;
-    long = n ∙ g.long;
-    merged = λ final z. g.merged final (s.merged final z);
-  }
-
   pub merging_end : (i j : ℕ) (now : List ℕ) → MergingOn A B X out i j now → length A + length B ≤ i + j → Merged A B X out 0 now
   merging_end i j now g h =
       let x = g.merging in

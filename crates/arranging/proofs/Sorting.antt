@@ -39,9 +39,6 @@ whole_written out b after e n =
 
 -- both halves merged, and copied back
 module _ (L X work : List ℕ) (h : ℕ) where
-  pub merges_parts : Merges (take h L) (drop h L) X work → Merges (take (h - 0) (drop 0 L)) (take (length L - h) (drop h L)) X work
-  merges_parts x = rw (first_part L h, rest_part L h) x
-
   pub merged_back :
       (p after : List ℕ) → h ≤ length L → length L ≤ length work
       → Merged (take (h - 0) (drop 0 L)) (take (length L - h) (drop h L)) X work 0 p

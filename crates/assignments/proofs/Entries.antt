@@ -48,9 +48,6 @@ module _ (s : List ℕ) (a : List Entry) (i : ℕ) where
   abbrev pub IsGiven : Type 0
   IsGiven = (v : Term) × Given s a i v
 
-  pub not_open : get_or a i Open ≡ Open → ¬ IsGiven
-  not_open e g = open_span (sym e ∙ g.1.is)
-
   module _ (x : Span) (e : get_or a i Open ≡ Assigned x) where
     pub same_span : (v : Term) (g : Given s a i v) → g.span ≡ x
     same_span v g = span_inj g.span x (sym g.is ∙ e)
@@ -122,17 +119,8 @@ module _ (l s : List ℕ) (a : List Entry) (r : Read l a variables) (i : ℕ) (h
     value = x.value;
   }
 
--- one record
-pub variable_here : (l : List ℕ) (at i n : ℕ) → get_or l at 0 ≡ 4 → n ≡ number_at l at → Says (eqb n i) (VariableAt l at i)
-variable_here l at i n k e =
-    by_eqb (λ b. Says b (VariableAt l at i)) n i (λ p. record { kind = k; number = sym e ∙ p }) (λ p v. p (e ∙ v.number))
-
 -- a variable has no value, or has one where it is mentioned
 module _ (l s : List ℕ) (a : List Entry) where
-  pub lacking_given : (i : ℕ) (r : Bool) → Mentions l i → Says r (IsGiven s a i) → Lacking l s a i (not r)
-  lacking_given i true m g = λ _. g
-  lacking_given i false m n = (m, λ v g. n (v, g))
-
   pub lacking_is : (i : ℕ) (b r : Bool) → Lacking l s a i b → b ≡ r → Lacking l s a i r
   lacking_is i b r x e = subst (Lacking l s a i) e x
 

@@ -24,7 +24,7 @@ pub struct Span {
     pub count: usize,
 }
 
-// What an assignment has for one variable.
+// What an assignment has for one variable. An enum of its own, by value in an array: document 01 names this form.
 #[derive(Clone, Copy)]
 pub enum Entry {
     Open,

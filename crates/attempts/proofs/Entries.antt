@@ -41,9 +41,6 @@ module _ (l : List ℕ) (at n : ℕ) (h : at + 2 ≤ length l) where
       ap₂ (λ (x y : ℕ). x * 256 + y) (byte_other k (λ e. omega (arith, e)) (λ e. omega (arith, e)))
       (byte_other (k + 1) (λ e. omega (arith, e)) (λ e. omega (arith, e)))
 
-pub filled_none : (l : List ℕ) (n : ℕ) → FilledOpen l n l 0
-filled_none l n = record { length_is = refl; filled = λ i h. absurd (omega arith); kept = λ i h. record { first = refl; count = refl } }
-
 -- an entry that is not open, and one that is
 module _ (l : List ℕ) (n i c : ℕ) (e : c ≡ word_at l (4 * i + 2)) where
   pub entry_assigned : 0 < c → EntryWritten l n i l
@@ -96,30 +93,3 @@ module _ (l : List ℕ) (n i c : ℕ) (e : c ≡ word_at l (4 * i + 2)) where
           ap (λ (r : List ℕ). word_at r k) y
           ∙ word_after p (4 * i + 2) 1 (omega (arith, ap length x, length-sets l (4 * i) (word n []))) k (omega arith)
           ∙ ap (λ (r : List ℕ). word_at r k) x ∙ word_after l (4 * i) n (omega arith) k (omega arith)
-
--- one variable more
-pub filled_more : (l : List ℕ) (n : ℕ) (p : List ℕ) (i : ℕ) → FilledOpen l n p i → (m : List ℕ) → EntryWritten p n i m
-    → FilledOpen l n m (i + 1)
-filled_more l n p i x m y = record {
-  length_is = y.length_is ∙ x.length_is;
-  filled = λ k h. at k (ℕ_discrete k i) h;
-  kept = λ k h.
-      let a = y.kept k (λ e. omega (arith, e)) in
-      let b = x.kept k (omega arith) in
-      record { first = a.first ∙ b.first; count = a.count ∙ b.count };
-}
-  where
-    at : (k : ℕ) → Dec (k ≡ i) → k < i + 1 → EntryFilled l n m k
-    at k (yes e) h = subst (EntryFilled l n m) (sym e) (
-        let b = x.kept i (omega arith) in
-        record {
-          first = y.filled.first ∙ ap₂ (open_first n) b.first b.count;
-          count = y.filled.count ∙ ap open_count b.count;
-        })
-    at k (no e) h =
-        let a = y.kept k e in
-        let b = x.filled k (omega arith) in
-        record { first = a.first ∙ b.first; count = a.count ∙ b.count }
-
-pub filled_all : (l : List ℕ) (n : ℕ) (m : List ℕ) (i : ℕ) → i ≤ variables → variables ≤ i → FilledOpen l n m i → FilledOpen l n m variables
-filled_all l n m i h g x = let e : i ≡ variables = omega arith in subst (FilledOpen l n m) e x

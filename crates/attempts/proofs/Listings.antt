@@ -105,9 +105,6 @@ module _ (p q : List ℕ) (t : Term) (n : ℕ) (lines values : List ℕ) (x : Li
 
 -- whether line 0 can be used
 module _ (q : List ℕ) (n : ℕ) (lines values : List ℕ) where
-  pub none_usable : n ≡ 0 → UsableTold q n lines values false
-  none_usable e p t x u = omega (arith, u.0, x.count)
-
   abbrev line : List ℕ
   line = take (4 * variables - 0) (drop 0 lines)
 

@@ -113,25 +113,6 @@ module _ (b r w : List ℕ) (x : BookTables b r w) (a : Result SearchEnd Refusal
       (given s m, found (Ok (SearchEnd.Nothing m)) (sought_as (Ok (SearchEnd.Nothing m)) e) (given s m) refl, g s x.recipe.table.0)
 
   module _ (k n m : ℕ) (e : a ≡ Ok (SearchEnd.Form k n m)) where
-    form_of_part : PartForm r k n f
-    form_of_part = (sought_as (Ok (SearchEnd.Form k n m)) e).form_of
-
-    pub form_few : (n ≤ swept_records) × (n * 4 ≤ length f)
-    form_few = (form_of_part.table.few, form_of_part.table.begins.within)
-
-    pub form_stands : FormStands r k (take (n * 4 - 0) (drop 0 f))
-    form_stands =
-        let z = form_of_part in
-        record {
-          checked = x.recipe;
-          within = omega (arith, z.stands.some, z.stands.within);
-          term = z.term;
-          bytes = z.table.begins.bytes;
-          few = omega (arith, z.table.few, z.table.begins.records);
-          closed = z.table.closed;
-          below = z.table.below;
-        }
-
     pub answered_form : (o : List ℕ) (d : Result NewRecipe Refusal) (after : List ℕ)
         → WholeGiven r k (take (n * 4 - 0) (drop 0 f)) m o d after
         → BookAnswered b r o d after

@@ -1,6 +1,6 @@
 -- What a goal to build comes to before its bodies are gone through: a head that lacks a local of the argument has one body. From the law of
 -- matching for it, applied in every state that stands there. Assumes nothing.
-use mathlib.Core.Path.{◌≡◌, sym, ap, ◌∙◌, subst}
+use mathlib.Core.Path.{◌≡◌, refl, sym, ap, ◌∙◌, subst}
 use mathlib.Core.Bool.{Bool, true, false}
 use mathlib.Core.Logic.{◌↔◌}
 use mathlib.Core.List.{List}
@@ -8,6 +8,7 @@ use Prim.Native.Nat.{ℕ, suc, ◌-◌, ◌<◌, ◌≤◌}
 use native.Mathlib.Omega.{arith}
 use borrow.Author.Tests.{lt-ltb}
 use lib.ListN.{get_or}
+use Rattle.std.specs.Option.{MatchOption}
 use Rattle.std.specs.declared.option.Option.{Option}
 use Rattle.std.specs.declared.option.Option.TheVariants.{Some, None}
 use Rattle.terms.specs.Figures.{pattern_records, value_records}
@@ -77,13 +78,13 @@ module _ (P W : List ℕ) (s : Agenda) (a : List Entry) (ready : Ready relinking
         (λ p. (p.0, (q.0 p.1.0, p.1.1), p.2), λ p. (p.0, (q.1 p.1.0, p.1.1), p.2))) hs
 
     module _ (X : List ℕ) (c : Option Agenda) (g : Branched P W s a (ChosenBody m) X c) where
-      pub forced_body_failed : c ≡ None → Planned P W s a X Plan.Failed
+      forced_body_failed : c ≡ None → Planned P W s a X Plan.Failed
       unfolding Planned Branched
       forced_body_failed n =
           let d : Failed relinking P W s a (ChosenBody m) X = subst (Branched P W s a (ChosenBody m) X) n g in
           record { none = λ gs hs l z φ v p. d.none gs hs l z φ v ((question gs hs l z φ v).0 p); kept = d.kept }
 
-      pub forced_body_next : (s' : Agenda) → c ≡ Some s' → Planned P W s a X (Plan.Next s')
+      forced_body_next : (s' : Agenda) → c ≡ Some s' → Planned P W s a X (Plan.Next s')
       unfolding Planned Branched
       forced_body_next s' n =
           let d : Move relinking P W s a (ChosenBody m) X s' a = subst (Branched P W s a (ChosenBody m) X) n g in
@@ -102,6 +103,12 @@ module _ (P W : List ℕ) (s : Agenda) (a : List Entry) (ready : Ready relinking
             falls = d.falls;
             bounds = d.bounds;
           }
+
+    -- either way
+    pub forced_planned : (X : List ℕ) (c : Option Agenda) → Branched P W s a (ChosenBody m) X c → (p : Plan)
+        → MatchOption c (p ≡ Plan.Failed) (λ s'. p ≡ Plan.Next s') → Planned P W s a X p
+    forced_planned X None g p e = rw e (forced_body_failed X None g refl)
+    forced_planned X (Some s') g p e = rw e (forced_body_next X (Some s') g s' refl)
 
   -- the bodies are to be gone through
   pub counting : Counting (slice W r.target) 0 (slice W r.argument)

@@ -36,16 +36,6 @@ module _ (W : List ℕ) (s : Agenda) (r : StoredGoal) (b : List ℕ) (x : Pushes
   size_body = ap length x.table ∙ encode_length x.body
 
   -- the goal's fields fit
-  pub pushed_fits : (i : StoredGoal) → i ≡ stored_match r.part (target_start s) (target_start s) s.easy → StoredFits i
-  pushed_fits i e = rw e (record {
-    part = x.part;
-    origin = omega (arith, x.room);
-    from = omega arith;
-    near = omega arith;
-    next = omega (arith, x.easy);
-    argument = omega arith;
-  })
-
   pub abstraction_room : target_start s + 4 * size (lam x.body) ≤ length W
   abstraction_room = omega (arith, size_body, x.room, x.whole)
 

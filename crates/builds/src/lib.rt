@@ -48,7 +48,8 @@ fn any_chosen(chosen: &[u8], n: usize) -> bool
 }
 
 // The goal with the body of the chosen copies: what its head then has to sweep to is written at the top. No head sweeps to an abstraction
-// that is a redex, and an abstraction that doesn't use its local belongs to another goal: it uses it where a choice is made.
+// that is a redex, and an abstraction that doesn't use its local belongs to another goal: it uses it where a choice is made. None, if no
+// assignment satisfies the goal.
 pub fn body(
     pattern: &[u8],
     work: &mut [u8],
@@ -108,10 +109,7 @@ pub fn plan(pattern: &[u8], work: &mut [u8], agenda: Agenda, entries: [Entry; VA
     let argument = goal.argument;
     if agenda::locals::lacks_local(&pattern[part..], &work[argument..]) {
         let every = [1u8; VALUE_RECORDS];
-        return match body(pattern, work, agenda, entries, every) {
-            Some(next) => Plan::Next(next),
-            None => Plan::Failed,
-        };
+        return body(pattern, work, agenda, entries, every).map_or(Plan::Failed, Plan::Next);
     }
     let target = goal.target;
     let counted = abstractions::copies(&work[target..], 0, &work[argument..]);

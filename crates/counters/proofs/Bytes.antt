@@ -10,33 +10,6 @@ use Rattle.terms.specs.Figures.{words, ceiling}
 use Rattle.copying.proofs.Stores.{get_or_stored}
 use Rattle.counters.specs.Counters.{counter_bytes, count_at, raised}
 
-high_byte : (n : ℕ) → n ≤ ceiling → n / 16777216 % 256 ≡ n / words / 256
-high_byte n h = omega arith
-
-third_byte : (n : ℕ) → n / 256 % 256 ≡ n % words / 256
-third_byte n = omega arith
-
-low_byte : (n : ℕ) → n % 256 ≡ n % words % 256
-low_byte n = omega arith
-
--- one more, written
-pub raised_stored : (l p : List ℕ) (at n m : ℕ) → n ≡ count_at l at → m ≡ raised n → p ≡ sets l at (counter_bytes m)
-    → p ≡ sets l at (counter_bytes (raised (count_at l at)))
-raised_stored l p at n m e f h = h ∙ ap (λ (x : ℕ). sets l at (counter_bytes x)) (f ∙ ap raised e)
-
--- four stores
-pub number_stored : (l : List ℕ) (at n : ℕ) → n ≤ ceiling
-    → set (set (set (set l at (n / 16777216 % 256)) (at + 1) (n / 65536 % 256)) (at + 2) (n / 256 % 256)) (at + 3) (n % 256)
-    ≡ sets l at (counter_bytes n)
-number_stored l at n h =
-    let i : at + 1 ≡ suc at = omega arith in
-    let j : at + 2 ≡ suc (suc at) = omega arith in
-    let k : at + 3 ≡ suc (suc (suc at)) = omega arith in
-    let a = high_byte n h in
-    let b = third_byte n in
-    let d = low_byte n in
-    cc
-
 -- a word's two bytes, and the number that they give
 word_is : (n : ℕ) → n / 256 * 256 + n % 256 ≡ n
 word_is n = omega arith

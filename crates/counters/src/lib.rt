@@ -39,10 +39,7 @@ fn raise(n: usize) -> usize
     requires { n ≤ ceiling }
     ensures { result ≡ raised n }
 {
-    if n < CEILING {
-        return n + 1;
-    }
-    CEILING
+    (n + 1).min(CEILING)
 }
 
 // Adds one to the counter at byte `at`, unless it is at its highest number.

@@ -75,14 +75,6 @@ pub assigned_told : (l : List ℕ) (a : List Entry) (r : Bool)
 assigned_told l a true h = none_open l a h
 assigned_told l a false h = open_here l h.0 (omega (arith, h.1)) a h.2
 
-pub entry_open_at : (l : List ℕ) (a : List Entry) (k i : ℕ) → get_or l (4 * k) 0 ≡ 4 → i ≡ number_at l (4 * k)
-    → get_or a i Open ≡ Open → OpenAt l a k
-entry_open_at l a k i e q o = record { kind = e; is = ap (λ (j : ℕ). get_or a j Open) (sym q) ∙ o }
-
-pub assigned_not_open : (l : List ℕ) (a : List Entry) (k i : ℕ) (x : Span) → i ≡ number_at l (4 * k)
-    → get_or a i Open ≡ Assigned x → ¬ OpenAt l a k
-assigned_not_open l a k i x q e o = open_span (sym o.is ∙ ap (λ (j : ℕ). get_or a j Open) (sym q) ∙ e)
-
 -- the swept form against the targets
 module _ (W : List ℕ) (r : StoredGoal) (b : List ℕ) (x : Comparing W r b) where
   pub compared_match : r.argument ≡ 0 → (end : ℕ) (q : Bool) → Ends W r.target end
@@ -99,9 +91,6 @@ module _ (W : List ℕ) (r : StoredGoal) (b : List ℕ) (x : Comparing W r b) wh
       go false c x t e f = λ z. c (e ∙ ap encode z ∙ sym f)
 
   module _ (n : ¬ (r.argument ≡ 0)) where
-    pub deferred_argument_within : r.argument ≤ length W
-    deferred_argument_within = omega (arith, (x.argument n).least)
-
     pub solving_swept : Solving b (slice W r.argument) (slice W r.target)
     solving_swept = record {
       head = whole b 0 x.tree (at_start b x.tree x.bytes);

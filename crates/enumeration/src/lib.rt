@@ -110,10 +110,7 @@ fn enumerate_long(
 fn few_lines(lent: usize) -> usize
     ensures { (result ≤ lent) × (result ≤ short_lines) }
 {
-    if lent < SHORT_LINES / LINE {
-        return lent;
-    }
-    SHORT_LINES / LINE
+    lent.min(SHORT_LINES / LINE)
 }
 
 // Whether a search that stops behind `few` lines found all lines, and has written all records of their values.

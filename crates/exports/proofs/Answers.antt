@@ -124,13 +124,6 @@ number_few c = omega (arith, number_most c)
 pub fits_refusal : (c : Refusal) → SFits w64 (refusal_code c)
 fits_refusal c = fits_minus (number c) (number_few c)
 
--- 0 minus a refusal's number, as 64 bits hold it
-pub minus_number : (c : Refusal) (n : ℕ) → n ≡ number c → pos 0 -ℤ to_z w64 n ≡ refusal_code c
-minus_number c n e =
-    ap (λ (m : ℕ). pos 0 -ℤ to_z w64 m) e
-    ∙ ap (λ (z : ℤ). pos 0 -ℤ z) (to_z_pos w64 (number c) (fits_records (number c) (number_few c)).sfits)
-    ∙ +ℤ_idl (refusal_code c)
-
 -- a number that was handed on is still itself
 pub handed_on : (z k : ℤ) → z ≡ k → SFits w64 k → to_z w64 (of_z w64 z) ≡ k
 handed_on z k e f = ap (λ (y : ℤ). to_z w64 (of_z w64 y)) e ∙ to_z-of_z w64 k f
@@ -138,15 +131,6 @@ handed_on z k e f = ap (λ (y : ℤ). to_z w64 (of_z w64 y)) e ∙ to_z-of_z w64
 pub fits_counted : (a : Result ℕ Refusal) → Counts a → SFits w64 (count_code a)
 fits_counted (Ok n) h = fits_count n (h n refl)
 fits_counted (Err c) h = fits_refusal c
-
-pub fits_checked : (a : Result Bool Refusal) → SFits w64 (check_code a)
-fits_checked (Ok true) = fits_count 1 (omega arith)
-fits_checked (Ok false) = fits_count 0 (omega arith)
-fits_checked (Err c) = fits_refusal c
-
-pub fits_changed : (a : Result ⊤ Refusal) → SFits w64 (change_code a)
-fits_changed (Ok _) = fits_count 1 (omega arith)
-fits_changed (Err c) = fits_refusal c
 
 pub few_counts : (a : Result ℕ Refusal) → ((n : ℕ) → a ≡ Ok n → n ≤ table_bytes) → Counts a
 few_counts a h n e = omega (arith, h n e)

@@ -7,6 +7,7 @@ use mathlib.Core.Logic.{inl, inr}
 use Prim.Native.Nat.{ℕ, ◌+◌, ◌*◌, ◌<◌}
 use native.Mathlib.Omega.{arith}
 use lib.ListN.{length, drop, length-take}
+use Rattle.std.specs.Int.{from_bool}
 use Rattle.std.specs.declared.result.Result.TheVariants.{Ok, Err}
 use Rattle.terms.specs.Figures.{place_bytes, most_places, table_bytes}
 use Rattle.terms.specs.Refusal.{recipe_rows}
@@ -36,9 +37,6 @@ module _ (f : List ℕ) where
   unfolding Judged
   fit_good e = ((λ n. n e, tt), e)
 
-pub zero_marks : Marks 0 ⊥
-zero_marks = inr (refl, λ x. x)
-
 -- no term has a table without bytes
 pub no_side : (k : List ℕ) (i : ℕ) (r : List ℕ) → left_count k i ≡ 0 → ¬ RuleFits k i r
 no_side k i r e x =
@@ -59,16 +57,9 @@ module _ (k r w : List ℕ) (x : RuleReady k r w) (i : ℕ) (h : i < most_places
       pub rule_searchable : Searchable l r w
       rule_searchable = record { pattern = rw g rule_here.left.1; recipe = x.recipe; area = x.area }
 
-      module _ (a : Bool) (s : Says a (HasMatch l r)) where
-        pub rule_yes : a ≡ true → Marks 1 (RuleFits k i r)
-        rule_yes p = inl (
-          refl,
-          (rule_here.left.0, (x.passed, subst (λ (y : List ℕ). HasMatch y r) g (subst (λ (z : Bool). Says z (HasMatch l r)) p s))),
-        )
-
-        pub rule_no : a ≡ false → Marks 0 (RuleFits k i r)
-        rule_no p =
-            inr (refl, λ y. subst (λ (z : Bool). Says z (HasMatch l r)) p s (subst (λ (z : List ℕ). HasMatch z r) (sym g) y.1.1))
+      pub rule_marks : (a : Bool) → Says a (HasMatch l r) → (n : ℕ) → n ≡ from_bool a → Marks n (RuleFits k i r)
+      rule_marks true s n e = inl (e, (rule_here.left.0, (x.passed, subst (λ (y : List ℕ). HasMatch y r) g s)))
+      rule_marks false s n e = inr (e, λ y. s (subst (λ (z : List ℕ). HasMatch z r) (sym g) y.1.1))
 
 -- what a buoy has
 module _ (p r w : List ℕ) (x : Pattern p) (n : length w ≡ table_bytes) where
@@ -79,9 +70,6 @@ module _ (p r w : List ℕ) (x : Pattern p) (n : length w ≡ table_bytes) where
     pub held_searchable : Searchable p r w
     held_searchable = record { pattern = x; recipe = known (recipe_rows r) (Recipe r) j; area = n }
 
-    module _ (a : Bool) (s : Says a (HasMatch p r)) where
-      pub held_yes : a ≡ true → Marks 1 (Fits p r)
-      held_yes q = inl (refl, (passed (recipe_rows r) (Recipe r) j, subst (λ (z : Bool). Says z (HasMatch p r)) q s))
-
-      pub held_no : a ≡ false → Marks 0 (Fits p r)
-      held_no q = inr (refl, λ y. subst (λ (z : Bool). Says z (HasMatch p r)) q s y.1)
+    pub held_marks : (a : Bool) → Says a (HasMatch p r) → (m : ℕ) → m ≡ from_bool a → Marks m (Fits p r)
+    held_marks true s m e = inl (e, (passed (recipe_rows r) (Recipe r) j, s))
+    held_marks false s m e = inr (e, λ y. s y.1)

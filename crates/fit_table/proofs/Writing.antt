@@ -50,9 +50,6 @@ module _ (here more W : ℕ → ℕ → Type 0) (f g : List ℕ) (b i m : ℕ) (
           both : c ≡ b → j ≡ i → entry_at c j ≡ entry_at b i
           both k l = omega arith
 
-nothing_written : (here W : ℕ → ℕ → Type 0) (f : List ℕ) → ((c j : ℕ) → here c j → ⊥) → Written here W f f
-nothing_written here W f n = record { size = refl; entries = λ c j hc hj o. absurd (n c j o); others = λ c j hc hj o. refl }
-
 all_written : (here more W : ℕ → ℕ → Type 0) (f g : List ℕ) → ((c j : ℕ) → c < buoys → j < most_places → more c j → here c j)
     → ((c j : ℕ) → here c j → more c j) → Written here W f g → Written more W f g
 all_written here more W f g p q x = record {
@@ -67,9 +64,6 @@ pub record RowBelow (b n : ℕ) (W : ℕ → Type 0) (f g : List ℕ) : Type 0 w
   pub written : Written (λ c j. (c ≡ b) × (j < n)) (λ c j. W j) f g
 
 module _ (b : ℕ) (W : ℕ → Type 0) (f : List ℕ) where
-  pub row_start : RowBelow b 0 W f f
-  row_start = record { few = omega arith; written = nothing_written _ _ f (λ c j o. omega (arith, o.1)) }
-
   pub row_more : length f ≡ fit_bytes → b < buoys → (i : ℕ) (g : List ℕ) → RowBelow b i W f g → i < most_places → (m : ℕ) → Marks m (W i)
       → RowBelow b (i + 1) W f (set g (entry_at b i) m)
   row_more e h i g x k m y = record {
@@ -86,53 +80,12 @@ module _ (b : ℕ) (W : ℕ → Type 0) (f : List ℕ) where
   row_done i g x h =
       all_written (λ c j. (c ≡ b) × (j < i)) (λ c j. c ≡ b) (λ c j. W j) f g (λ c j hc hj o. (o, omega arith)) (λ c j o. o.0) x.written
 
--- a row that is written at once, as one part of the table
-module _ (f g : List ℕ) (a n : ℕ) (h : a + n ≤ length f) (e : length g ≡ n) where
-  part_length : length (put_mid a n f g) ≡ length f
-  part_length = search (rules, places)
-
-  part_within : (i : ℕ) → i < n → get_or (put_mid a n f g) (a + i) 0 ≡ get_or g i 0
-  part_within i l = grind (arith, places)
-
-  part_before : (k : ℕ) → k < a → get_or (put_mid a n f g) k 0 ≡ get_or f k 0
-  part_before k l = grind (arith, places)
-
-  part_behind : (k : ℕ) → a + n ≤ k → get_or (put_mid a n f g) k 0 ≡ get_or f k 0
-  part_behind k l = grind (arith, places)
-
-pub row_cleared : (b n : ℕ) (f g : List ℕ) → length f ≡ fit_bytes → b < buoys → n ≡ most_places → g ≡ replicate n 0
-    → RowWritten b (λ i. ⊥) f (put_mid (most_places * b) n f g)
-row_cleared b n f g e h m z = record {
-  size = part_length f g (most_places * b) n w k;
-  entries = λ c j hc hj o. inr (zero_at c j hj o, λ x. x);
-  others = λ c j hc hj o. same c j hj o (dec_lt c b);
-}
-  where
-    k : length g ≡ n
-    k = ap length z ∙ length-replicate n 0
-
-    w : most_places * b + n ≤ length f
-    w = omega arith
-
-    zero_at : (c j : ℕ) → j < most_places → c ≡ b → get_or (put_mid (most_places * b) n f g) (entry_at c j) 0 ≡ 0
-    zero_at c j hj o =
-        let j_in : j < n = omega arith in
-        rw o (part_within f g (most_places * b) n w k j j_in ∙ ap (λ (l : List ℕ). get_or l j 0) z ∙ get_or-replicate n j 0 0 j_in)
-
-    same : (c j : ℕ) → j < most_places → ¬ (c ≡ b) → Dec (c < b)
-        → get_or (put_mid (most_places * b) n f g) (entry_at c j) 0 ≡ get_or f (entry_at c j) 0
-    same c j hj o (yes l) = part_before f g (most_places * b) n w k (entry_at c j) (omega arith)
-    same c j hj o (no l) = part_behind f g (most_places * b) n w k (entry_at c j) (omega arith)
-
 -- a column
 pub record ColumnBelow (i n : ℕ) (W : ℕ → Type 0) (f g : List ℕ) : Type 0 where
   pub few : n ≤ buoys
   pub written : Written (λ c j. (j ≡ i) × (c < n)) (λ c j. W c) f g
 
 module _ (i : ℕ) (W : ℕ → Type 0) (f : List ℕ) where
-  pub column_start : ColumnBelow i 0 W f f
-  column_start = record { few = omega arith; written = nothing_written _ _ f (λ c j o. omega (arith, o.1)) }
-
   pub column_more :
       length f ≡ fit_bytes → i < most_places → (b : ℕ) (g : List ℕ) → ColumnBelow i b W f g → b < buoys → (m : ℕ) → Marks m (W b)
       → ColumnBelow i (b + 1) W f (set g (entry_at b i) m)

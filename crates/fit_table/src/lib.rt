@@ -39,10 +39,7 @@ fn rule_entry(book: &[u8], place: usize, recipe: &[u8], work: &mut [u8]) -> u8
     if rules::is_empty(book, place) {
         return 0;
     }
-    if fitting::has_match(rules::left_of(book, place), recipe, work) {
-        return 1;
-    }
-    0
+    u8::from(fitting::has_match(rules::left_of(book, place), recipe, work))
 }
 
 // The entry of a left side and what a buoy has, which may be no recipe.
@@ -52,12 +49,7 @@ fn held_entry(left: &[u8], held: &[u8], work: &mut [u8]) -> u8
 {
     match refusals::judge_recipe(held) {
         Err(_) => 0,
-        Ok(()) => {
-            if fitting::has_match(left, held, work) {
-                return 1;
-            }
-            0
-        }
+        Ok(()) => u8::from(fitting::has_match(left, held, work)),
     }
 }
 

@@ -62,9 +62,6 @@ module _ (s : List ℕ) (at next : ℕ) (row : List ℕ) (first : ℕ) (x : RowB
   row_room n e =
       omega (arith, x.room, part_heights_length x.tree, ap parts (kind_at s at x.tree x.part))
 
-  pub argument_in_row : get_or s at 0 ≡ 0 → first + 1 < length row
-  argument_in_row k = omega (arith, row_room 2 (ap parts (sym k)))
-
   height_of : (h : ℕ) → h ≡ height x.tree → HeightOf s at h
   height_of h e t y = e ∙ ap height (part_one s at x.tree t x.part y)
 
@@ -83,9 +80,6 @@ module _ (s : List ℕ) (at next : ℕ) (row : List ℕ) (first : ℕ) (x : RowB
   abstraction_height k h e =
       let v = abstraction s at x.tree x.part k in
       height_of h (e ∙ ap (◌- 1) (x.front ∙ begins _ v.is 0 first (omega arith)) ∙ sym (ap height v.is ∙ height_abstraction v.b))
-
-  pub local_low : (n : ℕ) → get_or s at 0 ≡ 2 → n ≡ number_at s at → n + 1 < 256
-  local_low n k e = omega (arith, x.low, local_height s at n k e x.tree x.part)
 
 -- the row that stands from record i of a term's table on
 abbrev opened : List Term → List Term

@@ -25,20 +25,7 @@ use records::{Kind, RECORD, VALUE_RECORDS};
 fn higher(x: u8, y: u8) -> u8
     ensures { result ≡ max x y }
 {
-    if x < y {
-        return y;
-    }
-    x
-}
-
-// The height of an abstraction by that of its body.
-fn outside(h: u8) -> u8
-    ensures { result ≡ h - 1 }
-{
-    if h == 0 {
-        return 0;
-    }
-    h - 1
+    x.max(y)
 }
 
 // The height of a part, and where the row then begins of which it is the first.
@@ -64,7 +51,7 @@ fn height_at(s: &[u8], at: usize, next: u8, row: &[u8], first: usize) -> Front
     }
     if kind == Kind::ABSTRACTION.code {
         return Front {
-            height: outside(next),
+            height: next.saturating_sub(1),
             first,
         };
     }

@@ -131,11 +131,9 @@ pub fn enclose_into(body: &[u8], n: usize, work: &mut [u8], o: usize) -> usize
         return o + body.len();
     }
     let mut out = [0u8; SWEPT_BYTES];
-    let length = sweeping::contract_abstraction(body, &mut out);
     // never so: there are too few records
-    let Some(m) = length else {
+    let Some(m) = sweeping::contract_abstraction(body, &mut out) else {
         return o;
     };
-    let m = m * RECORD;
-    enclose_into(&out[0..m], n - 1, work, o)
+    enclose_into(&out[0..m * RECORD], n - 1, work, o)
 }

@@ -70,7 +70,8 @@ fn add_pair(pattern: &[u8], q: Pairs) -> Option<Pairs>
     })
 }
 
-// What the parts at bytes x and y are. The constants of an application stand one behind another, as each is one record.
+// The pairs of the parts at bytes x and y, if they apply one variable to constants that are apart. The constants of an application stand one
+// behind another, as each is one record.
 pub fn spines_at(pattern: &[u8], x: usize, y: usize) -> Option<Pairs>
     requires { Whole pattern.now x × Whole pattern.now y × (length pattern.now ≤ 4 * pattern_records) }
     ensures { Repeats pattern.now x y result }

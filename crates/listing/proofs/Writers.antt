@@ -216,16 +216,6 @@ pub record Writing (s : List ℕ) (a : List Entry) (lines : List ℕ) (at : ℕ)
   pub same_values : length values_now ≡ length values
 
 module _ (s : List ℕ) (a : List Entry) (lines : List ℕ) (at : ℕ) (values : List ℕ) (first : ℕ) where
-  pub writing_start : WriteLine s a 0 lines at values first → Writing s a lines at values first lines values first 0
-  writing_start x =
-      let e : at ≡ at + 4 * 0 = omega arith in
-      record {
-        left = subst (λ (k : ℕ). WriteLine s a 0 lines k values first) e x;
-        whole = λ p w r y. subst (λ (k : ℕ). WroteLine s a lines k values first p w r) (sym e) y;
-        same_lines = refl;
-        same_values = refl;
-      }
-
   module _ (now then : List ℕ) (next i : ℕ) (x : Writing s a lines at values first now then next i) where
     pub writing_entry : i < variables → WriteEntry s (get_or a i Open) now (at + 4 * i) then next
     writing_entry h = entry_of s a i now (at + 4 * i) then next x.left h

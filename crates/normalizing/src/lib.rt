@@ -51,7 +51,7 @@ fn sweep_again(table: &mut [u8], n: usize) -> Option<usize>
 }
 
 // Sweeps the term of n records that the table begins with until it is normal, `most` times at most, and leaves its normal form there. A
-// term that is normal isn't swept.
+// term that is normal isn't swept. It calls itself, since a loop over the sweeps would ask once more behind it whether the term is normal.
 pub fn normalize(table: &mut [u8], n: usize, most: usize) -> Result<usize, NormalFault>
     requires { Normalizable table.old n }
     ensures { (t : Term) → Begins table.old n t → Normalized most 0 t result table.new }

@@ -247,35 +247,12 @@ module _ {P W : List ℕ} {at : ℕ} {r : StoredGoal} (x : Costed P W at) (y : S
       cases (match p t) z = has p z.part z.suits.0.0
       cases (build f t e) z = has f z.part z.suits.0.0
 
-  pub weighs_branches : r.argument ≡ 0 → Branches (slice P r.part) (slice W r.target)
-  weighs_branches n = record {
-    part = whole_slice P r.part weighs_part;
-    kind = cases x.goal x.stands x.deferred;
-    target = whole_slice W r.target weighs_target;
-    most = omega (arith, x.most, slice_length W r.target);
-  }
-    where
-      cases : (g : Goal) → GoalAt P W x.top at g → Deferred g → get_or (slice P r.part) 0 0 ≡ 0
-      cases (match (app f a) t) z h =
-          kind_at (slice P r.part) 0 (app f a) (part_slice P r.part (app f a) (rw y.part z.part))
-      cases (match (lam b) t) z h = absurd h
-      cases (match (loc i) t) z h = absurd h
-      cases (match (con i) t) z h = absurd h
-      cases (match (var i) t) z h = absurd h
-      cases (build f t e) z h = absurd (z.kind (sym y.argument ∙ n))
-
   pub weighs_argument : ¬ (r.argument ≡ 0) → Whole W r.argument
   weighs_argument n = cases x.goal x.stands
     where
       cases : (g : Goal) → GoalAt P W x.top at g → Whole W r.argument
       cases (match p t) z = absurd (n (y.argument ∙ z.kind))
       cases (build f t e) z = rw y.argument (whole W _ e z.argument.part)
-
-  pub weighs_target_within : r.target ≤ length W
-  weighs_target_within = omega (arith, weighs_target.least)
-
-  pub weighs_argument_within : ¬ (r.argument ≡ 0) → r.argument ≤ length W
-  weighs_argument_within n = omega (arith, (weighs_argument n).least)
 
   pub weighs_copies : ¬ (r.argument ≡ 0) → Counting (slice W r.target) 0 (slice W r.argument)
   weighs_copies n = counting_at W W r.target r.argument 0 weighs_target (weighs_argument n) (omega (arith, x.most))
@@ -363,30 +340,6 @@ module _ {P W : List ℕ} {s : Agenda} {a : List Entry} (x : Ready 0 P W s a) (n
       let b = x.bounds in
       ranks P W s.top s.deferred x.hs x.state.deferred some (omega (arith, b.top, b.whole)) (omega (arith, b.whole))
       b.short
-
-  pub forwarded_same : Forwarded P W s a W s
-  forwarded_same = record {
-    go = λ gs hs l y. record {
-      gs = gs;
-      hs = hs;
-      line = l;
-      state = record {
-        easy = y.easy;
-        deferred = y.deferred;
-        entries = y.entries;
-        line = y.line;
-        assigns = y.assigns;
-        room = omega (arith, y.room);
-      };
-      same = λ φ v. (λ z. z, λ z. z);
-    };
-    kept = refl;
-    higher = omega arith;
-    level = omega arith;
-    bounds = x.bounds;
-    none_easy = none;
-    some_deferred = some;
-  }
 
   relinking_room : s.top + goal_bytes * length x.hs ≤ table_bytes
   relinking_room = omega (arith, few_goals P W s.top s.deferred x.hs x.state.deferred, x.state.room)

@@ -33,21 +33,6 @@ is_then s t out p q at m r x y =
 pub word_put : (w out q : List ℕ) → q ≡ sets out 0 w → Puts (Is w) out 0 (length w) q
 word_put w out q b = puts (Is w) out 0 (length w) q w refl (omega arith) b
 
-pub number_put : (n k : ℕ) (d out q : List ℕ) (at r : ℕ) → IsDigitCount 10 1 n k → take k d ≡ last_digits 10 k n → k ≡ length (take k d)
-    → q ≡ sets out at (take k d) → r ≡ at + k → Puts (Decimal n) out at r q
-number_put n k d out q at r f e h b t =
-    puts (Decimal n) out at r q (take k d) (record { places = k; fewest = f; is = e }) (omega (arith, h, t)) b
-
-pub is_same : (s t out : List ℕ) (at r : ℕ) (q : List ℕ) → s ≡ t → Puts (Is s) out at r q → Puts (Is t) out at r q
-is_same s t out at r q e x = subst (λ (w : List ℕ). Puts (Is w) out at r q) e x
-
--- two digits are a byte
-pub digits_byte : (b x y : ℕ) (out p q : List ℕ) (at m r : ℕ) → x ≡ hex_digit_ascii (b / 16) → y ≡ hex_digit_ascii (b % 16)
-    → Puts (Is (x ∷ [])) out at m p
-    → Puts (Is (y ∷ [])) p m r q → Puts (Is (hex b)) out at r q
-digits_byte b x y out p q at m r e f u w =
-    is_same (x ∷ y ∷ []) (hex b) out at r q (ap₂ (λ (i j : ℕ). i ∷ j ∷ []) e f) (is_then (x ∷ []) (y ∷ []) out p q at m r u w)
-
 -- one record more
 pub records_more : (l out p q : List ℕ) (k at m r : ℕ) → Puts (Is (records_text l k)) out at m p → Puts (Is (record_text l k)) p m r q
     → Puts (Is (records_text l (k + 1))) out at r q

@@ -249,7 +249,7 @@ pub fn print_listing(count: usize, lines: &[u8], values: &[u8])
     print_lines(&mut out, count, lines, values);
 }
 
-// Prints a refusal by its number.
+// Prints a refusal by its number, so that what prints rests on nothing that refuses.
 pub fn print_refusal(number: u64) {
     let mut out = text_room();
     print_labelled(&mut out, b"refused", number as usize);

@@ -35,11 +35,6 @@ use Rattle.records.proofs.Parts.{at_start, tree}
 use Rattle.records.proofs.Tests.{says}
 
 -- lengths
-pub length_last : (m : ℕ) (l : List ℕ) → ¬ (length l ≡ 0) → length l % 4 ≡ 0 → Says (ltb m (length l / 4)) (BadLength m l)
-length_last m l n e =
-    by_ltb (λ t. Says t (BadLength m l)) m (length l / 4) (λ h. inr (inl (omega arith)))
-    (λ h b. ⊎_elim n (λ c. ⊎_elim (λ (x : 4 * m < length l). omega arith) (λ f. f e) c) b)
-
 pub length_most : (m : ℕ) (l : List ℕ) → ¬ BadLength m l → length l ≤ 4 * m
 length_most m l b = let h : ¬ (4 * m < length l) = λ p. b (inr (inl p)) in omega arith
 

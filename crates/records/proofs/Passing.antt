@@ -35,16 +35,6 @@ pub record Passing (l : List ℕ) (from at m : ℕ) : Type 0 where
   pub back : (v : ℕ) → good_records v (drop from l) ≡ true → (rest : List ℕ) → TermRow l at m rest → TermRow l from 1 rest
   pub good : (v : ℕ) → good_records v (drop from l) ≡ true → good_records v (drop at l) ≡ true
 
-pub passing_start : (l : List ℕ) (from : ℕ) → from ≤ length l → Passing l from from 1
-passing_start l from h = record {
-  within = h;
-  few = omega arith;
-  more = omega arith;
-  to = λ rest x. x;
-  back = λ v g rest x. x;
-  good = λ v g. g;
-}
-
 -- a record takes a term from the front of a row and puts its parts there
 open_row : (l : List ℕ) (at m : ℕ) (rest : List ℕ) → 0 < m → TermRow l at m rest → TermRow l (at + 4) (m - 1 + parts (get_or l at 0)) rest
 open_row l at m rest h x = go x.terms x.count x.bytes

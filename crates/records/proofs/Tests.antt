@@ -160,17 +160,7 @@ innermost_last l at last (con n) x e = leaf_last l at last (con n) x (omega arit
 innermost_last l at last (var n) x e = leaf_last l at last (var n) x (omega arith) refl
 
 -- the test for an abstraction that is itself a redex, by what it looks at in turn
-eta_other : (k : ℕ) → ¬ (k ≡ 0) → (t : Term) → k ≡ kind t → false ≡ is_eta t
-eta_other k n (app f a) e = absurd (n e)
-eta_other k n (lam b) e = refl
-eta_other k n (loc i) e = refl
-eta_other k n (con i) e = refl
-eta_other k n (var i) e = refl
-
 module _ (l : List ℕ) where
-  pub eta_no_application : ¬ (get_or l 0 0 ≡ 0) → Equals l is_eta false
-  eta_no_application n t e = eta_other (get_or l 0 0) n t (kind_at l 0 t (at_start l t e))
-
   module _ (k : get_or l 0 0 ≡ 0) where
     by_last : (G : Bool → Type 0)
         → ((f : Term) → Part l 4 f → G ((eqb (4 + 4 * size f) (length l - 4) && innermost_at l (length l - 4)) && not (uses 0 f)))

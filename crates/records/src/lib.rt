@@ -30,7 +30,7 @@ ghost use Rattle.records.specs.Checks.{Good, TableChecked, of_recipe};
 // The bytes of one record.
 pub const RECORD: usize = 4;
 
-// The kind of a record, by its number in document 01.
+// The kind of a record, by its number in document 01. A struct with constants and a constructor from a byte: that document names this form.
 #[derive(Clone, Copy)]
 pub struct Kind {
     pub code: u8,
@@ -100,10 +100,7 @@ impl Kind {
 fn parts_behind(byte: u8) -> usize
     ensures { (result ≡ read_parts (kind_of byte)) × (result ≤ 2) }
 {
-    match Kind::from_byte(byte) {
-        Some(kind) => kind.parts(),
-        None => 0,
-    }
+    Kind::from_byte(byte).map_or(0, |kind| kind.parts())
 }
 
 // A byte as a number of the width that positions have.

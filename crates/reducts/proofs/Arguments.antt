@@ -35,28 +35,7 @@ module _ (l : List ℕ) where
       go (var i) o = refl
 
   -- one record
-  pub not_local : (k : ℕ) → ¬ (get_or l 0 0 ≡ 2) → Equals l (is_local k) false
-  not_local k n (app f a) e = refl
-  not_local k n (lam b) e = refl
-  not_local k n (loc i) e = absurd (n (kind_of_lem (loc i) e))
-  not_local k n (con i) e = refl
-  not_local k n (var i) e = refl
-
-  pub same_local : (k m : ℕ) → get_or l 0 0 ≡ 2 → m ≡ number_at l 0 → Equals l (is_local k) (eqb m k)
-  same_local k m z i (app f a) e = absurd (omega (arith, z, kind_of_lem (app f a) e))
-  same_local k m z i (lam b) e = absurd (omega (arith, z, kind_of_lem (lam b) e))
-  same_local k m z i (loc n) e = ap (λ (j : ℕ). eqb j k) (i ∙ number_at_lem l 0 (loc n) (at_start l (loc n) e))
-  same_local k m z i (con n) e = absurd (omega (arith, z, kind_of_lem (con n) e))
-  same_local k m z i (var n) e = absurd (omega (arith, z, kind_of_lem (var n) e))
-
   module _ (k : ℕ) where
-    pub guarded_leaf : ¬ (get_or l 0 0 ≡ 0) → ¬ (get_or l 0 0 ≡ 1) → (b : Bool) → Equals l (is_local k) b → Equals l (guarded k) (not b)
-    guarded_leaf n o b h (app f a) e = absurd (n (kind_of_lem (app f a) e))
-    guarded_leaf n o b h (lam c) e = absurd (o (kind_of_lem (lam c) e))
-    guarded_leaf n o b h (loc i) e = ap not (h (loc i) e)
-    guarded_leaf n o b h (con i) e = ap not (h (con i) e)
-    guarded_leaf n o b h (var i) e = ap not (h (var i) e)
-
     pub guarded_body : get_or l 0 0 ≡ 1 → (m : List ℕ) → ((b : Term) → l ≡ encode (lam b) → m ≡ encode b) → (r : Bool)
         → Equals m (guarded (k + 1)) r → Equals l (guarded k) r
     guarded_body z m body r h t e =

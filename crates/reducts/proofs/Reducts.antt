@@ -57,21 +57,8 @@ module _ (f a : List ℕ) (z : get_or f 0 0 ≡ 1) (next n : ℕ) (u : UsesCount
       reduced (contract (app x y)) out after ((length f - 4 + n * (length a - 4)) / 4) (omega arith) (omega arith)
       (redex_bytes f a z next n u out after to end w x y e g)
 
-pub redex_tree : (f a : List ℕ) → SweptParts f a → Tree f
-redex_tree f a x = record { tree = x.head; bytes = x.head_bytes; least = x.head_least }
-
 -- which of the two is an application's reduct
 module _ (f a out : List ℕ) (r : Option ℕ) (after : List ℕ) where
-  no_redex : ¬ (get_or f 0 0 ≡ 1) → (x y : Term) → f ≡ encode x → applied x y ≡ app x y
-  no_redex n (app x b) y e = refl
-  no_redex n (lam b) y e = absurd (n (kind_at f 0 (lam b) (at_start f (lam b) e)))
-  no_redex n (loc i) y e = refl
-  no_redex n (con i) y e = refl
-  no_redex n (var i) y e = refl
-
-  pub applies_other : ¬ (get_or f 0 0 ≡ 1) → ReducesApplication f a out r after → ReducesRedex f a out r after
-  applies_other n w x y e g = rw (no_redex n x y e) (w x y e g)
-
   module _ (z : get_or f 0 0 ≡ 1) (t : Bool) (test : (y : Term) → Part a 0 y → t ≡ rigid y) where
     contracts : Contracts f a out r after → (x y : Term) (e : f ≡ encode x) → a ≡ encode y → is_passed y (abstraction_of f x e z).b ≡ true
         → Reduced (applied x y) out r after
@@ -184,9 +171,6 @@ module _ (m out p : List ℕ) (r : Option ℕ) (n : ℕ) (w : Reduces m out r p)
 
   pub reduct_within : Reducible m → n * 4 ≤ length p
   reduct_within x = (results x.tree x.bytes).within
-
-  pub result_fills : Reducible m → length (take (n * 4 - 0) (drop 0 p)) ≡ 4 * n
-  result_fills x = (results x.tree x.bytes).fills
 
 -- an application
 module _ (l : List ℕ) (z : get_or l 0 0 ≡ 0) (m j : List ℕ) (head : (f a : Term) → l ≡ encode (app f a) → m ≡ encode f)

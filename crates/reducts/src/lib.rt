@@ -26,7 +26,7 @@ use records::{Kind, PATTERN_RECORDS, RECORD};
 // The bytes of a pattern of 32 records, the longest reduct that is written.
 pub const PATTERN_BYTES: usize = RECORD * PATTERN_RECORDS;
 
-// Contracts the application of a head, which is an abstraction, to an argument, both reduced.
+// Contracts the application of a head, which is an abstraction, to an argument, both reduced; gives the records, none if too many.
 fn contract_redex(head: &[u8], argument: &[u8], out: &mut [u8; PATTERN_BYTES]) -> Option<usize>
     requires { SweptParts head.now argument.now × (get_or head.now 0 0 ≡ abstraction_kind) }
     ensures { Contracts head.now argument.now out.old result out.new }
@@ -42,7 +42,7 @@ fn contract_redex(head: &[u8], argument: &[u8], out: &mut [u8; PATTERN_BYTES]) -
     Some(bytes / RECORD)
 }
 
-// Writes the application of a head to an argument as it is.
+// Writes the application of a head to an argument as it is; gives the records, none if they are too many.
 fn join(head: &[u8], argument: &[u8], out: &mut [u8; PATTERN_BYTES]) -> Option<usize>
     requires { (length head.now ≤ pattern_bytes) × (length argument.now ≤ pattern_bytes) }
     ensures { ReducesApplication head.now argument.now out.old result out.new }
@@ -103,7 +103,8 @@ fn reduce_abstraction(s: &[u8], out: &mut [u8; PATTERN_BYTES]) -> Option<usize>
     Some(n / RECORD + 1)
 }
 
-// Writes the reduct of s, the table of a pattern or of a part of one, into out from byte 0 on. Leaves are their own reducts.
+// Writes the reduct of s, the table of a pattern or of a part of one, into out from byte 0 on. Leaves are their own reducts. It
+// gives the records, none if they are too many.
 #[cycle(reduce)]
 pub fn reduce(s: &[u8], out: &mut [u8; PATTERN_BYTES]) -> Option<usize>
     requires { Reducible s.now }

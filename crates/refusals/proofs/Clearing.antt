@@ -15,17 +15,11 @@ module _ (k : ℕ) where
   abbrev cleared_of : List ℕ → List ℕ
   cleared_of w = cond (eqb (length w) k) (replicate k 0) w
 
-  other : (l : List ℕ) → ¬ (length l ≡ k) → l ≡ cleared_of l
-  other l n = simp (ne_eqb (length l) k n)
-
   all : (l : List ℕ) → length l ≡ k → replicate (length l) 0 ≡ cleared_of l
   all l e = ap (λ (n : ℕ). replicate n 0) e ∙ simp (eq-eqb (length l) k e)
 
   same_cleared : (l m : List ℕ) → length m ≡ length l → length l ≡ k → cleared_of m ≡ cleared_of l
   same_cleared l m e f = simp (eq-eqb (length m) k (e ∙ f), eq-eqb (length l) k f)
-
-pub cleared_other : (l : List ℕ) → ¬ (length l ≡ table_bytes) → l ≡ cleared l
-cleared_other = other table_bytes
 
 pub cleared_all : (l m : List ℕ) → length l ≡ table_bytes → m ≡ replicate (length l) 0 → m ≡ cleared l
 cleared_all l m e f = f ∙ all table_bytes l e

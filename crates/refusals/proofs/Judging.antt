@@ -96,14 +96,6 @@ recipe_judged rows W (Err RecipeFault.BadRecord) x = x
 recipe_judged rows W (Err RecipeFault.NoTerm) x = x
 recipe_judged rows W (Err RecipeFault.NotNormal) x = x
 
--- a table's length
-pub bad_large : (place : ℕ) (l : List ℕ) → table_bytes < length l → BadTable place l
-bad_large place l h = inl h
-
-pub says_bad : (place : ℕ) (l : List ℕ) (n : ℕ) → ¬ (table_bytes < length l) → n ≡ length l % place
-    → Says (not (eqb n 0)) (BadTable place l)
-says_bad place l n h e = by_eqb (λ b. Says (not b) (BadTable place l)) n 0 (λ z. ⊎_elim h (λ x. x (sym e ∙ z))) (λ z. inr (λ y. z (e ∙ y)))
-
 -- the rows of tables
 module _ (place : ℕ) (l : List ℕ) where
   pub bad_table : BadTable place l → Judged (table_row place l) (length l ≤ table_bytes) (Err Refusal.Tables)

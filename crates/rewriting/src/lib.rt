@@ -97,9 +97,7 @@ fn put_swept(side: &[u8], line: &[u8], values: &[u8], out: &mut [u8]) -> Result<
     ensures { SideSwept side.now line.now values.now out.old result out.new }
 {
     let mut swept = [0u8; SWEPT_BYTES];
-    let Some(n) = sides::sweep_side(side, line, values, &mut swept) else {
-        return Err(Refusal::SweptForm);
-    };
+    let n = sides::sweep_side(side, line, values, &mut swept).ok_or(Refusal::SweptForm)?;
     if write_form(&swept[0..n * RECORD], out) {
         return Ok(n);
     }

@@ -24,10 +24,6 @@ true_false : (x : Bool) → x ≡ true → x ≡ false → ⊥
 true_false x p q = let z : ◌≡◌ {A = ℕ} 0 1 = cc in omega arith
 
 -- the two counts, as the code tests them
-pub left_counted : (b : List ℕ) (i n : ℕ) → n ≡ left_count b i → ¬ (n ≡ 0) → false ≡ is_empty b i
-left_counted b i n e h =
-    by_eqb (λ x. false ≡ cond x (eqb (right_count b i) 0) false) (left_count b i) 0 (λ z. absurd (h (e ∙ z))) (λ z. refl)
-
 pub left_none : (b : List ℕ) (i n m : ℕ) → n ≡ left_count b i → n ≡ 0 → m ≡ right_count b i → eqb m 0 ≡ is_empty b i
 left_none b i n m e h f =
     by_eqb (λ x. eqb m 0 ≡ cond x (eqb (right_count b i) 0) false) (left_count b i) 0 (λ z. ap (λ (k : ℕ). eqb k 0) f)

@@ -21,10 +21,6 @@ use Rattle.refusals.proofs.Judging.{judged_both, judged_more, judged_stop}
 use Rattle.rules.specs.Rules.{count_up, places, side_rows, left_count, left_table, right_count, right_table, rule_rows, rules_rows}
 use Rattle.rules.specs.Steps.{side_table, Side, Rule, Rules, RulesFrom}
 
--- a side, as the code reads it
-pub side_read : (b : List ℕ) (c f n : ℕ) → n ≡ word_at b c → take (f + 4 * n - f) (drop f b) ≡ side_table b c f
-side_read b c f n e = let z : f + 4 * n - f ≡ 4 * word_at b c = omega arith in ap (λ (m : ℕ). take m (drop f b)) z
-
 -- its count, and then its records
 module _ (n : ℕ) (l : List ℕ) (m : ℕ) (e : m ≡ n) where
   pub side_long : pattern_records < m → Judged (side_rows n l) (Side n l) (Err Refusal.PatternLength)

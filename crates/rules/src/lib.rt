@@ -86,7 +86,7 @@ pub fn is_empty(book: &[u8], i: usize) -> bool
     false
 }
 
-// The first place from `from` on that isn't empty; the number of places, if there is none.
+// The first place from `from` on that isn't empty; the number of places, and no Option, if there is none: `NextRule` says so.
 pub fn next_rule(book: &[u8], from: usize) -> usize
     requires { from ≤ length book.now / place_bytes }
     ensures { NextRule book.now from result }

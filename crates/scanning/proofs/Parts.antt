@@ -116,12 +116,6 @@ all_parts_lem r s e k (suc n) h =
     let x = hole s k (omega arith) in
     more_parts r k n x.here (hole_part r s k e x) (closed? 0 x.here) (all_parts_lem r s e (suc k) n (omega arith))
 
--- no record is left
-sought_end : (b r : List ℕ) (k c : ℕ) (f : List ℕ) → k ≡ length r / 4 → Sought b r k (length r / 4 - k) c (Ok (SearchEnd.Nothing c)) f
-sought_end b r k c f e =
-    let n : length r / 4 - k ≡ 0 = omega arith in
-    record { form_of = tt; parts = []; closed = subst (λ (m : ℕ). Parts r k m []) (sym n) refl; reaches = λ s o z. z }
-
 -- what is found at record k
 module _ (b r : List ℕ) (x : Recipe r) (k : ℕ) (h : 4 * k < length r) (c : ℕ) (a : Result Scan Refusal) (f : List ℕ)
     (y : PartScan b r k c a f) where
@@ -211,15 +205,7 @@ module _ (b r : List ℕ) (x : Recipe r) (k : ℕ) (h : 4 * k < length r) (c : �
 pub record PartsLeft (b r : List ℕ) (c k : ℕ) : Type 0 where
   pub all : (a : Result SearchEnd Refusal) (f : List ℕ) → Sought b r k (length r / 4 - k) c a f → Sought b r 0 (length r / 4) 0 a f
 
-pub parts_left : (b r : List ℕ) → PartsLeft b r 0 0
-parts_left b r = record {
-  all = λ a f x. let n : length r / 4 - 0 ≡ length r / 4 = omega arith in subst (λ (m : ℕ). Sought b r 0 m 0 a f) n x;
-}
-
 module _ (b r : List ℕ) (x : Recipe r) (c k : ℕ) (l : PartsLeft b r c k) where
-  pub no_parts_left : length r / 4 ≤ k → k ≤ length r / 4 → (f : List ℕ) → Sought b r 0 (length r / 4) 0 (Ok (SearchEnd.Nothing c)) f
-  no_parts_left h g f = l.all _ f (sought_end b r k c f (omega arith))
-
   module _ (h : k < length r / 4) (a : Result Scan Refusal) (f : List ℕ) (y : PartScan b r k c a f) where
     pub parts_refused : (e : Refusal) → a ≡ Err e → Sought b r 0 (length r / 4) 0 (Err e) f
     parts_refused e q = l.all _ f (sought_refused b r x k (omega arith) c a f y e q)

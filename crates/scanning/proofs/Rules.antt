@@ -47,27 +47,6 @@ module _ (p q : List ℕ) (t : Term) (a : Result (Option ℕ) Refusal) (f : List
       let z = answers_as (Ok (Some n)) e in
       (z.0, subst (Tried p q t) z.1 x.holds, z.2)
 
--- what is lent for one rule
-module _ (b lines values work : List ℕ) (x : RuleTables b lines values work) (i : ℕ) (h : i < length b / place_bytes) where
-  pub rule_at : Rule b i
-  rule_at = x.rules i h
-
-  pub pair_tables : (p q r : List ℕ) → p ≡ left_table b i → q ≡ right_table b i → Recipe r → PairTables p q r lines values work
-  pair_tables p q r ep eq y = record {
-    left = rw ep rule_at.left.1;
-    right = rw eq rule_at.right.1;
-    part = y;
-    lines_length = x.lines_length;
-    values_length = x.values_length;
-    area = x.area;
-  }
-
--- the pair's sides are those of the place
-pub tried_at : (b p q : List ℕ) (i : ℕ) → p ≡ left_table b i → q ≡ right_table b i → (t : Term) (a : Result (Option ℕ) Refusal) (f : List ℕ)
-    → PairAnswered (Tried p q t) a f → PairAnswered (Tried (left_table b i) (right_table b i) t) a f
-tried_at b p q i ep eq t a f x =
-    subst (λ (r : List ℕ). PairAnswered (Tried (left_table b i) r t) a f) eq (subst (λ (l : List ℕ). PairAnswered (Tried l q t) a f) ep x)
-
 -- what is lent for the rules behind it
 pub same_tables : (b lines values work : List ℕ) → RuleTables b lines values work → (lines' values' work' : List ℕ)
     → length lines' ≡ length lines → length values' ≡ length values → length work' ≡ length work → RuleTables b lines' values' work'

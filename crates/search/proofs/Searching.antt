@@ -161,13 +161,6 @@ begins_kept k P W s a limit L X done W₁ L₁ X₁ r e n m o u w b =
       };
     }
 
--- which goal is the first, told by what was read of it
-pub first_match : (W : List ℕ) (at : ℕ) (r : StoredGoal) → StoredAt W at r → r.argument ≡ 0 → IsMatch W at
-first_match W at r x e = sym x.argument ∙ e
-
-pub first_build : (W : List ℕ) (at : ℕ) (r : StoredGoal) → StoredAt W at r → ¬ (r.argument ≡ 0) → ¬ IsMatch W at
-first_build W at r x n e = n (x.argument ∙ e)
-
 -- and it is kept
 argument_kept : (P W : List ℕ) (s : Agenda) (W₁ : List ℕ) → Bounds P W s → take s.top W₁ ≡ take s.top W
     → argument_at W₁ s.deferred ≡ argument_at W s.deferred
@@ -231,19 +224,6 @@ module _ (P W : List ℕ) (s : Agenda) (a : List Entry) (limit : ℕ) (L X : Lis
   kept_of W₁ e h =
       let y = b.ready.bounds in
       record { same = e; from = omega (arith, y.whole, y.top); to = omega (arith, y.whole, y.top) }
-
-  pub going_start : SearchingOn P W s a limit L X done n 0 W L X done
-  going_start = record {
-    within = omega arith;
-    area = refl;
-    lines = refl;
-    values = refl;
-    kept = refl;
-    upto = omega (arith, b.counts.upto);
-    records = b.counts.records;
-    answer = λ gs hs l x. tallied_none P limit (Under (λ j. Way j gs hs l) 0) (outcome L X done) b.counts.upto
-        (λ φ v (i, h, q). omega arith);
-  }
 
   module _ (i : ℕ) (W₁ L₁ X₁ : List ℕ) (r : Tally) (g : SearchingOn P W s a limit L X done n i W₁ L₁ X₁ r) where
     pub begins_going : r.lines ≤ limit → Begins relinking P W₁ s a limit L₁ X₁ r

@@ -46,21 +46,14 @@ fn advance(
     ensures { Searched 0 Sat pattern.now work.old agenda entries limit lines.old
         values.old done work.new lines.new values.new result }
 {
-    let taken = steps::step(pattern, work, agenda, entries);
-    match taken {
-        Step::Failed => {
-            return done;
-        }
-        Step::Left(next) => {
-            return search(pattern, work, next, entries, limit, lines, values, done);
-        }
+    match steps::step(pattern, work, agenda, entries) {
+        Step::Failed => done,
+        Step::Left(next) => search(pattern, work, next, entries, limit, lines, values, done),
         Step::Assign(binding) => {
-            let i = binding.variable;
-            let span = binding.span;
             let next = binding.agenda;
             let mut b = entries;
-            b[i] = Entry::Assigned(span);
-            return search(pattern, work, next, b, limit, lines, values, done);
+            b[binding.variable] = Entry::Assigned(binding.span);
+            search(pattern, work, next, b, limit, lines, values, done)
         }
     }
 }
@@ -85,8 +78,7 @@ fn attempt(
     ensures { Searched relinking (Way i) pattern.now work.old agenda entries limit lines.old
         values.old done work.new lines.new values.new result }
 {
-    let taken = alternatives::way(pattern, work, agenda, entries, i, ways);
-    let Some(next) = taken else {
+    let Some(next) = alternatives::way(pattern, work, agenda, entries, i, ways) else {
         return done;
     };
     search(pattern, work, next, entries, limit, lines, values, done)
@@ -139,8 +131,7 @@ fn attempt_body(
     ensures { Searched relinking (ChosenBody chosen) pattern.now work.old agenda entries limit
         lines.old values.old done work.new lines.new values.new result }
 {
-    let taken = builds::body(pattern, work, agenda, entries, chosen);
-    let Some(next) = taken else {
+    let Some(next) = builds::body(pattern, work, agenda, entries, chosen) else {
         return done;
     };
     search(pattern, work, next, entries, limit, lines, values, done)
@@ -222,19 +213,14 @@ fn build(
     ensures { Searched relinking Sat pattern.now work.old agenda entries limit lines.old
         values.old done work.new lines.new values.new result }
 {
-    let planned = builds::plan(pattern, work, agenda, entries);
-    match planned {
-        Plan::Failed => {
-            return done;
-        }
-        Plan::Next(next) => {
-            return search(pattern, work, next, entries, limit, lines, values, done);
-        }
+    match builds::plan(pattern, work, agenda, entries) {
+        Plan::Failed => done,
+        Plan::Next(next) => search(pattern, work, next, entries, limit, lines, values, done),
         Plan::Bodies(n) => {
             let chosen = [0u8; VALUE_RECORDS];
-            return bodies(
+            bodies(
                 pattern, work, agenda, entries, chosen, 0, n, limit, lines, values, done,
-            );
+            )
         }
     }
 }
@@ -281,17 +267,10 @@ fn cheapest(
         values.old done work.new lines.new values.new result }
 {
     let t = ordering::order::bring_forward(pattern, work, agenda, entries);
-    let decided = deciding::decide(pattern, work, t, entries);
-    match decided {
-        Decision::Failed => {
-            return done;
-        }
-        Decision::Next(next) => {
-            return search(pattern, work, next, entries, limit, lines, values, done);
-        }
-        Decision::Open => {
-            return branch(pattern, work, t, entries, limit, lines, values, done);
-        }
+    match deciding::decide(pattern, work, t, entries) {
+        Decision::Failed => done,
+        Decision::Next(next) => search(pattern, work, next, entries, limit, lines, values, done),
+        Decision::Open => branch(pattern, work, t, entries, limit, lines, values, done),
     }
 }
 
@@ -312,17 +291,10 @@ fn next_deferred(
     ensures { Searched 0 Sat pattern.now work.old agenda entries limit lines.old
         values.old done work.new lines.new values.new result }
 {
-    let forced = ordering::repeated::force(pattern, work, agenda, entries);
-    match forced {
-        Decision::Failed => {
-            return done;
-        }
-        Decision::Next(next) => {
-            return search(pattern, work, next, entries, limit, lines, values, done);
-        }
-        Decision::Open => {
-            return cheapest(pattern, work, agenda, entries, limit, lines, values, done);
-        }
+    match ordering::repeated::force(pattern, work, agenda, entries) {
+        Decision::Failed => done,
+        Decision::Next(next) => search(pattern, work, next, entries, limit, lines, values, done),
+        Decision::Open => cheapest(pattern, work, agenda, entries, limit, lines, values, done),
     }
 }
 

@@ -40,13 +40,6 @@ movable_under d c b =
       λ p. ap lam (subst (λ (k : ℕ). Movable d k b) (sym e) p),
     )
 
-pub inside_high : (n c d : ℕ) → c ≤ n → Says (ltb n (c + d)) (Inside c d n)
-inside_high n c d h = go (ltb n (c + d)) refl
-  where
-    go : (b : Bool) → ltb n (c + d) ≡ b → Says b (Inside c d n)
-    go true e = (h, ltb-true n (c + d) e)
-    go false e = λ p. omega (arith, ltb-false n (c + d) e, p.1)
-
 pub unshifted_low : (n c d : ℕ) → n < c → loc n ≡ unshift d c (loc n)
 unshifted_low n c d h = rw (lt-ltb n c h)
 
@@ -131,10 +124,6 @@ module _ (l : List ℕ) (c d o : ℕ) where
           least = omega (arith, v.body.some, v.body.within);
           first = omega (arith, ap size v.is, x.enough, v.body.some);
         }
-
-    -- a record that is copied
-    pub lowers_record : o + length (take 4 l) ≤ rest
-    lowers_record = omega (arith, length-take 4 l, x.first)
 
   -- where the head ends, in what is read and in what is written
   pub lowered_passed : (p q : List ℕ) (room h : ℕ) → Lowers l c d room o → get_or l 0 0 ≡ 0

@@ -27,19 +27,6 @@ use Rattle.shifting.proofs.Slices.{ApplicationSlices, application_slices, abstra
 use Rattle.shifting.proofs.Slices.{slices_app, slices_lam, slices_leaf}
 
 -- a test of two numbers
-pub says_equal : (i j : ℕ) (x y : Term) → (i ≡ j → x ≡ y) → (x ≡ y → i ≡ j) → Says (eqb i j) (x ≡ y)
-says_equal i j x y f g = go (eqb i j) refl
-  where
-    go : (b : Bool) → eqb i j ≡ b → Says b (x ≡ y)
-    go true e = f (eqb-true i j e)
-    go false e = λ p. eqb-false i j e (g p)
-
-pub shifted_low : (m n d c : ℕ) → n < c → Says (eqb m n) (loc m ≡ shift d c (loc n))
-shifted_low m n d c h = rw (lt-ltb n c h) (says_equal m n (loc m) (loc n) (ap loc) (λ e. cc))
-
-pub shifted_high : (m n d c : ℕ) → c ≤ n → Says (eqb m (n + d)) (loc m ≡ shift d c (loc n))
-shifted_high m n d c h = rw (le-ltb n c h) (says_equal m (n + d) (loc m) (loc (n + d)) (ap loc) (λ e. cc))
-
 kind_shift : (d c : ℕ) (t : Term) → kind (shift d c t) ≡ kind t
 kind_shift d c (app f a) = refl
 kind_shift d c (lam b) = refl

@@ -8,6 +8,7 @@ use Prim.Native.Nat.{ℕ, ◌*◌, ◌-◌, ◌≤◌}
 use native.Mathlib.Omega.{arith}
 use lib.ListN.{length, take, drop}
 use lib.Seq.{length-sets}
+use Rattle.std.specs.Option.{ok_or}
 use Rattle.std.specs.declared.result.Result.{Result}
 use Rattle.std.specs.declared.result.Result.TheVariants.{Ok, Err}
 use Rattle.refusals.specs.declared.Refusal.{Refusal}
@@ -35,6 +36,11 @@ use Rattle.normalizing.specs.Normalized.{Begins, Normalizable, Normalized}
 use Rattle.normalizing.proofs.Sweeps.{normalized_more}
 use Rattle.refusals.specs.Judged.{FilledTables}
 use Rattle.sides.specs.Sides.{SweptSide, Matched, NormalSide}
+
+-- a form that is missing, as a refusal
+pub or_refusal : (r : Option ℕ) (e d : Refusal) → Err e ≡ ok_or r d → (r ≡ None) × (e ≡ d)
+or_refusal (Some n) e d q = grind arith
+or_refusal None e d q = (refl, grind arith)
 
 -- the entries of the line give the values that fill the pattern
 module _ (p l s : List ℕ) (a : List Entry) (r : Read l a variables) (x : FilledTables p l s) where

@@ -45,9 +45,7 @@ pub fn match_recipe(
     ensures { Matched pattern.now line.now values.now recipe.now result }
 {
     let mut swept = [0u8; SWEPT_BYTES];
-    let Some(n) = sweep_side(pattern, line, values, &mut swept) else {
-        return Err(Refusal::SweptForm);
-    };
+    let n = sweep_side(pattern, line, values, &mut swept).ok_or(Refusal::SweptForm)?;
     Ok(copying::same_bytes(&swept[0..n * RECORD], recipe))
 }
 

@@ -94,13 +94,6 @@ module _ (f a out : List ℕ) (r : Option ℕ) (mid : List ℕ) (w : ContractsAp
           }
 
 -- an abstraction
-pub abstracts_unsure : (b out : List ℕ) (n : ℕ) (after : List ℕ) → Hole out n after → WritesAbstraction b out n after
-abstracts_unsure b out n after h = record {
-  written = λ x e. hole_writes (AbstractionSkeleton x) out out after n (any_abstraction x) refl h;
-  some = omega (arith, h.0);
-  few = omega (arith, h.0);
-}
-
 module _ (b out : List ℕ) (r : Option ℕ) (mid : List ℕ) (w : ContractsAbstraction b out r mid) where
   pub abstracts_hole : r ≡ None → (n : ℕ) (after : List ℕ) → Hole mid n after → WritesAbstraction b out n after
   abstracts_hole q n after h = record {

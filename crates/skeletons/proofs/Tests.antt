@@ -61,21 +61,7 @@ none_is None true e = refl
 none_is None false e = absurd (subst T (sym e) tt)
 
 -- whether the abstraction is sure
-or_none : (b : Bool) → b ≡ (b || false)
-or_none true = refl
-or_none false = refl
-
 module _ (b : List ℕ) where
-  pub unsure_hole : get_or b 0 0 ≡ 4 → (m : ℕ) → m ≡ number_at b 0 → Equals b is_unsure (eqb m 0)
-  unsure_hole k m i t e = ap (λ (n : ℕ). eqb n 0) i ∙ sym (ap is_unsure (hole_at b 0 t (at_start b t e) k))
-
-  pub sure_other : ¬ (get_or b 0 0 ≡ 4) → ¬ (get_or b 0 0 ≡ 0) → Equals b is_unsure false
-  sure_other v n (app f a) e = absurd (n (kind_at b 0 (app f a) (at_start b (app f a) e)))
-  sure_other v n (lam c) e = refl
-  sure_other v n (loc i) e = refl
-  sure_other v n (con i) e = refl
-  sure_other v n (var i) e = absurd (v (kind_at b 0 (var i) (at_start b (var i) e)))
-
   module _ (z : get_or b 0 0 ≡ 0) where
     pub tree_head_whole : Tree b → Whole b 4
     tree_head_whole x = whole_head b 0 (tree_whole b x) z
@@ -85,30 +71,7 @@ module _ (b : List ℕ) where
       argument : (t : Term) (e : b ≡ encode t) → let v = application b 0 t (at_start b t e) z in Part g 0 v.a
       argument t e = let v = application b 0 t (at_start b t e) z in at_start g v.a (u v.f v.a (e ∙ ap encode v.is))
 
-      pub unsure_argument : get_or g 0 0 ≡ 4 → (m : ℕ) → m ≡ number_at g 0 → Equals b is_unsure (eqb m 0)
-      unsure_argument k m i t e =
-          let v = application b 0 t (at_start b t e) z in
-          rw (v.is, hole_at g 0 v.a (argument t e) k) (ap (λ (n : ℕ). eqb n 0) i ∙ or_none (eqb (number_at g 0) 0))
-
-      other_argument : (a : Term) (h : Bool) → Part g 0 a → ¬ (get_or g 0 0 ≡ 4) → ¬ (get_or g 0 0 ≡ 2)
-          → false ≡ (is_any a || (is_innermost a && h))
-      other_argument (app f c) h x n m = refl
-      other_argument (lam c) h x n m = refl
-      other_argument (loc i) h x n m = absurd (m (kind_at g 0 (loc i) x))
-      other_argument (con i) h x n m = refl
-      other_argument (var i) h x n m = absurd (n (kind_at g 0 (var i) x))
-
-      pub sure_argument : ¬ (get_or g 0 0 ≡ 4) → ¬ (get_or g 0 0 ≡ 2) → Equals b is_unsure false
-      sure_argument n m t e =
-          let v = application b 0 t (at_start b t e) z in
-          rw v.is (other_argument v.a (has_variable v.f) (argument t e) n m)
-
       module _ (k : get_or g 0 0 ≡ 2) (m : ℕ) (i : m ≡ number_at g 0) where
-        pub sure_outer : ¬ (m ≡ 0) → Equals b is_unsure false
-        sure_outer h t e =
-            let v = application b 0 t (at_start b t e) z in
-            rw (v.is, local_at g 0 m v.a (argument t e) k i, ne_eqb m 0 h)
-
         pub sure_exact : m ≡ 0 → (w : Option ℕ) → Walked (slice b 4) 0 Exact w → Equals b is_unsure (is_none w)
         unfolding Walked
         sure_exact h (Some j) x t e =

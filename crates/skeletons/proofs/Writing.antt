@@ -166,12 +166,6 @@ result s a t u p n w m h =
       is_skeleton = w.is_skeleton;
     }
 
-pub skeleton_within : (m s : List ℕ) (a : List Entry) (u p : List ℕ) (n : ℕ) → WritesSkeleton m s a u n p → length u ≡ swept_bytes
-    → SkeletonInput m s a → n * 4 ≤ length p
-skeleton_within m s a u p n w h x =
-    let y = w.written x.tree x.bytes in
-    omega (arith, w.few, ap length y.bytes, length-sets u 0 (encode y.skeleton))
-
 -- an application
 module _ (l s : List ℕ) (a : List Entry) (z : get_or l 0 0 ≡ 0) (m : List ℕ) (head : (f b : Term) → l ≡ encode (app f b) → m ≡ encode f)
     (u p : List ℕ) (n : ℕ) (w : WritesSkeleton m s a u n p) (h : length u ≡ swept_bytes) where

@@ -33,7 +33,7 @@ use instances::Places;
 use records::{Kind, RECORD, VARIABLES};
 use sweeping::SWEPT_BYTES;
 
-// The number of a hole that any term may stand in.
+// The number of a hole that any term may stand in. Holes are numbers and no enum, since they are those of variables in records.
 const ANY: usize = 0;
 
 // The number of a hole that a closed term stands in.

@@ -47,9 +47,6 @@ module _ (ns t : List ℕ) (k e w n : ℕ) (b : Bounds ns t) (h : k < length ns)
   pub key_least : w ≤ e
   key_least = omega (arith, total_all ns, total_split ns k h)
 
-  pub others_least : e - w ≤ length t / 4
-  others_least = omega (arith, total_all ns, total_split ns k h, b.fits)
-
   pub room_none : length t / 4 - (e - w) < n → Says false (4 * total (set ns k n) ≤ length t)
   room_none g x = omega (arith, total_all ns, total_split ns k h, total_set ns k n h, b.fits)
 

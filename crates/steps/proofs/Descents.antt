@@ -94,21 +94,6 @@ module _ (W : List ℕ) (at o : ℕ) (x : Expandable W at o) where
     pub apply_most : n ≤ target_bytes
     apply_most = omega (arith, apply_length, x.short)
 
-    pub copy_room : (U : List ℕ) → U ≡ sets W o (record_bytes 0 0 []) → o + 4 + length (take (n - 0) (drop 0 Y)) ≤ length U
-    copy_room U e = omega (arith, length-take (n - 0) (drop 0 Y), length_stored (record_bytes 0 0 []) W U o e, apply_most, x.room)
-
-    pub local_room : (U X : List ℕ) → U ≡ sets W o (record_bytes 0 0 []) → X ≡ sets U (o + 4) (take (n - 0) (drop 0 Y))
-        → o + 4 + n + 4 ≤ length X
-    local_room U X e f =
-        omega (
-          arith,
-          length_stored (record_bytes 0 0 []) W U o e,
-          length_stored (take (n - 0) (drop 0 Y)) U X
-              (o + 4) f,
-          apply_most,
-          x.room,
-        )
-
     pub expanded :
         (U X R : List ℕ) (m : ℕ) → length Z ≡ target_bytes → U ≡ sets W o (record_bytes 0 0 [])
         → X ≡ sets U (o + 4) (take (n - 0) (drop 0 Y))

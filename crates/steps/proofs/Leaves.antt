@@ -41,12 +41,6 @@ use Rattle.steps.specs.Steps.{Stepped}
 use Rattle.steps.specs.Opening.{Opens, Plain, Names, SameRecord}
 use Rattle.steps.proofs.Opening.{Opened, easy_opened, step_failed, dropped}
 
--- two records of one kind
-pub same_by_number : (P : List ℕ) (i : ℕ) (W : List ℕ) (j m n : ℕ) → m ≡ number_at P i → n ≡ number_at W j → get_or P i 0 ≡ get_or W j 0
-    → Says (eqb m n) (SameRecord P i W j)
-same_by_number P i W j m n p q k =
-    by_eqb (λ b. Says b (SameRecord P i W j)) m n (λ e. record { kind = k; number = sym p ∙ e ∙ q }) (λ d x. d (p ∙ x.number ∙ sym q))
-
 -- locals and constants
 module _ (P W : List ℕ) (i j : ℕ) (h : Plain P i) (φ : ℕ → Term) where
   record_sweeps : (p t : Term) → Part P i p → Part W j t → SameRecord P i W j → Sweeps p t φ
@@ -117,12 +111,6 @@ module _ (P W : List ℕ) (s : Agenda) (a : List Entry) (r : StoredGoal) (i : �
 
   closed_none : (t : Term) → Closed 0 t → height t ≡ 0
   closed_none t c = omega (arith, closed_height 0 t c)
-
-  pub height_within : heights_place r.origin r.target < length W
-  height_within =
-      let o = x.opens in
-      let b = o.ready.bounds in
-      omega (arith, o.low, o.within, o.below, o.fits.from, b.top, b.whole)
 
   -- the target isn't closed
   pub open_missed : (h : ℕ) → h ≡ heights_place r.origin r.target → ¬ (get_or W h 0 ≡ 0) → Stepped P W s a W step.Failed

@@ -216,13 +216,6 @@ module _ (g : ℕ → Term → Term) (change : Change g) (l : List ℕ) (k : ℕ
     wrote_copied p x z b = kept g change l 0 k out o p x z (λ t w.
         b ∙ ap (sets out o) (part_bytes l 0 4 t w (omega (arith, leaf_size l 0 t w z.no_application z.no_abstraction))))
 
--- a local that is shifted
-pub shift_low_fits : (n d c : ℕ) → NumbersFit (shift d c (loc n)) → n < c → (loc n ≡ shift d c (loc n)) × (n < numbers)
-shift_low_fits n d c f h = let e = shift_low d c n h in (sym e, subst NumbersFit e f)
-
-pub shift_high_fits : (n d c : ℕ) → NumbersFit (shift d c (loc n)) → c ≤ n → (loc (n + d) ≡ shift d c (loc n)) × (n + d < numbers)
-shift_high_fits n d c f h = let e = shift_high d c n h in (sym e, subst NumbersFit e f)
-
 -- a substitution's parts
 module _ (b : List ℕ) (k : ℕ) (e out : List ℕ) (o : ℕ) (x : Substitution b k e out o) where
   module _ (p : List ℕ) (n : length p ≡ length out) where
@@ -267,9 +260,3 @@ module _ (b : List ℕ) (k : ℕ) (e out : List ℕ) (o : ℕ) (x : Substitution
       let s = at_start e t f in
       wrote_local (substitute_for t) (replaces t) b 0 k out o p n end (shift k 0 t) substitution_whole z i (sym (substitute_here k t n h))
       (w.bytes t s) (w.exact t s)
-
-pub lowered_low : (n k : ℕ) → n < k → (e : Term) → loc n ≡ substitute_for e k (loc n)
-lowered_low n k h e = sym (substitute_low n k e h)
-
-pub lowered_high : (n k : ℕ) → ¬ (n ≡ k) → k ≤ n → (e : Term) → loc (n - 1) ≡ substitute_for e k (loc n)
-lowered_high n k m h e = sym (substitute_high n k e (omega arith))

@@ -79,10 +79,6 @@ module _ (f a out : List ℕ) (n : ¬ (get_or f 0 0 ≡ 1)) where
       (form_written (app x y) out r ((4 + length f + length a) / 4) (omega (arith, table_length f x e, table_length a y g)) (omega arith)
       (application_bytes f a out p q r u v w x y e g))
 
--- an application whose head is an abstraction
-pub uses_bytes : (a next n : ℕ) → 4 * n ≤ next → next ≤ swept_bytes → a ≤ swept_bytes → n * (a - 4) ≤ swept_records * swept_bytes
-uses_bytes a next n h i j = let p : n ≤ swept_records = omega arith in let q : a - 4 ≤ swept_bytes = omega arith in mul-le-mul p q
-
 -- the abstraction's body is a part of its table
 pub redex_whole : (f : List ℕ) (x : Term) → f ≡ encode x → get_or f 0 0 ≡ 1 → Whole (slice f 4) 0
 redex_whole f x e z = let v = abstraction f 0 x (at_start f x e) z in whole_slice f 4 (whole f 4 v.b v.body)
@@ -141,19 +137,12 @@ module _ (f a : List ℕ) (z : get_or f 0 0 ≡ 1) (next n : ℕ) (u : UsesCount
       (redex_bytes out after to end w x y e g)
 
 -- the test for an abstraction's contraction, step by step
-and_false : (x : Bool) → false ≡ (x && false)
-and_false true = refl
-and_false false = refl
-
 pub no_application : (b : List ℕ) → ¬ (get_or b 0 0 ≡ 0) → (t : Term) → b ≡ encode t → false ≡ is_proper t
 no_application b n (app f a) e = absurd (n (kind_at b 0 (app f a) (at_start b (app f a) e)))
 no_application b n (lam c) e = refl
 no_application b n (loc m) e = refl
 no_application b n (con m) e = refl
 no_application b n (var m) e = refl
-
-is_abstraction_lem : (l : List ℕ) (at : ℕ) (t : Term) → Part l at t → get_or l at 0 ≡ 1 → is_abstraction t ≡ true
-is_abstraction_lem l at t x z = ap is_abstraction (abstraction l at t x z).is
 
 is_none : (l : List ℕ) (at : ℕ) (t : Term) → Part l at t → ¬ (get_or l at 0 ≡ 1) → is_abstraction t ≡ false
 is_none l at (app f a) x n = refl
@@ -172,11 +161,6 @@ no_innermost l at (var m) x n = refl
 module _ (b : List ℕ) (z : get_or b 0 0 ≡ 0) where
   pub body_whole : (x : SweptBody b) → Whole (slice b 4) 0
   body_whole x = let v = application b 0 x.body (at_start b x.body x.bytes) z in whole_slice b 4 (whole b 4 v.f v.head)
-
-  pub body_head_abstraction : get_or b 4 0 ≡ 1 → (t : Term) → b ≡ encode t → false ≡ is_proper t
-  body_head_abstraction k t e =
-      let v = application b 0 t (at_start b t e) z in
-      rw (v.is, is_abstraction_lem b 4 v.f v.head k) (and_false (is_eta (app v.f v.a)))
 
   module _ (h n : ℕ) (u : UsesCounted (slice b 4) 0 h n) where
     argument : (t : Term) (v : Application b 0 t) → Part (slice b (4 + h)) 0 v.a

@@ -44,16 +44,6 @@ given_bytes s a i v g x e =
       bytes = g.bytes;
     })
 
-pub open_not : {A : Type 0} (s : List ℕ) (a : List Entry) (i : ℕ) (v : Term) → Given s a i v → get_or a i Open ≡ Open → A
-open_not s a i v g e = let z : ◌≡◌ {A = ℕ} 0 1 = cc g.is in absurd (omega arith)
-
-pub given_below : (s : List ℕ) (a : List Entry) (i : ℕ) (v : Term) → Given s a i v → i < length a
-given_below s a i v g = go (dec_lt i (length a))
-  where
-    go : Dec (i < length a) → i < length a
-    go (yes h) = h
-    go (no h) = open_not s a i v g (get_or-eq_default a Open (omega arith))
-
 pub value_written : (s : List ℕ) (x : Span) (v : Term) (out b after : List ℕ) → ValueBytes s x v
     → b ≡ take (4 * x.count) (drop (4 * x.first) s)
     → after ≡ sets out 0 b → WrittenForm v out (Some x.count) after

@@ -22,7 +22,7 @@ use records::{Kind, RECORD, SWEPT_RECORDS, VARIABLES};
 // The bytes of the longest swept form that is written.
 pub const SWEPT_BYTES: usize = RECORD * SWEPT_RECORDS;
 
-// Contracts the application of a head, which is an abstraction, to an argument, both swept.
+// Contracts the application of a head, which is an abstraction, to an argument, both swept; gives the records, none if they are too many.
 fn contract_redex(head: &[u8], argument: &[u8], out: &mut [u8; SWEPT_BYTES]) -> Option<usize>
     requires { SweptParts head.now argument.now × (get_or head.now 0 0 ≡ abstraction_kind) }
     ensures { ContractsApplication head.now argument.now out.old result out.new }
@@ -38,7 +38,7 @@ fn contract_redex(head: &[u8], argument: &[u8], out: &mut [u8; SWEPT_BYTES]) -> 
     Some(bytes / RECORD)
 }
 
-// Contracts the application of a head to an argument, both swept.
+// Contracts the application of a head to an argument, both swept; gives the records, none if they are too many.
 pub fn contract_application(
     head: &[u8],
     argument: &[u8],
@@ -82,7 +82,7 @@ fn contracts(body: &[u8]) -> bool
     uses.count == 0
 }
 
-// Contracts the abstraction over a body, which is swept.
+// Contracts the abstraction over a body, which is swept; gives the records, none if they are too many.
 pub fn contract_abstraction(body: &[u8], out: &mut [u8; SWEPT_BYTES]) -> Option<usize>
     requires { SweptBody body.now }
     ensures { ContractsAbstraction body.now out.old result out.new }

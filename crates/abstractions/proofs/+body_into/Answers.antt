@@ -2,17 +2,11 @@
 -- record's; the measure is the length of the slice. Assumes nothing.
 use mathlib.Core.Path.{◌∙◌}
 use Rattle.shifting.proofs.Slices.{shorter, shorter_behind}
-use Rattle.abstractions.proofs.Bodies.{no_copy, body_copy, body_application, body_abstraction, body_other, argument_fits}
-use Rattle.abstractions.proofs.Bodies.{body_fits, choosing_whole, choosing_compares, choosing_choice, choosing_head}
+use Rattle.abstractions.proofs.Bodies.{no_copy, body_copy, body_application, body_abstraction, body_other}
+use Rattle.abstractions.proofs.Bodies.{choosing_whole, choosing_head}
 use Rattle.abstractions.proofs.Bodies.{choosing_argument, choosing_body}
 use borrow.Author.Rules.{rules}
 use Rattle.abstractions.proofs.+body_into.Goals as goal
-
-pub copy_length-requires : goal.copy_length-requires
-copy_length-requires t c = search (rules, choosing_compares)
-
-pub choice_into-end-requires : goal.choice_into-end-requires
-choice_into-end-requires t c = (search rules, search (rules, choosing_choice))
 
 pub returns-in-Some : goal.returns-in-Some
 returns-in-Some t c = search (rules, body_copy, choosing_whole, c.in-Some.ensures)
@@ -28,10 +22,6 @@ body_into-argument-requires t c = (
       c.body_into-head.ensures,
 )
 
-pub built_further-requires : goal.built_further-requires
-built_further-requires t c =
-    argument_fits c.args.s.now _ _ c.requires.most c.body_into-head.ensures.ends c.body_into-argument.ensures.ends
-
 pub returns-then-kind : goal.returns-then-kind
 returns-then-kind t c =
     body_application _ _ _ _ _ _ _ (no_copy _ _ _ c.in_default.ensures) _ _ _ _ _ _ _ _ _
@@ -40,9 +30,6 @@ returns-then-kind t c =
 
 pub body_into-body-requires : goal.body_into-body-requires
 body_into-body-requires t c = (search (rules, shorter), search (rules, choosing_body))
-
-pub built_further-requires-then-kind-2 : goal.built_further-requires-then-kind-2
-built_further-requires-then-kind-2 t c = search (rules, body_fits)
 
 pub returns-then-kind-2 : goal.returns-then-kind-2
 returns-then-kind-2 t c = search (rules, body_abstraction, no_copy, c.in_default.ensures)

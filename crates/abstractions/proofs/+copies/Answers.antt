@@ -1,13 +1,10 @@
 -- `abstractions::copies` meets its contract. A copy counts one, and the counts of the parts of any other part are added; the measure is
 -- the length of the slice. Assumes nothing.
 use Rattle.shifting.proofs.Slices.{shorter, shorter_behind}
-use Rattle.abstractions.proofs.Bodies.{no_copy, counts_copy, counts_application, counts_abstraction, counts_leaf, counting_compares}
+use Rattle.abstractions.proofs.Bodies.{no_copy, counts_copy, counts_application, counts_abstraction, counts_leaf}
 use Rattle.abstractions.proofs.Bodies.{counting_head, counting_argument, counting_body}
 use borrow.Author.Rules.{rules}
 use Rattle.abstractions.proofs.+copies.Goals as goal
-
-pub copy_length-requires : goal.copy_length-requires
-copy_length-requires t c = search (rules, counting_compares)
 
 pub returns-in-Some : goal.returns-in-Some
 returns-in-Some t c = counts_copy _ _ _ _ c.in-Some.ensures

@@ -19,20 +19,12 @@ depths_into-requires t c = (
       c.depths_into-next.ensures.ends,
 )
 
-pub shape_of-out-then-k : goal.shape_of-out-then-k
-shape_of-out-then-k t c =
-    c.depths_into.auto.out ∙ c.depths_into-next.auto.out ∙ simp length-set
-
 pub returns-then-k : goal.returns-then-k
 returns-then-k t c = search (rules, depths_application)
 
 pub depths_into-requires-then-k-2 : goal.depths_into-requires-then-k-2
 depths_into-requires-then-k-2 t c =
     (search (rules, shorter), depths_body _ _ _ _ _ (simp length-set) c.requires c.if-k-2.true)
-
-pub shape_of-out-then-k-2 : goal.shape_of-out-then-k-2
-shape_of-out-then-k-2 t c =
-    c.depths_into-then-k-2.auto.out ∙ simp length-set
 
 pub returns-then-k-2 : goal.returns-then-k-2
 returns-then-k-2 t c = search (rules, depths_abstraction)

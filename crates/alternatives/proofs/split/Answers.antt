@@ -34,24 +34,12 @@ put_goal-requires c =
           c.end_at-end.ensures c.match_goal.ensures,
     )
 
-pub overflow_add-agenda : goal.overflow_add-agenda
-overflow_add-agenda c =
-    omega arith
-
 pub put_goal-requires-2 : goal.put_goal-requires-2
 put_goal-requires-2 c =
     let n = stored_bounds _ _ _ _ c.requires _ c.goal_at-goal.ensures.is in (
       omega (arith, c.put_goal.auto.work, n.room, c.requires.ready.bounds.whole),
       head_goal_fits _ _ _ _ c.requires _ c.goal_at-goal.ensures.is c.if-work-target.false _ c.match_goal-2.ensures,
     )
-
-pub overflow_add-result : goal.overflow_add-result
-overflow_add-result c =
-    omega (arith, c.requires.ready.bounds.top)
-
-pub overflow_add-result-2 : goal.overflow_add-result-2
-overflow_add-result-2 c =
-    omega (arith, c.requires.ready.bounds.top)
 
 pub returns : goal.returns
 returns c =

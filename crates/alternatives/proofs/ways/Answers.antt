@@ -2,7 +2,7 @@
 -- argument begins, whose skeleton is a skeleton in every state that stands there. Assumes nothing.
 use Rattle.arguments.proofs.Applications.{stored_bounds}
 use Rattle.alternatives.proofs.Alternatives.{argument_walkable, argument_source, head_locals, ways_counted}
-use Rattle.arguments.proofs.Applications.{head_place, application_target_within, application_argument_within, argument_whole_slice}
+use Rattle.arguments.proofs.Applications.{argument_whole_slice}
 use Rattle.alternatives.proofs.Alternatives.{depths_room}
 use borrow.Author.Rules.{rules}
 use Rattle.alternatives.proofs.ways.Goals as goal
@@ -15,12 +15,6 @@ pub end_at-argument-requires : goal.end_at-argument-requires
 end_at-argument-requires c =
     (stored_bounds _ _ _ _ c.requires _ c.goal_at-goal.ensures.is).head
 
-pub slice_bounds-part-count : goal.slice_bounds-part-count
-slice_bounds-part-count c = search (rules, application_argument_within)
-
-pub slice_bounds-part-start : goal.slice_bounds-part-start
-slice_bounds-part-start c = search (rules, application_argument_within)
-
 pub is_rigid-rigid-requires : goal.is_rigid-rigid-requires
 is_rigid-rigid-requires c = search (rules, argument_whole_slice)
 
@@ -31,26 +25,8 @@ ask_part-walk-requires c =
 pub skeleton_of-skeleton-requires : goal.skeleton_of-skeleton-requires
 skeleton_of-skeleton-requires c = search (rules, argument_source)
 
-pub slice_bounds-lacks_local-count : goal.slice_bounds-lacks_local-count
-slice_bounds-lacks_local-count c = search (rules, head_place)
-
-pub slice_bounds-lacks_local-start : goal.slice_bounds-lacks_local-start
-slice_bounds-lacks_local-start c = search (rules, head_place)
-
-pub slice_bounds-lacks_local-count-2 : goal.slice_bounds-lacks_local-count-2
-slice_bounds-lacks_local-count-2 c = search (rules, application_target_within)
-
-pub slice_bounds-lacks_local-start-2 : goal.slice_bounds-lacks_local-start-2
-slice_bounds-lacks_local-start-2 c = search (rules, application_target_within)
-
 pub lacks_local-lacking-requires : goal.lacks_local-lacking-requires
 lacks_local-lacking-requires c = search (rules, head_locals)
-
-pub slice_bounds-depths_into-count : goal.slice_bounds-depths_into-count
-slice_bounds-depths_into-count c = search (rules, application_target_within)
-
-pub slice_bounds-depths_into-start : goal.slice_bounds-depths_into-start
-slice_bounds-depths_into-start c = search (rules, application_target_within)
 
 pub depths_into-requires : goal.depths_into-requires
 depths_into-requires c = search (rules, depths_room)

@@ -3,18 +3,12 @@
 use mathlib.Core.Path.{◌∙◌}
 use borrow.Author.Tests.{not-true}
 use native.Mathlib.Omega.{arith}
-use Rattle.arguments.proofs.Applications.{head_place, application_argument_within, argument_whole_slice, argument_ends}
+use Rattle.arguments.proofs.Applications.{argument_whole_slice, argument_ends}
 use Rattle.arguments.proofs.Arguments.{places, depth, few_records, target_part_within, part_whole_slice, unlike, no_argument}
 use Rattle.arguments.proofs.Arguments.{looks, pushed_target_within, found_within, found_comparable}
 use Rattle.arguments.proofs.Arguments.{comparable, unfitting, again, lacking, argument_room, argument_found}
 use borrow.Author.Rules.{rules}
 use Rattle.arguments.proofs.find_argument.Goals as goal
-
-pub slice_bounds-heads_agree-count : goal.slice_bounds-heads_agree-count
-slice_bounds-heads_agree-count c = search (rules, application_argument_within, argument_ends)
-
-pub slice_bounds-heads_agree-start : goal.slice_bounds-heads_agree-start
-slice_bounds-heads_agree-start c = search (rules, application_argument_within, argument_ends)
 
 pub overflow_mul-j : goal.overflow_mul-j
 overflow_mul-j c =
@@ -55,12 +49,6 @@ slice_bounds-may_be-count-2 c = search (rules, found_within, c.in_ok-end.was)
 pub slice_bounds-may_be-start-2 : goal.slice_bounds-may_be-start-2
 slice_bounds-may_be-start-2 c = search (rules, found_within, c.in_ok-end.was)
 
-pub slice_bounds-may_be-count-3 : goal.slice_bounds-may_be-count-3
-slice_bounds-may_be-count-3 c = search (rules, found_within, c.in_ok-end.was)
-
-pub slice_bounds-may_be-start-3 : goal.slice_bounds-may_be-start-3
-slice_bounds-may_be-start-3 c = search (rules, found_within, c.in_ok-end.was)
-
 pub may_be-requires : goal.may_be-requires
 may_be-requires c = search (rules, found_comparable, c.in_ok-end.was)
 
@@ -88,18 +76,6 @@ pub returns-then-occurs_before : goal.returns-then-occurs_before
 returns-then-occurs_before c =
     again _ _ _ _ c.requires.0 _ c.goal_at-goal.ensures.is _ _ _ _ c.place_argument.ensures
     c.in_ok-end.was _ c.occurs_before.ensures c.if-occurs_before.true
-
-pub overflow_add-head : goal.overflow_add-head
-overflow_add-head c =
-    omega (arith, c.goal_at-goal.ensures.fits.part)
-
-pub slice_bounds-misses_local-count : goal.slice_bounds-misses_local-count
-slice_bounds-misses_local-count c =
-    search (rules, head_place)
-
-pub slice_bounds-misses_local-start : goal.slice_bounds-misses_local-start
-slice_bounds-misses_local-start c =
-    search (rules, head_place)
 
 pub slice_bounds-misses_local-count-then-ways-2 : goal.slice_bounds-misses_local-count-then-ways-2
 slice_bounds-misses_local-count-then-ways-2 c =
@@ -131,10 +107,6 @@ push_argument-requires c =
     argument_room _ _ _ _ c.requires.0 _ c.goal_at-goal.ensures.is _ _ _ _ c.place_argument.ensures
     c.in_ok-end.was c.goal_at-goal.ensures.fits _
     (argument_ends _ _ _ _ c.requires.0 _ c.goal_at-goal.ensures.is _ c.requires.1)
-
-pub shape_of-work : goal.shape_of-work
-shape_of-work c =
-    c.push_argument.auto.work ∙ c.place_argument.auto.work
 
 pub returns : goal.returns
 returns c =

@@ -2,15 +2,9 @@
 -- top, and then its heights in front of it; no other one is an argument. Assumes nothing.
 use native.Mathlib.Omega.{arith}
 use Rattle.agenda.proofs.Targets.{new_target}
-use Rattle.arguments.proofs.Arguments.{lowers, stuck, argument_part_within, moved_end, copied_room, argument_target, placed}
+use Rattle.arguments.proofs.Arguments.{lowers, stuck, moved_end, argument_target, placed}
 use borrow.Author.Rules.{rules}
 use Rattle.arguments.proofs.place_argument.Goals as goal
-
-pub slice_bounds-lower_into-count : goal.slice_bounds-lower_into-count
-slice_bounds-lower_into-count c = search (rules, argument_part_within)
-
-pub slice_bounds-lower_into-start : goal.slice_bounds-lower_into-start
-slice_bounds-lower_into-start c = search (rules, argument_part_within)
 
 pub lower_into-requires : goal.lower_into-requires
 lower_into-requires c = search (rules, lowers)
@@ -21,18 +15,6 @@ returns-in_err-n c = rw c.from_residual.ensures (search (rules, stuck, c.in_err-
 pub slice_bounds-copy_into-end : goal.slice_bounds-copy_into-end
 slice_bounds-copy_into-end c =
     omega (arith, moved_end _ _ _ _ c.requires.0 _ c.requires.1 _ _ _ c.lower_into.ensures _ c.in_ok-n.was)
-
-pub copy_into-requires : goal.copy_into-requires
-copy_into-requires c = search (rules, copied_room, c.in_ok-n.was)
-
-pub overflow_add-end : goal.overflow_add-end
-overflow_add-end c =
-    omega (
-      arith,
-      moved_end _ _ _ _ c.requires.0 _ c.requires.1 _ _ _ c.lower_into.ensures _ c.in_ok-n.was,
-      c.requires.0.room,
-      c.requires.0.most,
-    )
 
 pub keep_heights-requires : goal.keep_heights-requires
 keep_heights-requires c = search (rules, argument_target, c.in_ok-n.was)

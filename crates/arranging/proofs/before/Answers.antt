@@ -1,6 +1,6 @@
 -- `arranging::before` meets its contract. The loop's invariant: the entries passed are the same, so that the others decide. Assumes
 -- nothing.
-use Rattle.arranging.proofs.Comparing.{undecided_start, undecided_end, decided_earlier, decided_later, undecided_next}
+use Rattle.arranging.proofs.Comparing.{undecided_start, decided_earlier, decided_later, undecided_next}
 use borrow.Author.Rules.{rules}
 use Rattle.arranging.proofs.before.Goals as goal
 
@@ -15,6 +15,3 @@ returns-in-Greater c = search (rules, decided_later)
 
 pub loop-variable-preserved : goal.loop-variable-preserved
 loop-variable-preserved c = search (rules, undecided_next)
-
-pub returns : goal.returns
-returns c = search (rules, undecided_end)

@@ -2,22 +2,8 @@
 use mathlib.Core.Path.{ap, ◌∙◌}
 use Rattle.std.proofs.lemmas.Result.{err_from_is_err_and}
 use Rattle.std.specs.declared.result.Result.TheVariants.{Ok}
-use Rattle.book.proofs.Answers.{answered_refused, answered_nothing, form_few, form_stands, answered_form}
-use borrow.Author.Rules.{rules}
+use Rattle.book.proofs.Answers.{answered_refused, answered_nothing, answered_form}
 use Rattle.book.proofs.rewrite_first.Goals as goal
-
-pub overflow_mul-n : goal.overflow_mul-n
-overflow_mul-n c =
-    let few = form_few _ _ _ c.requires _ _ c.search.ensures _ _ _ (c.in_ok-pairs.was ∙ ap Ok c.in-Form.is) in
-    search rules
-
-pub slice_bounds-write_whole-end : goal.slice_bounds-write_whole-end
-slice_bounds-write_whole-end c =
-    let few = form_few _ _ _ c.requires _ _ c.search.ensures _ _ _ (c.in_ok-pairs.was ∙ ap Ok c.in-Form.is) in
-    search rules
-
-pub write_whole-requires : goal.write_whole-requires
-write_whole-requires c = form_stands _ _ _ c.requires _ _ c.search.ensures _ _ _ (c.in_ok-pairs.was ∙ ap Ok c.in-Form.is)
 
 pub returns-in_err-pairs : goal.returns-in_err-pairs
 returns-in_err-pairs c =

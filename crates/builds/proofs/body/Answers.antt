@@ -46,9 +46,6 @@ is_eta-requires c =
 pub returns-then-is_eta : goal.returns-then-is_eta
 returns-then-is_eta c = search (rules, eta, bodied)
 
-pub slice_bounds-push_abstraction-end : goal.slice_bounds-push_abstraction-end
-slice_bounds-push_abstraction-end c = search (rules, end_within)
-
 pub push_abstraction-requires : goal.push_abstraction-requires
 push_abstraction-requires c =
     pushes _ _ _ _ c.requires.0 c.requires.1 _ c.goal_at-goal.ensures.is _ _

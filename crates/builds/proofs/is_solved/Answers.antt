@@ -1,11 +1,8 @@
 -- `builds::is_solved` meets its contract. The head's first record, the walk over its body and the walk over body and target decide
 -- one condition each. Assumes nothing.
-use Rattle.builds.proofs.Solutions.{solved_other, asking, substituting, solved_unused, solved_says}
+use Rattle.builds.proofs.Solutions.{asking, substituting, solved_unused, solved_says}
 use borrow.Author.Rules.{rules}
 use Rattle.builds.proofs.is_solved.Goals as goal
-
-pub returns-then-head : goal.returns-then-head
-returns-then-head c = solved_other _ _ _ c.if-head.true
 
 pub ask_part-requires : goal.ask_part-requires
 ask_part-requires c =

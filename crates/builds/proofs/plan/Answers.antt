@@ -1,9 +1,7 @@
 -- `builds::plan` meets its contract. Each way out is one law: one body is left, or the bodies are counted. Assumes nothing.
-use mathlib.Core.Path.{refl}
 use lib.ListN.{get_or-replicate}
-use Rattle.terms.specs.Figures.{value_records}
 use Rattle.builds.proofs.Building.{build_part_within, build_target_within, build_argument_within}
-use Rattle.builds.proofs.Planning.{build_locals, forced_body_failed, forced_body_next, counting, bodies_planned}
+use Rattle.builds.proofs.Planning.{build_locals, forced_planned, counting, bodies_planned}
 use borrow.Author.Rules.{rules}
 use Rattle.builds.proofs.plan.Goals as goal
 
@@ -22,11 +20,8 @@ slice_bounds-lacks_local-start-2 c = search (rules, build_argument_within)
 pub lacks_local-requires : goal.lacks_local-requires
 lacks_local-requires c = search (rules, build_locals)
 
-pub returns-in-None : goal.returns-in-None
-returns-in-None c = search (rules, forced_body_failed, get_or-replicate, value_records, c.in-None.ensures, refl)
-
-pub returns-in-Some : goal.returns-in-Some
-returns-in-Some c = search (rules, forced_body_next, get_or-replicate, value_records, c.in-Some.ensures, refl)
+pub returns-then-lacks_local : goal.returns-then-lacks_local
+returns-then-lacks_local c = search (rules, forced_planned, get_or-replicate, c.map_or.ensures)
 
 pub slice_bounds-copies-count : goal.slice_bounds-copies-count
 slice_bounds-copies-count c = search (rules, build_target_within)

@@ -1,15 +1,12 @@
 -- `builds::push_abstraction` meets its contract. The first two runs of stores are the table of the abstraction; its heights are stored in
 -- front of it, and the goal behind it. Assumes nothing.
 use Rattle.agenda.proofs.Targets.{new_target}
-use Rattle.builds.proofs.Pushing.{pushed_fits, abstraction_written, abstraction_room, abstraction_target, pushed_stored}
+use Rattle.builds.proofs.Pushing.{abstraction_written, abstraction_room, abstraction_target, pushed_stored}
 use borrow.Author.Rules.{rules}
 use Rattle.builds.proofs.push_abstraction.Goals as goal
 
 pub keep_heights-requires : goal.keep_heights-requires
 keep_heights-requires c = search (rules, abstraction_target)
-
-pub put_goal-requires : goal.put_goal-requires
-put_goal-requires c = search (rules, pushed_fits)
 
 pub returns : goal.returns
 returns c =

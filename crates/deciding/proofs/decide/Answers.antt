@@ -1,8 +1,7 @@
 -- `deciding::decide` meets its contract. The part's skeleton is its swept form if it has no hole, and is compared with the goal's
 -- targets; else it may refuse the goal. Each way out is one law. Assumes nothing.
-use native.Mathlib.Omega.{arith}
 use Rattle.deciding.proofs.Decisions.{deferred_part_within, walkable, undecided, deferred_comparing, known_failed, known_next}
-use Rattle.deciding.proofs.Refutations.{part_source, skeleton_tree, judges, decided_refused, exact_form}
+use Rattle.deciding.proofs.Refutations.{part_source, judges, decided_refused, exact_form}
 use borrow.Author.Rules.{rules}
 use Rattle.deciding.proofs.decide.Goals as goal
 
@@ -19,9 +18,6 @@ ask_part-walk-requires c =
 pub skeleton_of-skeleton-requires : goal.skeleton_of-skeleton-requires
 skeleton_of-skeleton-requires c = search (rules, part_source)
 
-pub is_exact-requires : goal.is_exact-requires
-is_exact-requires c = search (rules, skeleton_tree)
-
 pub is_possible-requires : goal.is_possible-requires
 is_possible-requires c = search (rules, judges)
 
@@ -36,9 +32,6 @@ is_met-requires c =
     deferred_comparing _ _ _ _ c.requires.0 c.requires.1 _ c.goal_at-goal.ensures.is _
     (exact_form _ _ _ _ c.requires.0 c.requires.1 _ c.goal_at-goal.ensures.is _ _ c.skeleton_of-skeleton.ensures
     c.is_exact.result c.if-not-is_exact.false c.is_exact.ensures)
-
-pub overflow_add-result : goal.overflow_add-result
-overflow_add-result c = omega (arith, c.requires.0.bounds.top)
 
 pub returns-then-is_met : goal.returns-then-is_met
 returns-then-is_met c =

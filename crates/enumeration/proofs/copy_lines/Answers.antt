@@ -8,24 +8,6 @@ use Rattle.enumeration.proofs.copy_lines.Goals as goal
 pub returns-then-values-records : goal.returns-then-values-records
 returns-then-values-records c = copied_none _ _ _ _ _ (omega (arith, c.if-values-records.true))
 
-pub overflow_mul-m : goal.overflow_mul-m
-overflow_mul-m c =
-    let x = c.requires c.if-values-records.false in
-    omega (arith, x.room.0, x.most.0)
-
-pub slice_bounds-copy_into-end : goal.slice_bounds-copy_into-end
-slice_bounds-copy_into-end c =
-    omega (arith, (c.requires c.if-values-records.false).from.0)
-
-pub copy_into-requires : goal.copy_into-requires
-copy_into-requires c =
-    let x = c.requires c.if-values-records.false in
-    omega (arith, x.from.0, x.room.0)
-
-pub slice_bounds-copy_into-end-2 : goal.slice_bounds-copy_into-end-2
-slice_bounds-copy_into-end-2 c =
-    omega (arith, (c.requires c.if-values-records.false).from.1)
-
 pub arrange-requires : goal.arrange-requires
 arrange-requires c =
     copy_arranges _ _ _ _ _ _ (c.requires c.if-values-records.false) _ _ refl refl _ _ c.copy_into.ensures

@@ -4,17 +4,6 @@ use native.Mathlib.Omega.{arith}
 use Rattle.enumeration.proofs.Searches.{copyable, answered, listable_kept}
 use Rattle.enumeration.proofs.enumerate_long.Goals as goal
 
-pub collect-found-requires : goal.collect-found-requires
-collect-found-requires c =
-    record {
-      pattern = c.requires.pattern_checked;
-      recipe = c.requires.recipe_checked;
-      lines = omega arith;
-      values = omega arith;
-      limited = omega (arith, c.requires.lines_most);
-      area = c.requires.area;
-    }
-
 pub copy_lines-requires : goal.copy_lines-requires
 copy_lines-requires c =
     λ r.

@@ -4,19 +4,7 @@ use native.Mathlib.Omega.{arith}
 use Rattle.records.proofs.Tests.{says}
 use Rattle.enumeration.specs.Steps.{Short}
 use Rattle.enumeration.proofs.Searches.{copyable, answered, listable_kept}
-use borrow.Author.Rules.{rules}
 use Rattle.enumeration.proofs.enumerate_short.Goals as goal
-
-pub collect-found-requires : goal.collect-found-requires
-collect-found-requires c =
-    record {
-      pattern = c.requires.pattern_checked;
-      recipe = c.requires.recipe_checked;
-      lines = omega arith;
-      values = omega arith;
-      limited = omega (arith, c.few_lines-few.ensures);
-      area = c.requires.area;
-    }
 
 pub copy_lines-requires : goal.copy_lines-requires
 copy_lines-requires c =
@@ -34,6 +22,3 @@ returns-then-is_short c =
     answered _ _ c.requires.pattern_checked c.requires.recipe_checked _ _ _ _ _ _ c.collect-found.ensures h.0 _ _
     c.few_lines-few.ensures.0 (omega (arith, c.few_lines-few.ensures, h.0, c.short_line_table-short_lines.ensures))
     (λ r. omega (arith, h.1, c.short_value_table-short_values.ensures)) _ _ _ c.copy_lines.ensures
-
-pub enumerate_long-requires : goal.enumerate_long-requires
-enumerate_long-requires c = search (rules, listable_kept)

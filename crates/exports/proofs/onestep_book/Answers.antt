@@ -1,7 +1,7 @@
 -- `exports::onestep_book` meets its contract: the number is that of the book's answer, and its pairs are written. Assumes nothing.
 use mathlib.Core.Path.{refl, sym, ap, ◌∙◌}
 use Rattle.exports.specs.Answers.{book_code, pairs_after}
-use Rattle.exports.proofs.Answers.{fits_refusal, handed_on, fits_records, booked_few}
+use Rattle.exports.proofs.Answers.{handed_on, fits_records, booked_few}
 use borrow.Author.Rules.{rules}
 use Rattle.exports.proofs.onestep_book.Goals as goal
 
@@ -15,17 +15,6 @@ returns-in-Ok c = record {
     c.apply.ensures.answer,
     handed_on _ _ refl (fits_records _ (booked_few _ _ _ _ _ _ c.apply.ensures.answer _ c.in-Ok.is)) ∙ sym (ap book_code c.in-Ok.is),
     sym (ap (pairs_after _) c.in-Ok.is),
-  );
-  area = search rules;
-}
-
-pub returns-in-Err : goal.returns-in-Err
-returns-in-Err c = record {
-  answer = (
-    c.apply.result,
-    c.apply.ensures.answer,
-    handed_on _ _ c.refusal_code.ensures (fits_refusal c.in-Err.refusal) ∙ sym (ap book_code c.in-Err.is),
-    sym (ap (pairs_after _) c.in-Err.is),
   );
   area = search rules;
 }

@@ -1,5 +1,5 @@
 -- `fit_table::rule_entry` meets its contract. Assumes nothing.
-use Rattle.fit_table.proofs.Entries.{empty_marks, rule_here, rule_searchable, rule_yes, rule_no}
+use Rattle.fit_table.proofs.Entries.{empty_marks, rule_here, rule_searchable, rule_marks}
 use borrow.Author.Rules.{rules}
 use Rattle.fit_table.proofs.rule_entry.Goals as goal
 
@@ -12,8 +12,5 @@ left_of-requires c = search (rules, rule_here)
 pub has_match-requires : goal.has_match-requires
 has_match-requires c = search (rules, rule_searchable)
 
-pub returns-then-has_match : goal.returns-then-has_match
-returns-then-has_match c = search (rules, rule_yes)
-
 pub returns : goal.returns
-returns c = search (rules, rule_no)
+returns c = search (rules, rule_marks)

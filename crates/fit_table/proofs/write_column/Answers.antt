@@ -2,12 +2,9 @@
 use lib.ListN.{length-set}
 use Rattle.storage.specs.Storage.{recipe_of}
 use Rattle.fit_table.specs.FitTable.{Fits}
-use Rattle.fit_table.proofs.Writing.{column_start, column_more, column_done}
+use Rattle.fit_table.proofs.Writing.{column_more, column_done}
 use borrow.Author.Rules.{rules}
 use Rattle.fit_table.proofs.write_column.Goals as goal
-
-pub loop-b-init : goal.loop-b-init
-loop-b-init c = search (rules, column_start)
 
 pub loop-b-preserved : goal.loop-b-preserved
 loop-b-preserved c = (

@@ -1,10 +1,7 @@
 -- `fit_table::write_row` meets its contract. The loop's invariant: the entries of the places passed are written. Assumes nothing.
-use Rattle.fit_table.proofs.Writing.{row_start, row_more, row_done}
+use Rattle.fit_table.proofs.Writing.{row_more, row_done}
 use borrow.Author.Rules.{rules}
 use Rattle.fit_table.proofs.write_row.Goals as goal
-
-pub loop-i-init : goal.loop-i-init
-loop-i-init c = search (rules, row_start)
 
 pub loop-i-preserved : goal.loop-i-preserved
 loop-i-preserved c = search (rules, row_more)

@@ -9,9 +9,6 @@ use Rattle.instances.proofs.Instances.{substituted_other_says}
 use borrow.Author.Rules.{rules}
 use Rattle.instances.proofs.+is_substituted.Goals as goal
 
-pub returns-then-kind : goal.returns-then-kind
-returns-then-kind t c = c.is_substituted_local.ensures
-
 pub returns-then-kind-t : goal.returns-then-kind-t
 returns-then-kind-t t c = search (rules, substituted_kinds)
 

@@ -1,10 +1,7 @@
 -- `listing::write_line` meets its contract. Assumes nothing.
-use Rattle.listing.proofs.Writers.{writing_start, writing_entry, writing_more, writing_done}
+use Rattle.listing.proofs.Writers.{writing_entry, writing_more, writing_done}
 use borrow.Author.Rules.{rules}
 use Rattle.listing.proofs.write_line.Goals as goal
-
-pub loop-i-init : goal.loop-i-init
-loop-i-init c = search (rules, writing_start)
 
 pub write_entry-next-requires : goal.write_entry-next-requires
 write_entry-next-requires c = search (rules, writing_entry)

@@ -21,10 +21,5 @@ slice_bounds-copy_into-end c =
     let x = again_table _ _ _ _ c.requires _ _ _ c.sweep_filled.ensures _ c.in_ok-m.was (omega arith) in
     search rules
 
-pub copy_into-requires : goal.copy_into-requires
-copy_into-requires c =
-    let x = again_table _ _ _ _ c.requires _ _ _ c.sweep_filled.ensures _ c.in_ok-m.was (omega arith) in
-    search rules
-
 pub returns : goal.returns
 returns c = search (rules, again_records, c.in_ok-m.was)

@@ -2,13 +2,10 @@
 use native.Mathlib.Omega.{arith}
 use mathlib.Core.Path.{sym, ◌∙◌}
 use Rattle.records.proofs.Parts.{tree_whole}
-use Rattle.records.proofs.Tests.{eta_no_application, eta_other_last}
+use Rattle.records.proofs.Tests.{eta_other_last}
 use Rattle.records.proofs.Slices.{slice_length, head_slice, slice_end, eta_used_slice, eta_ends_slice}
 use borrow.Author.Rules.{rules}
 use Rattle.records.proofs.is_eta.Goals as goal
-
-pub returns-then-s : goal.returns-then-s
-returns-then-s c = eta_no_application _ c.if-s.true
 
 pub returns-then-not-innermost_at : goal.returns-then-not-innermost_at
 returns-then-not-innermost_at c = eta_other_last _ c.if-s.false (sym c.innermost_at.ensures ∙ c.if-not-innermost_at.true)

@@ -1,21 +1,8 @@
 -- `records::pass_part` meets its contract. Assumes nothing.
 use Rattle.std.proofs.Common.{get_or, length, ap, ◌∙◌, length-drop, arith, rules}
-use Rattle.std.proofs.lemmas.Slice.{between_to_end}
 use Rattle.records.proofs.Record.{read_parts_lem}
-use Rattle.records.proofs.Passing.{passing_start, chunk_within, passing_chunk, reached}
+use Rattle.records.proofs.Passing.{passing_chunk, reached}
 use Rattle.records.proofs.pass_part.Goals as goal
-
-pub loop-record-init : goal.loop-record-init
-loop-record-init c = record { size = search rules; passing = (passing_start _ _ c.requires, search (rules, between_to_end)) }
-
-pub overflow_add-missing : goal.overflow_add-missing
-overflow_add-missing c = omega (arith, c.loop-record.invariant.passing.0.few)
-
-pub overflow_add-at : goal.overflow_add-at
-overflow_add-at c =
-    let step = c.in-Some.ensures.steps.1 in
-    let i = c.loop-record.invariant in
-    omega (arith, chunk_within _ _ _ _ _ _ _ i.passing step.0 (step.1 ∙ i.size))
 
 pub loop-record-preserved : goal.loop-record-preserved
 loop-record-preserved c =

@@ -2,16 +2,10 @@
 -- its parts, whose tables are shorter; the measure is the table's length. Assumes nothing.
 use native.Mathlib.Omega.{arith}
 use Rattle.reducts.proofs.Reducts.{reduct_too_long, reducible_head, reducible_argument, reducible_body, reduct_few}
-use Rattle.reducts.proofs.Reducts.{reduct_within, result_fills, parts_applicable, reduces_application, reduces_abstraction}
+use Rattle.reducts.proofs.Reducts.{reduct_within, parts_applicable, reduces_application, reduces_abstraction}
 use Rattle.reducts.proofs.Reducts.{reducible_leaf_length, reduces_leaf}
 use borrow.Author.Rules.{rules}
 use Rattle.reducts.proofs.+reduce.Goals as goal
-
-pub reduce-returns-then-kind : goal.reduce-returns-then-kind
-reduce-returns-then-kind t c = c.reduce_application.ensures
-
-pub reduce-returns-then-kind-2 : goal.reduce-returns-then-kind-2
-reduce-returns-then-kind-2 t c = c.reduce_abstraction.ensures
 
 pub reduce-copy_into-requires : goal.reduce-copy_into-requires
 reduce-copy_into-requires t c =
@@ -39,26 +33,6 @@ reduce_abstraction-returns-then-n-eq-PATTERN_BYTES t c = λ x e. reduct_too_long
 
 pub reduce_abstraction-slice_bounds-copy_into-end : goal.reduce_abstraction-slice_bounds-copy_into-end
 reduce_abstraction-slice_bounds-copy_into-end t c = search (rules, reduct_within, reducible_body, c.in_ok-n.was)
-
-pub reduce_abstraction-copy_into-requires : goal.reduce_abstraction-copy_into-requires
-reduce_abstraction-copy_into-requires t c =
-    omega (
-      arith,
-      c.if-n-eq-PATTERN_BYTES.false,
-      reduct_few _ _ _ _ _ c.reduce.ensures c.in_ok-n.was (omega arith)
-          (reducible_body _ _ c.requires.0 c.requires.1 c.body_of.ensures.is),
-      result_fills _ _ _ _ _
-          c.reduce.ensures c.in_ok-n.was (omega arith)
-          (reducible_body _ _ c.requires.0 c.requires.1 c.body_of.ensures.is),
-    )
-
-pub reduce_abstraction-overflow_add-result : goal.reduce_abstraction-overflow_add-result
-reduce_abstraction-overflow_add-result t c =
-    omega (
-      arith,
-      reduct_few _ _ _ _ _ c.reduce.ensures c.in_ok-n.was (omega arith)
-          (reducible_body _ _ c.requires.0 c.requires.1 c.body_of.ensures.is),
-    )
 
 pub reduce_abstraction-returns : goal.reduce_abstraction-returns
 reduce_abstraction-returns t c = search (rules, reduces_abstraction, c.in_ok-n.was)

@@ -6,11 +6,8 @@ use Rattle.std.proofs.lemmas.Result.{err_from_is_err_and}
 use Rattle.std.specs.declared.result.Result.TheVariants.{Ok}
 use borrow.Author.Rules.{rules}
 use Rattle.scanning.proofs.Rules.{same_tables}
-use Rattle.scanning.proofs.Parts.{part_most, parts_left, no_parts_left, parts_refused, parts_form, parts_next}
+use Rattle.scanning.proofs.Parts.{part_most, parts_refused, parts_form, parts_next}
 use Rattle.scanning.proofs.search_parts.Goals as goal
-
-pub loop-k-init : goal.loop-k-init
-loop-k-init c = (search rules, omega arith, parts_left _ _)
 
 pub returns-in_err-n : goal.returns-in_err-n
 returns-in_err-n c =
@@ -28,6 +25,3 @@ loop-k-preserved c = (
       (c.in_ok-n.was ∙ ap Ok c.in-PassedOver.is),
   parts_next _ _ c.requires.1 _ _ c.loop-k.invariant.2 (omega arith) _ _ c.try_part.ensures _ (c.in_ok-n.was ∙ ap Ok c.in-PassedOver.is),
 )
-
-pub returns : goal.returns
-returns c = no_parts_left _ _ c.requires.1 _ _ c.loop-k.invariant.2 (omega arith) (omega arith) _

@@ -4,11 +4,8 @@ use native.Mathlib.Omega.{arith}
 use Rattle.std.proofs.lemmas.Result.{err_from_is_err_and}
 use Rattle.std.specs.declared.result.Result.TheVariants.{Ok}
 use borrow.Author.Rules.{rules}
-use Rattle.scanning.proofs.Rules.{same_tables, rules_left, left_none, left_next, left_form, left_refused}
+use Rattle.scanning.proofs.Rules.{same_tables, left_none, left_next, left_form, left_refused}
 use Rattle.scanning.proofs.try_rules.Goals as goal
-
-pub loop-i-init : goal.loop-i-init
-loop-i-init c = (search rules, rules_left _ _ _)
 
 pub returns-in_err-n : goal.returns-in_err-n
 returns-in_err-n c =

@@ -5,7 +5,7 @@ use native.Mathlib.Omega.{arith}
 use Rattle.std.specs.declared.option.Option.TheVariants.{Some, None}
 use Rattle.records.proofs.Tests.{says}
 use Rattle.shifting.proofs.Slices.{shorter, shorter_behind}
-use Rattle.shifting.proofs.Lowering.{lowers_whole, lowers_head, lowers_argument, lowers_body, lowers_record, lowered_ends}
+use Rattle.shifting.proofs.Lowering.{lowers_whole, lowers_head, lowers_argument, lowers_body, lowered_ends}
 use Rattle.shifting.proofs.Lowering.{lowered_passed, lowered_near, lowered_application, lowered_stop, lowered_near_body}
 use Rattle.shifting.proofs.Lowering.{lowered_abstraction, lowered_local, lowered_local_no, lowered_other}
 use borrow.Author.Rules.{rules}
@@ -77,16 +77,10 @@ returns-then-is_inside t c =
     lowered_local_no _ _ _ _ _ _ c.number_at-n.ensures.0 c.if-kind-3.true
     (says _ _ _ c.is_inside.ensures c.if-is_inside.true)
 
-pub unshifted-requires : goal.unshifted-requires
-unshifted-requires t c = (says _ _ _ c.is_inside.ensures c.if-is_inside.false, omega arith)
-
 pub returns-then-kind-3 : goal.returns-then-kind-3
 returns-then-kind-3 t c =
     lowered_local _ _ _ _ _ _ c.number_at-n.ensures.0 _ _ (lowers_whole _ _ _ _ _ c.requires) c.if-kind-3.true
     (says _ _ _ c.is_inside.ensures c.if-is_inside.false) c.unshifted.ensures.0 c.put_record-then-kind-3.ensures
-
-pub copy_into-requires : goal.copy_into-requires
-copy_into-requires t c = search (rules, lowers_record)
 
 pub returns : goal.returns
 returns t c = search (rules, lowered_other, lowers_whole)

@@ -10,9 +10,6 @@ use Rattle.std.specs.declared.option.Option.TheVariants.{Some, None}
 use borrow.Author.Rules.{rules}
 use Rattle.skeletons.proofs.+fits.Goals as goal
 
-pub returns-then-kind : goal.returns-then-kind
-returns-then-kind t c = c.fits_hole.ensures
-
 pub returns-then-kind-s : goal.returns-then-kind-s
 returns-then-kind-s t c = search (rules, skeleton_compared_kinds)
 

@@ -1,17 +1,11 @@
 -- `skeleton`, `skeleton_application` and `skeleton_abstraction` of `skeletons` meet their contracts. The skeleton of a part follows from
 -- those of its own parts, whose tables are shorter; the measure is the table's length. Assumes nothing.
 use native.Mathlib.Omega.{arith}
-use Rattle.skeletons.proofs.Writing.{input_head, input_argument, input_body, skeleton_within}
+use Rattle.skeletons.proofs.Writing.{input_head, input_argument, input_body}
 use Rattle.skeletons.proofs.Writing.{head_no_hole, skeleton_parts_swept, skeleton_application, skeleton_body_swept, skeleton_abstraction}
 use Rattle.skeletons.proofs.Writing.{variable_known, skeleton_variable, skeleton_leaf_length, skeleton_leaf}
 use borrow.Author.Rules.{rules}
 use Rattle.skeletons.proofs.+skeleton.Goals as goal
-
-pub skeleton-returns-then-kind : goal.skeleton-returns-then-kind
-skeleton-returns-then-kind t c = c.skeleton_application.ensures
-
-pub skeleton-returns-then-kind-2 : goal.skeleton-returns-then-kind-2
-skeleton-returns-then-kind-2 t c = c.skeleton_abstraction.ensures
 
 pub skeleton-skeleton_variable-requires : goal.skeleton-skeleton_variable-requires
 skeleton-skeleton_variable-requires t c = search (rules, variable_known)
@@ -29,9 +23,6 @@ skeleton-returns t c = search (rules, skeleton_leaf)
 pub skeleton_abstraction-skeleton-n-requires : goal.skeleton_abstraction-skeleton-n-requires
 skeleton_abstraction-skeleton-n-requires t c = search (rules, input_body)
 
-pub skeleton_abstraction-slice_bounds-abstract_over-end : goal.skeleton_abstraction-slice_bounds-abstract_over-end
-skeleton_abstraction-slice_bounds-abstract_over-end t c = search (rules, skeleton_within, input_body)
-
 pub skeleton_abstraction-abstract_over-requires : goal.skeleton_abstraction-abstract_over-requires
 skeleton_abstraction-abstract_over-requires t c = search (rules, skeleton_body_swept)
 
@@ -46,12 +37,6 @@ skeleton_application-returns-then-head t c = c.hole_for.ensures _ _
 
 pub skeleton_application-skeleton-m-requires : goal.skeleton_application-skeleton-m-requires
 skeleton_application-skeleton-m-requires t c = search (rules, input_argument)
-
-pub skeleton_application-slice_bounds-apply_skeleton-end : goal.skeleton_application-slice_bounds-apply_skeleton-end
-skeleton_application-slice_bounds-apply_skeleton-end t c = search (rules, skeleton_within, input_head)
-
-pub skeleton_application-slice_bounds-apply_skeleton-end-2 : goal.skeleton_application-slice_bounds-apply_skeleton-end-2
-skeleton_application-slice_bounds-apply_skeleton-end-2 t c = search (rules, skeleton_within, input_argument)
 
 pub skeleton_application-apply_skeleton-requires : goal.skeleton_application-apply_skeleton-requires
 skeleton_application-apply_skeleton-requires t c = search (rules, skeleton_parts_swept, head_no_hole)

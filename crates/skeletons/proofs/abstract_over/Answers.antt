@@ -1,11 +1,8 @@
 -- `skeletons::abstract_over` meets its contract, by whether the body is unsure and whether the contracted abstraction is too long. Assumes
 -- nothing.
-use Rattle.skeletons.proofs.Contractions.{abstracts_unsure, abstracts_hole, abstracts_contracted}
+use Rattle.skeletons.proofs.Contractions.{abstracts_hole, abstracts_contracted}
 use borrow.Author.Rules.{rules}
 use Rattle.skeletons.proofs.abstract_over.Goals as goal
-
-pub returns-then-is_unsure : goal.returns-then-is_unsure
-returns-then-is_unsure c = abstracts_unsure _ _ _ _ c.hole.ensures
 
 pub returns-in-None : goal.returns-in-None
 returns-in-None c = search (rules, abstracts_hole)

@@ -1,7 +1,7 @@
 -- `steps::apply_into` meets its contract. The three runs of bytes are the table of the application, since a shifted target has the
 -- target's records and fits the array. Assumes nothing.
 use native.Mathlib.Omega.{arith}
-use Rattle.steps.proofs.Descents.{apply_source, apply_most, copy_room, local_room, expanded}
+use Rattle.steps.proofs.Descents.{apply_source, apply_most, expanded}
 use borrow.Author.Rules.{rules}
 use Rattle.steps.proofs.apply_into.Goals as goal
 
@@ -10,24 +10,6 @@ shift_into-copy-requires c = search (rules, apply_source)
 
 pub slice_bounds-copy_into-end : goal.slice_bounds-copy_into-end
 slice_bounds-copy_into-end c =
-    omega (arith, apply_most _ _ _ c.requires _ _ _ _ c.shift_into-copy.ensures)
-
-pub copy_into-requires : goal.copy_into-requires
-copy_into-requires c = search (rules, copy_room)
-
-pub overflow_add-local-2 : goal.overflow_add-local-2
-overflow_add-local-2 c =
-    omega (arith, apply_most _ _ _ c.requires _ _ _ _ c.shift_into-copy.ensures)
-
-pub put_record-requires-2 : goal.put_record-requires-2
-put_record-requires-2 c = (
-  local_room _ _ _ c.requires _ _ _ _ c.shift_into-copy.ensures _ _ c.put_record.ensures
-      c.copy_into.ensures,
-  omega arith,
-)
-
-pub overflow_add-result : goal.overflow_add-result
-overflow_add-result c =
     omega (arith, apply_most _ _ _ c.requires _ _ _ _ c.shift_into-copy.ensures)
 
 pub returns : goal.returns

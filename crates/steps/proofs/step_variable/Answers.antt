@@ -15,6 +15,3 @@ bounds-entries-i c =
 
 pub step_open-requires : goal.step_open-requires
 step_open-requires c = search (rules, names_of)
-
-pub step_assigned-requires : goal.step_assigned-requires
-step_assigned-requires c = search (rules, names_of)

@@ -1,10 +1,7 @@
 -- `storage::store` meets its contract. Assumes nothing.
-use Rattle.storage.proofs.Storing.{replaceable, stored}
+use Rattle.storage.proofs.Storing.{stored}
 use borrow.Author.Rules.{rules}
 use Rattle.storage.proofs.store.Goals as goal
-
-pub replace-requires : goal.replace-requires
-replace-requires c = search (rules, replaceable)
 
 pub returns : goal.returns
 returns c = search (rules, stored)

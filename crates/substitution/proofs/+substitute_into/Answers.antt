@@ -14,21 +14,6 @@ substitute_into-head-requires t c =
     let n = slice_length c.args.b.now 4 in
     search (rules, substitution_head)
 
-pub overflow_add-head : goal.overflow_add-head
-overflow_add-head t c =
-    let e = (c.substitute_into-head.ensures c.requires.argument c.requires.table).ends in
-    search rules
-
-pub slice_bounds-substitute_into-count-then-kind : goal.slice_bounds-substitute_into-count-then-kind
-slice_bounds-substitute_into-count-then-kind t c =
-    let e = (c.substitute_into-head.ensures c.requires.argument c.requires.table).ends in
-    search rules
-
-pub slice_bounds-substitute_into-start-then-kind : goal.slice_bounds-substitute_into-start-then-kind
-slice_bounds-substitute_into-start-then-kind t c =
-    let e = (c.substitute_into-head.ensures c.requires.argument c.requires.table).ends in
-    search rules
-
 pub substitute_into-argument-requires : goal.substitute_into-argument-requires
 substitute_into-argument-requires t c =
     let x = c.requires in
@@ -40,17 +25,6 @@ substitute_into-argument-requires t c =
           _ _ _ _ c.if-kind.true w,
     )
 
-pub overflow_add-result : goal.overflow_add-result
-overflow_add-result t c =
-    let e = (c.substitute_into-head.ensures c.requires.argument c.requires.table).ends in
-    search rules
-
-pub overflow_add-result-then-kind : goal.overflow_add-result-then-kind
-overflow_add-result-then-kind t c =
-    let e = (c.substitute_into-head.ensures c.requires.argument c.requires.table).ends in
-    let i = (c.substitute_into-argument.ensures c.requires.argument c.requires.table).ends in
-    search rules
-
 pub returns-then-kind : goal.returns-then-kind
 returns-then-kind t c =
     λ x q. wrote_parts _ (replaces x) _ _ _ _ _ _ _ _ _ _ _ c.if-kind.true c.put_record.ensures
@@ -60,11 +34,6 @@ pub substitute_into-body-requires : goal.substitute_into-body-requires
 substitute_into-body-requires t c =
     let n = slice_length c.args.b.now 4 in
     search (rules, substitution_body)
-
-pub overflow_add-result-then-kind-2 : goal.overflow_add-result-then-kind-2
-overflow_add-result-then-kind-2 t c =
-    let e = (c.substitute_into-body.ensures c.requires.argument c.requires.table).ends in
-    search rules
 
 pub returns-then-kind-2 : goal.returns-then-kind-2
 returns-then-kind-2 t c =

@@ -71,12 +71,6 @@ sweep_application-contract_application-requires t c = search (rules, sweepable_p
 pub sweep_application-returns : goal.sweep_application-returns
 sweep_application-returns t c = search (rules, sweeps_application, c.in_ok-n.was, c.in_ok-m.was)
 
-pub sweep_part-returns-then-kind : goal.sweep_part-returns-then-kind
-sweep_part-returns-then-kind t c = c.sweep_abstraction.ensures
-
-pub sweep_part-returns-then-kind-2 : goal.sweep_part-returns-then-kind-2
-sweep_part-returns-then-kind-2 t c = c.sweep_application.ensures
-
 pub sweep_part-write_value-requires : goal.sweep_part-write_value-requires
 sweep_part-write_value-requires t c = search (rules, ready_value)
 

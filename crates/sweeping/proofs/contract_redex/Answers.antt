@@ -2,7 +2,7 @@
 -- nothing.
 use native.Mathlib.Omega.{arith}
 use Rattle.records.proofs.Slices.{slice_length}
-use Rattle.sweeping.proofs.Contraction.{redex_whole, uses_bytes, redex_too_long, redex_substitution, redex_written}
+use Rattle.sweeping.proofs.Contraction.{redex_whole, redex_too_long, redex_substitution, redex_written}
 use borrow.Author.Rules.{rules}
 use Rattle.sweeping.proofs.contract_redex.Goals as goal
 
@@ -10,16 +10,6 @@ pub count_uses-uses-requires : goal.count_uses-uses-requires
 count_uses-uses-requires c =
     let n = slice_length c.args.head.now 4 in
     search (rules, redex_whole)
-
-pub overflow_mul-bytes : goal.overflow_mul-bytes
-overflow_mul-bytes c =
-    let n = slice_length c.args.head.now 4 in
-    omega (arith, uses_bytes _ _ _ c.count_uses-uses.ensures.few (omega arith) c.requires.0.argument_most)
-
-pub overflow_add-bytes : goal.overflow_add-bytes
-overflow_add-bytes c =
-    let n = slice_length c.args.head.now 4 in
-    omega (arith, uses_bytes _ _ _ c.count_uses-uses.ensures.few (omega arith) c.requires.0.argument_most)
 
 pub returns-then-bytes-gt-SWEPT_BYTES : goal.returns-then-bytes-gt-SWEPT_BYTES
 returns-then-bytes-gt-SWEPT_BYTES c = search (rules, redex_too_long)

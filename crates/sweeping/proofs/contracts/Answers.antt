@@ -1,21 +1,10 @@
 -- `sweeping::contracts` meets its contract: each test is one of the conditions of the sweep's second rule. Assumes nothing.
 use native.Mathlib.Omega.{arith}
 use Rattle.records.proofs.Slices.{slice_length}
-use Rattle.sweeping.proofs.Contraction.{no_application, body_whole, body_argument_whole, body_head_abstraction, argument_no_local}
+use Rattle.sweeping.proofs.Contraction.{body_whole, body_argument_whole, argument_no_local}
 use Rattle.sweeping.proofs.Contraction.{argument_outer, counted_uses}
 use borrow.Author.Rules.{rules}
 use Rattle.sweeping.proofs.contracts.Goals as goal
-
-pub returns-then-body : goal.returns-then-body
-returns-then-body c = no_application _ c.if-body.true
-
-pub bounds-body-4 : goal.bounds-body-4
-bounds-body-4 c =
-    let n = slice_length c.args.body.now 4 in
-    omega (arith, (body_whole _ c.if-body.false c.requires).least)
-
-pub returns-then-body-2 : goal.returns-then-body-2
-returns-then-body-2 c = search (rules, body_head_abstraction)
 
 pub count_uses-uses-requires : goal.count_uses-uses-requires
 count_uses-uses-requires c =

@@ -9,8 +9,8 @@ use Rattle.joins.proofs.joining.+enclose_into.Goals as goal
 pub returns-then-n-eq0 : goal.returns-then-n-eq0
 returns-then-n-eq0 t c = search (rules, enclosed_none)
 
-pub contract_abstraction-length-requires : goal.contract_abstraction-length-requires
-contract_abstraction-length-requires t c = search (rules, encloses_abstracted)
+pub contract_abstraction-requires : goal.contract_abstraction-requires
+contract_abstraction-requires t c = search (rules, encloses_abstracted)
 
 pub returns-in_default : goal.returns-in_default
 returns-in_default t c = search (rules, never_long)
@@ -19,7 +19,7 @@ pub overflow_mul-m : goal.overflow_mul-m
 overflow_mul-m t c =
     omega (
       arith,
-      contracted_few c.requires c.if-n-eq0.false _ _ _ c.contract_abstraction-length.ensures
+      contracted_few c.requires c.if-n-eq0.false _ _ _ c.contract_abstraction.ensures
           (omega arith) _ c.in-Some.is,
     )
 

@@ -1,11 +1,8 @@
 -- `joins::pairs::find_pair` meets its contract. The loop's invariant: the constants are none of the pairs passed, each of which stands for
 -- one local. Assumes nothing.
-use Rattle.joins.proofs.Spines.{pairs_passed_first, passed_pair, passed_next, pairs_passed}
+use Rattle.joins.proofs.Spines.{passed_pair, passed_next, pairs_passed}
 use borrow.Author.Rules.{rules}
 use Rattle.joins.proofs.pairs.find_pair.Goals as goal
-
-pub loop-k-init : goal.loop-k-init
-loop-k-init c = pairs_passed_first _ _ _ _ _
 
 pub returns-then-is_pair : goal.returns-then-is_pair
 returns-then-is_pair c = search (rules, passed_pair)

@@ -7,9 +7,6 @@ use Rattle.ordering.proofs.order.+cheapest_from.Goals as goal
 pub cost-own-requires : goal.cost-own-requires
 cost-own-requires t c = ranks_costs c.requires
 
-pub goal_at-goal-requires : goal.goal_at-goal-requires
-goal_at-goal-requires t c = c.requires.within
-
 pub returns-then-next-eq0 : goal.returns-then-next-eq0
 returns-then-next-eq0 t c =
     ranks_here c.requires

@@ -1,16 +1,9 @@
 -- `ordering::order::without` meets its contract. A goal before the dropped one is written anew in front of what is left of the list behind
 -- it; the measure is the first goal's place, as the next one's is lower. Assumes nothing.
-use mathlib.Core.Path.{refl}
 use native.Mathlib.Omega.{arith}
 use Rattle.ordering.proofs.Ordering.{dropped_here, drops_next, anew_room, anew_fits, dropped_further}
 use borrow.Author.Rules.{rules}
 use Rattle.ordering.proofs.order.+without.Goals as goal
-
-pub goal_at-stored-requires : goal.goal_at-stored-requires
-goal_at-stored-requires t c = omega arith
-
-pub shape_of-work-then-list-goal : goal.shape_of-work-then-list-goal
-shape_of-work-then-list-goal t c = refl
 
 pub returns-then-list-goal : goal.returns-then-list-goal
 returns-then-list-goal t c = search (rules, dropped_here)

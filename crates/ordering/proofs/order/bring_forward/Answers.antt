@@ -1,18 +1,12 @@
 -- `ordering::order::bring_forward` meets its contract. The goal that is dropped from the list is written in front of what is left, and
 -- goals have the same assignments in any order. Assumes nothing.
 use native.Mathlib.Omega.{arith}
-use Rattle.ordering.proofs.Ordering.{ready_ranks, forwarded_same, reached_room, ready_drops, forward_room, forward_fits, forwarded}
+use Rattle.ordering.proofs.Ordering.{ready_ranks, reached_room, ready_drops, forward_room, forward_fits, forwarded}
 use borrow.Author.Rules.{rules}
 use Rattle.ordering.proofs.order.bring_forward.Goals as goal
 
-pub returns-then-first-eq0 : goal.returns-then-first-eq0
-returns-then-first-eq0 c = search (rules, forwarded_same)
-
 pub cheapest_from-best-requires : goal.cheapest_from-best-requires
 cheapest_from-best-requires c = search (rules, ready_ranks)
-
-pub returns-then-goal-agenda : goal.returns-then-goal-agenda
-returns-then-goal-agenda c = search (rules, forwarded_same)
 
 pub goal_at-stored-requires : goal.goal_at-stored-requires
 goal_at-stored-requires c = search (rules, reached_room)

@@ -1,14 +1,11 @@
 -- `ordering::repeated::force` meets its contract. The value that comes to both targets is the only one, so that one goal for it has the
 -- assignments of the two, whose room it takes. Assumes nothing.
 use native.Mathlib.Omega.{arith}
-use Rattle.ordering.proofs.Forcing.{ready_listed, found_twice, forced_open, first_room, second_room, first_target, second_target}
+use Rattle.ordering.proofs.Forcing.{found_twice, forced_open, first_room, second_room, first_target, second_target}
 use Rattle.ordering.proofs.Forcing.{forced_joins, forced_failed, forced_target_within, forced_encloses, forced_drops}
 use Rattle.ordering.proofs.Forcing.{forced_target, forced_drops_two, forced_room, forced_whole, forced_fits, forced_next}
 use borrow.Author.Rules.{rules}
 use Rattle.ordering.proofs.repeated.force.Goals as goal
-
-pub find_first-search-requires : goal.find_first-search-requires
-find_first-search-requires c = search (rules, ready_listed)
 
 pub returns-in_default : goal.returns-in_default
 returns-in_default c = search (rules, forced_open)
@@ -45,10 +42,6 @@ join_into-walk-requires c = search (rules, forced_joins, found_twice)
 pub returns-in_default-walk : goal.returns-in_default-walk
 returns-in_default-walk c =
     search (rules, forced_failed, found_twice)
-
-pub overflow_add-value : goal.overflow_add-value
-overflow_add-value c =
-    omega (arith, c.requires.0.bounds.top)
 
 pub slice_bounds-enclose_into-end : goal.slice_bounds-enclose_into-end
 slice_bounds-enclose_into-end c =
