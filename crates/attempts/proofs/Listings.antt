@@ -109,7 +109,7 @@ module _ (q : List ℕ) (n : ℕ) (lines values : List ℕ) where
   line = take (4 * variables - 0) (drop 0 lines)
 
   module _ (h : ¬ (n ≡ 0)) where
-    open_unusable : (c : Refusal) → Judged (assignment_rows (OccursIn q) line values) (FilledTables q line values) (Err c)
+    pub open_unusable : (c : Refusal) → Judged (assignment_rows (OccursIn q) line values) (FilledTables q line values) (Err c)
         → UsableTold q n lines values false
     unfolding Judged
     open_unusable c j p t x u = go j
@@ -123,7 +123,7 @@ module _ (q : List ℕ) (n : ℕ) (lines values : List ℕ) where
             none w.0 (line_stored p q t n lines values x u.0 i h w.0 w.1)
         go (inr (k, m)) = m
 
-    given_usable : Judged (assignment_rows (OccursIn q) line values) (FilledTables q line values) (Ok tt) → UsableTold q n lines values true
+    pub given_usable : Judged (assignment_rows (OccursIn q) line values) (FilledTables q line values) (Ok tt) → UsableTold q n lines values true
     unfolding Judged
     given_usable j p t x =
         let y = j.1.filled in

@@ -24,6 +24,9 @@ use Rattle.instances.proofs.Instances.{walk_reached, refused}
 use Rattle.builds.specs.Builds.{Solving, Solved}
 
 module _ (h e t : List ℕ) where
+  pub solved_other : ¬ (get_or h 0 0 ≡ 1) → Solved h e t false
+  solved_other n = record { is = λ x y z p q r s. n (kind_at h 0 x p ∙ ap kind s.1) }
+
   module _ (k : get_or h 0 0 ≡ 1) where
     pub asking : Solving h e t → Whole (slice h 4) 0 × (0 + length (slice h 4) ≤ table_bytes)
     asking s = (body_slice h s.head k, omega (arith, s.head_most, slice_length h 4))

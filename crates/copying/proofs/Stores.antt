@@ -4,9 +4,10 @@ use mathlib.Core.Path.{◌≡◌, refl, sym, ap, ap₂, ◌∙◌}
 use mathlib.Core.List.{List, [], ◌∷◌, ◌++◌, append_assoc}
 use Prim.Native.Nat.{ℕ, suc, ◌+◌, ◌-◌, ◌≤◌, ◌<◌}
 use native.Mathlib.Nat.{add-zero, add-suc, suc-add}
+use native.Mathlib.Numerals.{add-one}
 use native.Mathlib.Omega.{arith}
 use lib.ListN.{length, get_or, take, drop, set, get_or-append}
-use lib.Seq.{paste, sets, sets-eq, take_at, take-set-le, length-take-le, get_or-append-add}
+use lib.Seq.{paste, sets, sets-eq, take-suc, take_at, take_all, take-set-le, length-take-le, get_or-append-add}
 
 pub sets_then : (xs ys out : List ℕ) (o : ℕ) → sets (sets out o xs) (o + length xs) ys ≡ sets out o (xs ++ ys)
 sets_then [] ys out o = ap (λ (k : ℕ). sets out k ys) (add-zero o)
@@ -17,6 +18,18 @@ sets_then (x ∷ xs) ys out o =
 -- the same, as two writers leave it
 pub written_then : (xs ys out p q : List ℕ) (o m : ℕ) → p ≡ sets out o xs → q ≡ sets p m ys → m ≡ o + length xs → q ≡ sets out o (xs ++ ys)
 written_then xs ys out p q o m e f n = f ∙ ap₂ (λ (l : List ℕ) (k : ℕ). sets l k ys) e n ∙ sets_then xs ys out o
+
+-- one byte more copied
+pub copied_more : (out p s : List ℕ) (o i : ℕ) → i < length s → p ≡ sets out o (take i s)
+    → set p (o + i) (get_or s i 0) ≡ sets out o (take (i + 1) s)
+copied_more out p s o i h e =
+    let n : length (take i s) ≡ i = length-take-le i s (omega arith) in
+    ap (λ (x : List ℕ). set x (o + i) (get_or s i 0)) e ∙ ap (λ (j : ℕ). set (sets out o (take i s)) (o + j) (get_or s i 0)) (sym n)
+    ∙ sets_then (take i s) (get_or s i 0 ∷ []) out o
+    ∙ ap (sets out o) (sym (take-suc s i 0 h) ∙ ap (λ (j : ℕ). take j s) (sym (add-one i)))
+
+pub copied_all : (out p s : List ℕ) (o i : ℕ) → length s ≤ i → p ≡ sets out o (take i s) → p ≡ sets out o s
+copied_all out p s o i h e = e ∙ ap (sets out o) (take_all i s h)
 
 -- bytes copied at once are stored one behind another
 pub pasted : (d s : List ℕ) (at k n : ℕ) → k ≡ n → n ≤ length s → at + n ≤ length d → paste d at s k ≡ sets d at (take n s)

@@ -23,7 +23,10 @@ pub fn copy_into(src: &[u8], out: &mut [u8], o: usize)
     requires { o + length src.now ≤ length out.old }
     ensures { out.new ≡ sets out.old o src.now }
 {
-    out[o..o + src.len()].copy_from_slice(src)
+    // Byte by byte: std's `copy_from_slice` calls `memmove`, which a program that links the static library would have to bring.
+    for i in 0..src.len() {
+        out[o + i] = src[i];
+    }
 }
 
 // Moves n bytes of a table from `from` to `to`, where the two places may overlap.

@@ -61,13 +61,21 @@ module _ (l : List ℕ) (k : ℕ) (h : 4 * k + 4 ≤ length l) where
         (mentions_occurs l (number_at l (4 * k)) x.tree x.bytes (mention e)),
   )
 
-  open_here : (a : List Entry) → OpenAt l a k → Tells l (AllAssigned a) false
+  pub open_here : (a : List Entry) → OpenAt l a k → Tells l (AllAssigned a) false
   open_here a o t b all = all (number_at l (4 * k)) (mentions_occurs l (number_at l (4 * k)) t b (mention o.kind)) o.is
 
-none_open : (l : List ℕ) (a : List Entry) → ((j : ℕ) → j < length l / 4 → ¬ OpenAt l a j) → Tells l (AllAssigned a) true
+pub none_open : (l : List ℕ) (a : List Entry) → ((j : ℕ) → j < length l / 4 → ¬ OpenAt l a j) → Tells l (AllAssigned a) true
 none_open l a f t b i o z =
     let m = occurs_mentions l i t b o in
     f m.index (omega (arith, m.within)) (record { kind = m.is.kind; is = ap (λ (j : ℕ). get_or a j Open) m.is.number ∙ z })
+
+pub entry_open_at : (l : List ℕ) (a : List Entry) (k i : ℕ) → get_or l (4 * k) 0 ≡ 4 → i ≡ number_at l (4 * k)
+    → get_or a i Open ≡ Open → OpenAt l a k
+entry_open_at l a k i e q o = record { kind = e; is = ap (λ (j : ℕ). get_or a j Open) (sym q) ∙ o }
+
+pub assigned_not_open : (l : List ℕ) (a : List Entry) (k i : ℕ) (x : Span) → i ≡ number_at l (4 * k)
+    → get_or a i Open ≡ Assigned x → ¬ OpenAt l a k
+assigned_not_open l a k i x q e o = open_span (sym o.is ∙ ap (λ (j : ℕ). get_or a j Open) (sym q) ∙ e)
 
 pub assigned_told : (l : List ℕ) (a : List Entry) (r : Bool)
     → MatchBool r ((k : ℕ) → k < length l / 4 → ¬ OpenAt l a k) ((k : ℕ) × (k < length l / 4) × OpenAt l a k)
@@ -91,6 +99,9 @@ module _ (W : List ℕ) (r : StoredGoal) (b : List ℕ) (x : Comparing W r b) wh
       go false c x t e f = λ z. c (e ∙ ap encode z ∙ sym f)
 
   module _ (n : ¬ (r.argument ≡ 0)) where
+    pub deferred_argument_within : r.argument ≤ length W
+    deferred_argument_within = omega (arith, (x.argument n).least)
+
     pub solving_swept : Solving b (slice W r.argument) (slice W r.target)
     solving_swept = record {
       head = whole b 0 x.tree (at_start b x.tree x.bytes);

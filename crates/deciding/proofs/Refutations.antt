@@ -167,6 +167,13 @@ module _ (c W : List ℕ) (r : StoredGoal) where
   unfolding Possible
   refused x = x
 
+  pub judged_target_within : Judges c W r → r.target ≤ length W
+  judged_target_within x = omega (arith, x.target.term.least, slice_length W r.target)
+
+  pub judged_target : (i : ℕ) → i ≡ heights_place r.origin r.target → Judges c W r
+      → SkeletonComparable c (slice W r.target) (slice W i)
+  judged_target i e x = subst (λ (n : ℕ). SkeletonComparable c (slice W r.target) (slice W n)) (sym e) x.target
+
   pub possible_match : r.argument ≡ 0 → (b : Bool) → MayBe c (slice W r.target) b → Possible c W r b
   possible_match z true m = possible
   possible_match z false m = refused (record { matches = λ _. may_be_at c W r.target false refl m; builds = λ d. absurd (d z) })
@@ -177,6 +184,9 @@ module _ (c W : List ℕ) (r : StoredGoal) where
       matches = λ z. absurd (d z);
       builds = λ _ x e t b p _ _ f. absurd (let k = kind_at c 0 x p in o (k ∙ fits_abstraction x b f (λ q. h (k ∙ q))));
     })
+
+    pub judged_argument_within : Judges c W r → r.argument ≤ length W
+    judged_argument_within x = let p = (x.both d).part in omega (arith, p.some, p.within, slice_length W r.argument)
 
     pub judged_both : (i : ℕ) → i ≡ heights_place r.origin r.target → Judges c W r
         → SkeletonApplicable c (slice W r.argument) (slice W r.target) (slice W i)

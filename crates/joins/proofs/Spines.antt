@@ -33,6 +33,13 @@ pairs_more : (P : List ℕ) (v w n : ℕ)
 pairs_more P v w n =
     subst (λ (k : ℕ). pairs_at P v w k ≡ (number_at P (v + 4 * k), number_at P (w + 4 * k)) ∷ pairs_at P v w n) (sym (add-one n)) refl
 
+-- the test of one pair
+pub pair_not : (m a x : ℕ) (b : Bool) → a ≡ x → ¬ (m ≡ a) → false ≡ (eqb m x && b)
+pair_not m a x b e h = rw (ne_eqb m x (λ q. h (q ∙ sym e)))
+
+pub pair_is : (m n a b x y : ℕ) → a ≡ x → b ≡ y → m ≡ a → eqb n b ≡ (eqb m x && eqb n y)
+pair_is m n a b x y e f h = rw (eq-eqb m x (h ∙ e)) (ap (eqb n) f)
+
 -- a pair that is looked up
 pub record PairPassed (P : List ℕ) (q : Pairs) (m n d k : ℕ) : Type 0 where
   pub most : k ≤ q.count
@@ -40,6 +47,13 @@ pub record PairPassed (P : List ℕ) (q : Pairs) (m n d k : ℕ) : Type 0 where
   pub among : In (m, n) (pairs_of P q) → In (m, n) (pairs_at P q.first q.second k)
 
 module _ (P : List ℕ) (q : Pairs) (m n d : ℕ) where
+  pub pairs_passed_first : PairPassed P q m n d q.count
+  pairs_passed_first = record {
+    most = omega arith;
+    same = ap (λ (e : ℕ). at_constants e (pairs_of P q) m n) (omega arith);
+    among = λ i. i;
+  }
+
   pub passed_pair :
       (k : ℕ) (b : Bool) → Reads P q → PairPassed P q m n d k → 0 < k
       → b ≡ (eqb m (number_at P (q.first + 4 * k)) && eqb n (number_at P (q.second + 4 * k))) → b ≡ true

@@ -237,6 +237,19 @@ kept_same : (W : List ℕ) (top : ℕ) → top ≤ length W → Kept W W top
 kept_same W top h = record { same = refl; from = h; to = h }
 
 module _ {P W : List ℕ} {s : Agenda} {a : List Entry} (x : Ready 0 P W s a) where
+  pub ready_listed : GoalsListed P W s.deferred
+  ready_listed =
+      let b = x.bounds in
+      record {
+        top = s.top;
+        goals = x.hs;
+        chain = x.state.deferred;
+        within = omega (arith, b.deferred_room, b.top, b.whole);
+        below = omega (arith, b.top, b.whole);
+        most = omega (arith, b.whole);
+        short = b.short;
+      }
+
   pub forced_open : Decided 0 P W s a W decision.Open
   unfolding Decided
   forced_open = refl

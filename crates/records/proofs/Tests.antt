@@ -81,9 +81,10 @@ module _ (l : List ℕ) (at : ℕ) (P : Term → Type 0) where
       (ends_lam l at h k y.0, λ t x. let v = abstraction l at t x k in subst P (sym v.is) ((i v.b).1 (y.1 v.b v.body)))
   walked_lam Q None k i y = λ t x q. let v = abstraction l at t x k in y v.b v.body ((i v.b).0 (subst P v.is q))
 
-  pub walked_same : (Q : Term → Type 0) (h : ℕ) → ((t : Term) → Part l at t → P t ↔ Q t) → Walked l at Q (Some h) → Walked l at P (Some h)
+  pub walked_same : (Q : Term → Type 0) (w : Option ℕ) → ((t : Term) → Part l at t → P t ↔ Q t) → Walked l at Q w → Walked l at P w
   unfolding Walked
-  walked_same Q h i y = (y.0, λ t x. (i t x).1 (y.1 t x))
+  walked_same Q (Some h) i y = (y.0, λ t x. (i t x).1 (y.1 t x))
+  walked_same Q None i y = λ t x q. y t x ((i t x).0 q)
 
   pub walked_leaf : Whole l at → ¬ (get_or l at 0 ≡ 0) → ¬ (get_or l at 0 ≡ 1) → ((t : Term) → Part l at t → P t)
       → Walked l at P (Some (at + 4))
@@ -242,5 +243,5 @@ module _ (l : List ℕ) (at : ℕ) (k : get_or l at 0 ≡ 1) where
     pub normal_body : r ≡ false → Walked l (at + 4) Normal (Some end) → Walked l at Normal (Some end)
     normal_body p x =
         walked_lam l at Normal (λ b. T (not (is_eta b)) × Normal b) (Some end) k (λ b. (λ n. n, λ n. n))
-        (walked_same l (at + 4) (λ b. T (not (is_eta b)) × Normal b) Normal end
+        (walked_same l (at + 4) (λ b. T (not (is_eta b)) × Normal b) Normal (Some end)
         (λ b y. (λ n. n.1, λ n. (subst (λ (c : Bool). T (not c)) (sym p ∙ g b y) tt, n))) x)

@@ -116,6 +116,13 @@ all_parts_lem r s e k (suc n) h =
     let x = hole s k (omega arith) in
     more_parts r k n x.here (hole_part r s k e x) (closed? 0 x.here) (all_parts_lem r s e (suc k) n (omega arith))
 
+-- no record is left
+pub sought_end : (b r : List ℕ) (k c : ℕ) (f : List ℕ) → k ≡ length r / 4
+    → Sought b r k (length r / 4 - k) c (Ok (SearchEnd.Nothing c)) f
+sought_end b r k c f e =
+    let n : length r / 4 - k ≡ 0 = omega arith in
+    record { form_of = tt; parts = []; closed = subst (λ (m : ℕ). Parts r k m []) (sym n) refl; reaches = λ s o z. z }
+
 -- what is found at record k
 module _ (b r : List ℕ) (x : Recipe r) (k : ℕ) (h : 4 * k < length r) (c : ℕ) (a : Result Scan Refusal) (f : List ℕ)
     (y : PartScan b r k c a f) where

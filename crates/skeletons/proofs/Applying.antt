@@ -23,6 +23,9 @@ use Rattle.skeletons.specs.Skeleton.{SkeletonComparable, MayBe, SkeletonApplicab
 use Rattle.skeletons.specs.Contracted.{ApplicationSkeleton, Writes, WritesApplication}
 
 module _ (c e t h : List ℕ) (x : SkeletonApplicable c e t h) where
+  pub applied_argument_whole : Whole e 0
+  applied_argument_whole = whole e 0 x.argument x.part
+
   module _ (end : ℕ) (m : Ends e 0 end) where
     abbrev table : List ℕ
     table = take (end - 0) (drop 0 e)
@@ -56,6 +59,9 @@ module _ (c e t h : List ℕ) (x : SkeletonApplicable c e t h) where
       built_bytes =
           stored out after (encode built.skeleton) (n * 4) built.bytes (omega (arith, built.sized, encode_length built.skeleton))
           (omega (arith, l, w.few))
+
+      pub built_within : n * 4 ≤ length after
+      built_within = omega (arith, l, w.few, ap length built.bytes, length-sets out 0 (encode built.skeleton))
 
       built_part : Part (take (n * 4 - 0) (drop 0 after)) 0 built.skeleton
       built_part = at_start (take (n * 4 - 0) (drop 0 after)) built.skeleton built_bytes

@@ -37,6 +37,7 @@ impl Shape {
             4 => Shape::Repeated,
             5 => Shape::Locals,
             6 => Shape::All,
+            7 => Shape::Ground,
             _ => Shape::Plain,
         }
     }

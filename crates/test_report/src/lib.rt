@@ -4,7 +4,8 @@
 
 #![tactic(auto)]
 
-ghost use Rattle.std.specs.Prelude.{◌≡◌, length};
+ghost use Rattle.std.specs.Prelude.{◌+◌, ◌*◌, ◌≡◌, length};
+ghost use Rattle.terms.specs.Figures.{variables, table_bytes};
 
 use notation::{STDOUT, field, find, is_all, say, within};
 use records::{LINE, RECORD, TABLE_BYTES};
@@ -28,7 +29,9 @@ pub fn filled<const N: usize>(byte: u8) -> [u8; N]
 }
 
 // A table that is written, or a work area, before a call.
-pub fn marked() -> [u8; LENT] {
+pub fn marked() -> [u8; LENT]
+    ensures { table_bytes + 4 * variables ≡ length result }
+{
     filled(MARK)
 }
 

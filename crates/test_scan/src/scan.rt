@@ -97,20 +97,25 @@ pub fn node_at(s: &[u8], i: usize) -> Option<Node>
     }
 }
 
+// The kind of no record: the highest byte.
+const NO_RECORD: u8 = 255;
+
 // Where the part that starts at a record ends, if it is whole and each of its locals has its binder in it or is in the set. No part is
-// deeper than `depth`.
+// deeper than `depth`. A record of another kind than the five, in a pattern that is to be refused, is a part as a constant is.
 pub fn part_end(s: &[u8], at: usize, locals: Locals, depth: usize) -> Option<usize> {
     if depth == 0 {
         return None;
     }
-    match node_at(s, at)? {
-        Node::Application => {
+    let [kind, _, _, _] = record_at(s, at)?;
+    match node_at(s, at) {
+        Some(Node::Application) => {
             let argument = part_end(s, at + 1, locals, depth - 1)?;
             part_end(s, argument, locals, depth - 1)
         }
-        Node::Abstraction => part_end(s, at + 1, locals.under(), depth - 1),
-        Node::Local(n) => locals.contains(n).then_some(at + 1),
-        Node::Constant(_) | Node::Variable(_) => Some(at + 1),
+        Some(Node::Abstraction) => part_end(s, at + 1, locals.under(), depth - 1),
+        Some(Node::Local(n)) => locals.contains(n).then_some(at + 1),
+        Some(Node::Constant(_) | Node::Variable(_)) => Some(at + 1),
+        None => (kind != NO_RECORD).then_some(at + 1),
     }
 }
 

@@ -19,7 +19,7 @@
 
 ghost use Rattle.std.specs.Prelude.{◌≤◌};
 
-use notation::{STDOUT, build, bytes_in, field, letter_of, say, within};
+use notation::{STDOUT, build, bytes_in, field, find, letter_of, say, within};
 use records::{RECIPE_RECORDS, RECORD, SHELF_RECORDS};
 use refusals::Refusal;
 use storage::DIRECTORY_BYTES;
@@ -123,8 +123,9 @@ fn run_fill(call: &[u8], directory: &mut [u8], table: &mut [u8]) {
     let mut r = filled::<SHORT>(0);
     let n = build(part_of(call, 1), &mut r);
     let range = part_of(call, 0);
-    let from = bytes_in(part(range, b'.', 0), 0);
-    let end = bytes_in(part(range, b'.', 2), 0);
+    let (first, behind) = range.split_at(find(range, 0, b'.'));
+    let from = bytes_in(first, 0);
+    let end = bytes_in(behind, 0);
     say_number(fill_range(from, end, &mut r[..n], directory, table));
     say(b" yes");
 }
@@ -167,8 +168,13 @@ pub fn walk(case: &[u8]) {
     say(field(case, 0));
     say(b":");
     say(field(case, 1));
-    for call in case.split(|c| *c == b';').skip(2) {
-        run(call, &mut directory, &mut table);
+    // The last call may be ended by `;` too, and no call stands behind it.
+    for call in case.split_inclusive(|c| *c == b';').skip(2) {
+        run(
+            call.strip_suffix(b";").unwrap_or(call),
+            &mut directory,
+            &mut table,
+        );
     }
     say(b"\n");
 }

@@ -45,12 +45,12 @@ pub enum Total {
 // The number of the first refusal's total, and how many there are.
 const FIRST_REFUSAL: usize = 8;
 
-const REFUSALS: usize = 16;
+pub const REFUSALS: usize = 16;
 
 // The number of the first disagreement, and of all totals.
 const FIRST_DISAGREEMENT: usize = 32;
 
-const SIZE: usize = 43;
+pub const SIZE: usize = 43;
 
 // Each total at its number.
 #[derive(Clone, Copy)]
@@ -122,11 +122,11 @@ impl Totals {
         }
     }
 
-    fn of(&self, what: Total) -> u64 {
+    pub fn of(&self, what: Total) -> u64 {
         self.counts[what.number()]
     }
 
-    fn disagreements(&self) -> u64 {
+    pub fn disagreements(&self) -> u64 {
         self.counts[FIRST_DISAGREEMENT..]
             .iter()
             .fold(0, |n: u64, more| n.saturating_add(*more))
@@ -150,7 +150,9 @@ impl Totals {
         say(b"\n");
     }
 
-    pub fn say_example(&self, name: &[u8], refusal: usize) {
+    // The number of a refusal is cut, as that of its total is.
+    pub fn say_example(&self, name: &[u8], expected: usize) {
+        let refusal = expected % REFUSALS;
         say(name);
         if refusal == 0 {
             self.say_total(b": lines ", Total::Lines);

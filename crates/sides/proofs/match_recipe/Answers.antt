@@ -21,5 +21,5 @@ slice_bounds-same_bytes-end c = (swept_as _ _ _ _ _ _ c.requires.0 c.sweep_side.
 
 pub returns : goal.returns
 returns c =
-    let x = swept_as _ _ _ _ _ _ c.requires.0 c.sweep_side.ensures _ (omega arith) c.in_ok-n.ensures.ok_part in
-    matched_says _ _ _ _ _ x _ c.requires.1 _ c.same_bytes.ensures
+    let y = swept_as _ _ _ _ _ _ c.requires.0 c.sweep_side.ensures _ (omega arith) c.in_ok-n.ensures.ok_part in
+    matched_says _ _ _ _ _ y _ c.requires.1 _ c.same_bytes.ensures
