@@ -142,7 +142,7 @@ pub extern "C" fn onestep_book(
             *pairs = new.pairs as u64;
             new.records as i64
         }
-        Err(refusal) => refusal_code(refusal),
+        Err(refusal) => refusal_code(refusal), // the number of pairs stays
     }
 }
 
