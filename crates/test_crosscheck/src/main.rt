@@ -36,7 +36,7 @@ fn run_example(case: &[u8], terms: Terms<'_>, all: &mut Totals) {
     let expected = bytes_in(field(case, 4), 0);
     let refusal = bytes_in(field(case, 5), 0);
     totals.tally_expected(count, expected, refusal);
-    totals.say_example(field(case, 0), refusal);
+    totals.say_expected(field(case, 0), refusal);
     all.add(&totals);
 }
 

@@ -150,9 +150,7 @@ impl Totals {
         say(b"\n");
     }
 
-    // The number of a refusal is cut, as that of its total is.
-    pub fn say_example(&self, name: &[u8], expected: usize) {
-        let refusal = expected % REFUSALS;
+    pub fn say_example(&self, name: &[u8], refusal: usize) {
         say(name);
         if refusal == 0 {
             self.say_total(b": lines ", Total::Lines);
@@ -161,6 +159,11 @@ impl Totals {
             say_number(b": refused ", refusal as u64);
             self.say_disagreements();
         }
+    }
+
+    // Prints an example whose refusal was expected by a number that a file gives, which is cut, as that of its total is.
+    pub fn say_expected(&self, name: &[u8], expected: usize) {
+        self.say_example(name, expected % REFUSALS);
     }
 
     pub fn say_group(&self, name: &[u8]) {
