@@ -1,7 +1,7 @@
 // What is printed of an example, for numbers of a refusal on both sides of the limit at which one of two functions cuts them.
 //
-// For each number two lines: one with the number as it is given, and one with the number cut as that of its total is. Behind 0 there is no
-// refusal, and the lines say what was compared. It promises that it is safe and that it ends; its text is what the gate compares. It rests on
+// For each number two lines: one with the number as it is given, and one with the number cut as that of its total is. 0 is for no refusal,
+// and then the lines say what was compared. It promises that it is safe and that it ends; its text is what the gate compares. It rests on
 // `test_totals`, whose functions print.
 
 #![tactic(auto)]
